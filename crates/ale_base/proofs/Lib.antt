@@ -1,0 +1,4 @@
+pub mod HexadecimalLemmas
+pub mod TidLemmas
+pub mod SnocLemmas
+pub mod OnOkLemmas

@@ -1,0 +1,9 @@
+use Rattle.std.proofs.Common.{arith}
+use Rattle.ale_base.proofs.HexadecimalLemmas.{one_digit_more}
+use Rattle.ale_base.proofs.hexadecimal.number_of.Goals as goal
+
+pub overflow_mul-number : goal.overflow_mul-number
+overflow_mul-number c = omega (arith, one_digit_more c.loop-digit.digit-index c.loop-digit.number (omega arith) c.loop-digit.invariant.0)
+
+pub overflow_add-number : goal.overflow_add-number
+overflow_add-number c = omega (arith, one_digit_more c.loop-digit.digit-index c.loop-digit.number (omega arith) c.loop-digit.invariant.0)

@@ -1,0 +1,4 @@
+pub mod TrimmedLemmas
+pub mod Blanks
+pub mod Hexadecimal
+pub mod Tid

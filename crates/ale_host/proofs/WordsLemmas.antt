@@ -1,0 +1,28 @@
+-- Words of a command line, by their count.
+use Rattle.std.proofs.Common.{◌≡◌, ℕ, ◌<◌, ◌≤◌, Some, None, List, [], ◌∷◌, length, map, get_or, refl, sym, ap, arith}
+use Rattle.ale_host.specs.declared.words.Form.TheVariants.{Pass}
+use Rattle.ale_host.specs.Words.{form_of, pass_form, document_file}
+
+-- two words
+pub form_of-two : {A : Type 0} (f : A → List ℕ) (words : List A) (command : A) → 2 ≤ length words → length words < 3 → command ≡ get_or words 0 command → form_of (map f words) ≡ pass_form (f command)
+form_of-two f [] command least most here = absurd (omega arith)
+form_of-two f (a ∷ []) command least most here = absurd (omega arith)
+form_of-two f (a ∷ b ∷ []) command least most here = ap (λ word. pass_form (f word)) (sym here)
+form_of-two f (a ∷ b ∷ c ∷ more) command least most here = absurd (omega arith)
+
+-- four words
+pub form_of-four : {A : Type 0} (f : A → List ℕ) (words : List A) → 4 ≤ length words → length words < 5 → form_of (map f words) ≡ None
+form_of-four f [] least most = absurd (omega arith)
+form_of-four f (a ∷ []) least most = absurd (omega arith)
+form_of-four f (a ∷ b ∷ []) least most = absurd (omega arith)
+form_of-four f (a ∷ b ∷ c ∷ []) least most = absurd (omega arith)
+form_of-four f (a ∷ b ∷ c ∷ d ∷ []) least most = refl
+form_of-four f (a ∷ b ∷ c ∷ d ∷ e ∷ more) least most = absurd (omega arith)
+
+pub ruleset four_words = (form_of-four)
+
+-- the second word of `pass` is the name of the document file
+pub document_file-second : {A : Type 0} (f : A → List ℕ) (words : List A) (word : A) → form_of (map f words) ≡ Some Pass → word ≡ get_or words 1 word → document_file (map f words) ≡ f word
+document_file-second f [] word is_pass here = absurd (cc)
+document_file-second f (a ∷ []) word is_pass here = absurd (cc)
+document_file-second f (a ∷ b ∷ more) word is_pass here = ap f (sym here)

@@ -1,0 +1,10 @@
+use Rattle.ale_host.specs.declared.ending.Ending.TheVariants.{OutOfMemory}
+use Rattle.ale_host.proofs.host.aleflow.Goals as goal
+
+pub returns-clause-ended : goal.returns-clause-ended
+returns-clause-ended g c = λ taken.
+    let put = c.out_of_memory.ensures.ended taken in (OutOfMemory, tt, put.0, put.1)
+
+pub returns-clause-write_fault : goal.returns-clause-write_fault
+returns-clause-write_fault g c = λ failed.
+    let put = c.out_of_memory.ensures.write_fault failed in (put.0, (OutOfMemory, tt, put.1))

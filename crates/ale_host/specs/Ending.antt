@@ -1,0 +1,70 @@
+-- How a run ends: why it ends so, with which status, and what it prints.
+use Rattle.std.specs.Prelude.{◌≡◌, ℕ, ◌<◌, ◌≤◌, List, ◌++◌, length, codes, Some, None, ⊤}
+use Rattle.std.specs.Fmt.{decimal}
+use Rattle.ale_io.specs.Told.{Told, MayHold, MayLack}
+use Rattle.ale_host.specs.declared.words.Form.TheVariants.{Pass, Run, Load}
+use Rattle.ale_host.specs.declared.ending.NotRead.{NotRead}
+use Rattle.ale_host.specs.declared.ending.NotRead.TheVariants.{Missing, TooLong, Failed}
+use Rattle.ale_host.specs.declared.ending.Ending.{Ending}
+use Rattle.ale_host.specs.declared.ending.Ending.TheVariants as ending
+use Rattle.ale_host.specs.Lines.{lines_of}
+use Rattle.ale_host.specs.DocumentFile.{AreDocuments, IsFirstUnread}
+use Rattle.ale_host.specs.Words.{form_of, document_file}
+use Rattle.ale_host.specs.PassText.{pass_text}
+
+-- as far as it is told, the document file has these bytes, within the limit
+abbrev pub IsFile : Told → List ℕ → Type 0
+IsFile told bytes = MayHold told bytes × (length bytes ≤ 67108864)
+
+-- why a file is not read; faults is that a fault of the files came in this call
+abbrev pub EndsUnread : Told → Type 0 → NotRead → Type 0
+EndsUnread told faults Missing = MayLack told
+EndsUnread told faults TooLong = (bytes : List ℕ) × MayHold told bytes × (67108864 < length bytes)
+EndsUnread told faults Failed = faults
+
+-- why `pass` over a file of these bytes ends so
+abbrev pub EndsFile : List ℕ → Ending → Type 0
+EndsFile bytes (ending.Passed documents) = AreDocuments (lines_of bytes) documents
+EndsFile bytes (ending.LineNotBuilt n) = IsFirstUnread (lines_of bytes) n
+EndsFile bytes _ = ⊥
+
+-- why `pass` over the file of this name ends so
+abbrev pub EndsPass : List ℕ → Told → Type 0 → Ending → Type 0
+EndsPass name told faults (ending.Unread its_name why) = (its_name ≡ name) × EndsUnread told faults why
+EndsPass name told faults end = (bytes : List ℕ) × IsFile told bytes × EndsFile bytes end
+
+-- why a run of these words ends so
+abbrev pub Ends : List (List ℕ) → (List ℕ → Told) → Type 0 → Ending → Type 0
+Ends words told faults ending.Usage = form_of words ≡ None
+Ends words told faults ending.RunNotBuilt = form_of words ≡ Some Run
+Ends words told faults ending.LoadNotBuilt = form_of words ≡ Some Load
+Ends words told faults ending.OutOfMemory = ⊤
+Ends words told faults end = (form_of words ≡ Some Pass) × EndsPass (document_file words) (told (document_file words)) faults end
+
+abbrev pub status_of : Ending → ℕ
+status_of (ending.Passed documents) = 0
+status_of ending.Usage = 1
+status_of (ending.Unread name why) = 5
+status_of ending.OutOfMemory = 9
+status_of ending.RunNotBuilt = 13
+status_of ending.LoadNotBuilt = 13
+status_of (ending.LineNotBuilt n) = 13
+
+abbrev pub shown_reason : NotRead → List ℕ
+shown_reason Missing = codes "missing\n"
+shown_reason TooLong = codes "too long\n"
+shown_reason Failed = codes "fault\n"
+
+abbrev pub text_of : Ending → List ℕ
+text_of (ending.Passed documents) = pass_text documents
+text_of ending.Usage = codes "usage: aleflow run MODEL DOCS SCRIPT WORKERS, pass DOCS, load N WORKERS\n"
+text_of (ending.Unread name why) = codes "cannot read " ++ (name ++ (codes ": " ++ shown_reason why))
+text_of ending.OutOfMemory = codes "out of memory\n"
+text_of ending.RunNotBuilt = codes "not built: run\n"
+text_of ending.LoadNotBuilt = codes "not built: load\n"
+text_of (ending.LineNotBuilt n) = codes "not built: line " ++ (decimal n ++ codes "\n")
+
+-- there are as many documents as units at most
+abbrev pub IsPrintable : Ending → Type 0
+IsPrintable (ending.Passed documents) = length documents ≤ 4096
+IsPrintable end = ⊤

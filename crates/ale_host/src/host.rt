@@ -1,0 +1,124 @@
+ghost use Rattle.std.specs.Prelude.{◌≡◌, ◌≢◌, ℕ, List, ◌≤◌, map, string_bytes, IfOk};
+ghost use Rattle.std.specs.Io.KnownBytes.{Appends};
+ghost use Rattle.ale_io.specs.Faults.{Rose};
+ghost use Rattle.ale_io.specs.Written.{AppendsFront};
+ghost use Rattle.ale_host.specs.declared.ending.Ending.{Ending};
+ghost use Rattle.ale_host.specs.Ending.{Ends, EndsPass, EndsFile, IsPrintable, status_of, text_of};
+
+use crate::ending::{Ending, NotRead, OUT_OF_MEMORY};
+use crate::reading::{ReadingEnd, read_documents};
+use crate::words::{Form, form_of};
+use ale_base::{Items, OutOfMemory};
+use ale_io::{FileEnd, Files, Sink};
+use std::alloc::Global;
+
+/// The limit of a document file, in bytes.
+const FILE_LIMIT: usize = 67_108_864;
+
+/// The status where the sink did not take all of the text.
+const WRITE_FAULT: u8 = 6;
+
+/// Does what the words ask for, prints its text to `out`, and gives the exit status.
+///
+/// The status is 0 where the command was carried out, 1 where the words have none of the three forms, 5 where the
+/// document file was not read, 6 where the sink did not take all of the text, 9 where memory ran out, and 13 where
+/// something is asked for that is not built yet. With each but 6 the text that was put is exactly that of the ending,
+/// and with 6 it is a part of it that begins at its front.
+pub fn aleflow<F: Files, K: Sink>(alloc: Global, words: &[String], files: &mut F, out: &mut K) -> u8
+    ensures ended { result ≢ 6 → (ending : Ending)
+        × Ends (map string_bytes words.now) (F.told files.old) (Rose (F.faults files.old) (F.faults files.new)) ending
+        × (result ≡ status_of ending)
+        × Appends (K.contents out.old) (K.contents out.new) (text_of ending) }
+    ensures write_fault { result ≡ 6 → Rose (K.faults out.old) (K.faults out.new) × ((ending : Ending)
+        × Ends (map string_bytes words.now) (F.told files.old) (Rose (F.faults files.old) (F.faults files.new)) ending
+        × AppendsFront (K.contents out.old) (K.contents out.new) (text_of ending)) }
+    ensures files_kept { (name : List ℕ) → F.told files.new name ≡ F.told files.old name }
+    ensures files_counted { F.faults files.old ≤ F.faults files.new }
+    ensures sink_counted { K.faults out.old ≤ K.faults out.new }
+{
+    let ending = ending_of(alloc, words, files);
+    match ending.text(alloc) {
+        Ok(text) => put(out, ending.status(), text.as_slice()),
+        Err(_) => out_of_memory(out),
+    }
+}
+
+/// Prints that memory ran out before the words could be read, and gives the exit status: 9, or 6 where the sink did not
+/// take all of the text.
+pub fn out_of_memory<K: Sink>(out: &mut K) -> u8
+    ensures ended { result ≢ 6 → (result ≡ status_of Ending.OutOfMemory)
+        × Appends (K.contents out.old) (K.contents out.new) (text_of Ending.OutOfMemory) }
+    ensures write_fault { result ≡ 6 → Rose (K.faults out.old) (K.faults out.new)
+        × AppendsFront (K.contents out.old) (K.contents out.new) (text_of Ending.OutOfMemory) }
+    ensures counted { K.faults out.old ≤ K.faults out.new }
+{
+    put(out, Ending::OutOfMemory.status(), OUT_OF_MEMORY)
+}
+
+/// Puts the text of an ending, and gives its status, or that of a write fault.
+fn put<K: Sink>(out: &mut K, status: u8, text: &[u8]) -> u8
+    requires { status ≢ 6 }
+    ensures ended { result ≢ 6 → (result ≡ status) × Appends (K.contents out.old) (K.contents out.new) text.now }
+    ensures write_fault { result ≡ 6 → Rose (K.faults out.old) (K.faults out.new) × AppendsFront (K.contents out.old) (K.contents out.new) text.now }
+    ensures counted { K.faults out.old ≤ K.faults out.new }
+{
+    match out.put(text) {
+        Ok(()) => status,
+        Err(_) => WRITE_FAULT,
+    }
+}
+
+/// How the run of these words ends.
+fn ending_of<F: Files>(alloc: Global, words: &[String], files: &mut F) -> Ending
+    ensures ends { Ends (map string_bytes words.now) (F.told files.old) (Rose (F.faults files.old) (F.faults files.new)) result }
+    ensures printable { IsPrintable result }
+    ensures kept { (name : List ℕ) → F.told files.new name ≡ F.told files.old name }
+    ensures counted { F.faults files.old ≤ F.faults files.new }
+{
+    match form_of(words) {
+        None => Ending::Usage,
+        Some(Form::Run) => Ending::RunNotBuilt,
+        Some(Form::Load) => Ending::LoadNotBuilt,
+        Some(Form::Pass) => match pass(alloc, words[1].as_str(), files) {
+            Ok(ending) => ending,
+            Err(OutOfMemory) => Ending::OutOfMemory,
+        },
+    }
+}
+
+/// How `pass` over the file of this name ends.
+fn pass<F: Files>(alloc: Global, name: &str, files: &mut F) -> Result<Ending, OutOfMemory>
+    ensures ends { IfOk result (EndsPass name.now (F.told files.old name.now) (Rose (F.faults files.old) (F.faults files.new))) }
+    ensures printable { IfOk result IsPrintable }
+    ensures kept { (other : List ℕ) → F.told files.new other ≡ F.told files.old other }
+    ensures counted { F.faults files.old ≤ F.faults files.new }
+{
+    let mut bytes = Vec::new(alloc);
+    match files.read_file(name, FILE_LIMIT, &mut bytes) {
+        Ok(()) => file_ending(alloc, bytes.as_slice()),
+        Err(FileEnd::Missing) => unread_ending(alloc, name, NotRead::Missing),
+        Err(FileEnd::TooLong) => unread_ending(alloc, name, NotRead::TooLong),
+        Err(FileEnd::Failed) => unread_ending(alloc, name, NotRead::Failed),
+        Err(FileEnd::OutOfMemory) => Err(OutOfMemory),
+    }
+}
+
+/// How `pass` over a file of these bytes ends.
+fn file_ending(alloc: Global, bytes: &[u8]) -> Result<Ending, OutOfMemory>
+    ensures ends { IfOk result (EndsFile bytes.now) }
+    ensures printable { IfOk result IsPrintable }
+{
+    match read_documents(alloc, bytes) {
+        Ok(documents) => Ok(Ending::Passed(documents)),
+        Err(ReadingEnd::Unread(number)) => Ok(Ending::LineNotBuilt(number)),
+        Err(ReadingEnd::OutOfMemory) => Err(OutOfMemory),
+    }
+}
+
+/// The ending where the file of this name is not read.
+fn unread_ending(alloc: Global, name: &str, why: NotRead) -> Result<Ending, OutOfMemory>
+    ensures { IfOk result (λ ending. ending ≡ Ending.Unread name.now why) }
+{
+    let name = Vec::from_slice(alloc, name.as_bytes())?;
+    Ok(Ending::Unread(Items::from_vec(name), why))
+}

@@ -1,0 +1,21 @@
+//! The top call: what the program does for its words, from the files that it reads to the text that it prints.
+//!
+//! Contract: a run has one ending, which its words and its files determine but for faults and want of memory, and it
+//! puts exactly the text of that ending. The definitions are in `specs/`: `Words`, `DocumentFile` (which documents a
+//! file holds), `PassText`, `Ending`.
+#![tactic(auto)]
+
+mod documents;
+mod ending;
+mod host;
+mod lines;
+mod pass_text;
+mod reading;
+mod words;
+
+pub use documents::Document;
+pub use ending::{Ending, NotRead};
+pub use host::{aleflow, out_of_memory};
+
+#[cfg(test)]
+mod tests;

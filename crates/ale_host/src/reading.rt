@@ -1,0 +1,36 @@
+ghost use Rattle.std.specs.Prelude.{◌≡◌, ℕ, IfOk, Err};
+ghost use Rattle.ale_host.specs.Lines.{lines_of};
+ghost use Rattle.ale_host.specs.DocumentFile.{AreDocuments, IsFirstUnread};
+
+use crate::documents::{Document, Documents, LineEnd};
+use crate::lines::first_line;
+use ale_base::Items;
+use std::alloc::Global;
+
+/// Why the documents of a file are not read.
+#[derive(Clone, Copy, Debug, PartialEq, Eq)]
+pub enum ReadingEnd {
+    /// The line of this number, counted from 1, is the first that is not read.
+    Unread(usize),
+    OutOfMemory,
+}
+
+/// The documents of a file.
+pub fn read_documents(alloc: Global, bytes: &[u8]) -> Result<Items<Document>, ReadingEnd>
+    ensures read { IfOk result (λ documents. AreDocuments (lines_of bytes.now) documents) }
+    ensures unread { (n : ℕ) → result ≡ Err (ReadingEnd.Unread n) → IsFirstUnread (lines_of bytes.now) n }
+{
+    let mut documents = Documents::new(alloc);
+    let mut rest = bytes;
+    let mut number = 0;
+    while !rest.is_empty() {
+        let (line, behind) = first_line(rest);
+        number += 1;
+        match documents.read_line(alloc, line) {
+            Ok(()) => rest = behind,
+            Err(LineEnd::Unread) => return Err(ReadingEnd::Unread(number)),
+            Err(LineEnd::OutOfMemory) => return Err(ReadingEnd::OutOfMemory),
+        }
+    }
+    Ok(documents.into_items())
+}

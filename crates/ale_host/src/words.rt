@@ -1,0 +1,77 @@
+ghost use Rattle.std.specs.Prelude.{◌≡◌, ◌<◌, ◌≤◌, map, string_bytes};
+ghost use Rattle.ale_host.specs.Words.{form_of, pass_form, load_form, run_form, is_word, is_count};
+
+/// What the words of a command line ask for.
+#[derive(Clone, Copy, Debug, PartialEq, Eq)]
+pub enum Form {
+    /// `pass DOCS`
+    Pass,
+    /// `run MODEL DOCS SCRIPT WORKERS`
+    Run,
+    /// `load N WORKERS`
+    Load,
+}
+
+/// The most masters of a load.
+const MAX_MASTERS: u32 = 4_096;
+
+/// The most workers.
+const MAX_WORKERS: u32 = 16;
+
+/// The form that the words have. None where they have none of the three.
+#[tactic(auto, using(crate::proofs::WordsLemmas::four_words))]
+pub fn form_of(words: &[String]) -> Option<Form>
+    ensures { result ≡ form_of (map string_bytes words.now) }
+{
+    match words {
+        [command, _] => pass_form(command),
+        [command, masters, workers] => load_form(command, masters, workers),
+        [command, _, _, _, workers] => run_form(command, workers),
+        _ => None,
+    }
+}
+
+fn pass_form(command: &String) -> Option<Form>
+    ensures { result ≡ pass_form (string_bytes command.now) }
+{
+    is_word(command, b"pass").then_some(Form::Pass)
+}
+
+fn load_form(command: &String, masters: &String, workers: &String) -> Option<Form>
+    ensures { result ≡ load_form (string_bytes command.now) (string_bytes masters.now) (string_bytes workers.now) }
+{
+    let is_load = is_word(command, b"load")
+        && is_count(masters.as_bytes(), MAX_MASTERS)
+        && is_count(workers.as_bytes(), MAX_WORKERS);
+    is_load.then_some(Form::Load)
+}
+
+fn run_form(command: &String, workers: &String) -> Option<Form>
+    ensures { result ≡ run_form (string_bytes command.now) (string_bytes workers.now) }
+{
+    let is_run = is_word(command, b"run") && is_count(workers.as_bytes(), MAX_WORKERS);
+    is_run.then_some(Form::Run)
+}
+
+fn is_word(word: &String, other: &[u8]) -> bool
+    ensures { result ≡ is_word (string_bytes word.now) other.now }
+{
+    word.as_bytes() == other
+}
+
+/// Whether the text is a decimal from 1 to `most`, without sign or leading zero.
+fn is_count(text: &[u8], most: u32) -> bool
+    ensures { result ≡ is_count most text.now }
+{
+    if text.is_empty() || text.len() > 4 || text[0] == b'0' {
+        return false;
+    }
+    let mut number: u32 = 0;
+    for digit in text {
+        if !digit.is_ascii_digit() {
+            return false;
+        }
+        number = number * 10 + u32::from(*digit - b'0');
+    }
+    number <= most
+}

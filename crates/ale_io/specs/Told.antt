@@ -1,0 +1,20 @@
+-- What is known of a file.
+use Rattle.std.specs.Prelude.{◌≡◌, ℕ, List, ⊤}
+
+-- what a folder tells of a name: nothing, that no file has it, or the file's bytes
+pub data Told : Type 0 where
+  untold : Told
+  no_file : Told
+  file : List ℕ → Told
+
+-- as far as it is told, the file has these bytes
+abbrev pub MayHold : Told → List ℕ → Type 0
+MayHold untold bytes = ⊤
+MayHold no_file bytes = ⊥
+MayHold (file told) bytes = bytes ≡ told
+
+-- as far as it is told, there is no such file
+abbrev pub MayLack : Told → Type 0
+MayLack untold = ⊤
+MayLack no_file = ⊤
+MayLack (file told) = ⊥

@@ -1,0 +1,30 @@
+ghost use Rattle.std.specs.Prelude.{◌≡◌, ℕ, List, ◌++◌, ◌<◌, ◌≤◌, length, OnOk, OnErr, IsErrOf};
+ghost use Rattle.ale_io.specs.Told.{Told, MayHold, MayLack};
+ghost use Rattle.ale_io.specs.Faults.{Rose};
+
+use crate::FileEnd;
+
+/// The files that the program may read, by name.
+pub trait Files {
+    // What the implementation tells of the file with this name.
+    ghost told: { Self → List ℕ → Told };
+
+    // How many calls have failed.
+    ghost faults: { Self → ℕ };
+
+    /// Appends the bytes of a file of at most `limit` bytes.
+    ///
+    /// `Missing` comes where no file has the name, `TooLong` where the file is longer than the limit, and `Failed`
+    /// only where this call is a fault. After an `Err` the vector is as before.
+    fn read_file(&mut self, name: &str, limit: usize, into: &mut Vec<u8>) -> Result<(), FileEnd>
+        ensures read { OnOk result ((bytes : List ℕ) × MayHold (told self.old name.now) bytes
+            × (length bytes ≤ limit) × (into.new.items ≡ into.old.items ++ bytes)) }
+        ensures missing { IsErrOf result FileEnd.Missing → MayLack (told self.old name.now) }
+        ensures too_long { IsErrOf result FileEnd.TooLong →
+            (bytes : List ℕ) × MayHold (told self.old name.now) bytes × (limit < length bytes) }
+        ensures failed { IsErrOf result FileEnd.Failed → Rose (faults self.old) (faults self.new) }
+        ensures err { OnErr result (into.new.items ≡ into.old.items) }
+
+        ensures kept { (other : List ℕ) → told self.new other ≡ told self.old other }
+        ensures counted { faults self.old ≤ faults self.new };
+}

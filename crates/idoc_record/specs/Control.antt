@@ -1,0 +1,65 @@
+-- The control record EDI_DC40.
+use Rattle.std.specs.Prelude.{◌≡◌, ℕ, ◌≤◌, List, [], length, Bool, ◌||◌, not, IsTrue, ⊤, nat_eq, nat_lt, codes, Result, Ok, Err, if◌then◌else◌}
+use Rattle.std.specs.Char.{is_ascii_digit}
+use Rattle.std.specs.List.{list_all}
+use Rattle.std.specs.Cmp.Lexicographic.{pointwise}
+use Rattle.ale_base.specs.Blanks.{trimmed, padded}
+use Rattle.idoc_record.specs.declared.control_field.ControlField.{ControlField}
+use Rattle.idoc_record.specs.declared.control_field.ControlField.TheVariants.{Tabnam, Docnum, Direct}
+use Rattle.idoc_record.specs.declared.fault.RecordFault.{RecordFault}
+use Rattle.idoc_record.specs.declared.fault.RecordFault.TheVariants.{TooLong, WrongTable, BadNumber}
+use Rattle.idoc_record.specs.ControlField.{span_of}
+use Rattle.idoc_record.specs.Parts.{text_at, told_length}
+
+-- the text of a field of a control record, without the blanks at its end
+abbrev pub field_of : List ℕ → ControlField → List ℕ
+field_of control field = text_at (span_of field) control
+
+-- the two texts are the same
+abbrev pub is_text : List ℕ → List ℕ → Bool
+is_text text other = pointwise nat_eq text other
+
+abbrev pub is_control_table : List ℕ → Bool
+is_control_table text = is_text text (codes "EDI_DC40")
+
+-- digits alone, or nothing
+abbrev pub is_number : List ℕ → Bool
+is_number text = list_all is_ascii_digit text
+
+-- `1` for outbound, `2` for inbound, or blank
+abbrev pub is_direction : List ℕ → Bool
+is_direction text = is_text text (codes "1") || (is_text text (codes "2") || is_text text [])
+
+-- a control record is 524 bytes that name their table, with a number and a direction
+pub record IsControl (control : List ℕ) : Type 0 where
+  pub whole : length control ≡ 524
+  pub table : IsTrue (is_control_table (field_of control Tabnam))
+  pub number : IsTrue (is_number (field_of control Docnum))
+  pub direction : IsTrue (is_direction (field_of control Direct))
+
+-- the line is this control record: what it lacks at its end is blank
+pub record IsControlLine (line control : List ℕ) : Type 0 where
+  pub fits : length (trimmed line) ≤ 524
+  pub bytes : control ≡ padded 524 (trimmed line)
+  pub kept : IsControl control
+
+-- what each field may hold
+abbrev pub IsAllowed : ControlField → List ℕ → Type 0
+IsAllowed Tabnam text = IsTrue (is_control_table text)
+IsAllowed Docnum text = IsTrue (is_number text)
+IsAllowed Direct text = IsTrue (is_direction text)
+IsAllowed _ text = ⊤
+
+-- 524 bytes as a control record, or the first that is wrong with them
+abbrev pub control_of : List ℕ → Result (List ℕ) RecordFault
+control_of bytes =
+    if not (is_control_table (field_of bytes Tabnam)) then Err WrongTable
+    else (if not (is_number (field_of bytes Docnum)) then Err (BadNumber Docnum)
+    else (if not (is_direction (field_of bytes Direct)) then Err (BadNumber Direct)
+    else Ok bytes))
+
+-- a line as a control record, or the first that is wrong with it
+abbrev pub control_read : List ℕ → Result (List ℕ) RecordFault
+control_read line =
+    if nat_lt 524 (length (trimmed line)) then Err (TooLong (told_length (length (trimmed line))))
+    else control_of (padded 524 (trimmed line))

@@ -1,0 +1,52 @@
+-- The data record EDI_DD40, 1,063 bytes. Source: SAP Library, IDoc interface, data record.
+use Rattle.std.specs.Prelude.{◌≡◌, ℕ, ◌≤◌, List, [], ◌∷◌, length, Bool, true, not, IsTrue, nat_eq, nat_lt, codes, Result, Ok, Err, if◌then◌else◌}
+use Rattle.std.specs.List.{starts_with}
+use Rattle.ale_base.specs.Blanks.{trimmed, padded}
+use Rattle.idoc_record.specs.declared.span.Span.{Span}
+use Rattle.idoc_record.specs.declared.fault.RecordFault.{RecordFault}
+use Rattle.idoc_record.specs.declared.fault.RecordFault.TheVariants.{TooLong, WrongTable}
+use Rattle.idoc_record.specs.ControlField.{span}
+use Rattle.idoc_record.specs.Parts.{text_at, told_length}
+
+-- the fields that are read: the name of the segment, and its data. Between them stand MANDT (3 bytes at 30), DOCNUM
+-- (16 at 33), SEGNUM (6 at 49), PSGNUM (6 at 55) and HLEVEL (2 at 61), which are not consulted
+abbrev pub segnam : Span
+segnam = span 0 30
+
+abbrev pub sdata : Span
+sdata = span 63 1000
+
+-- a segment of a document: its name, and its data without the blanks at their end
+pub record Segment : Type 0 where
+  pub segnam : List ℕ
+  pub sdata : List ℕ
+
+-- a name that is blank, or that another table of the interface has
+abbrev pub is_no_segment : List ℕ → Bool
+is_no_segment [] = true
+is_no_segment (b ∷ name) = starts_with nat_eq (b ∷ name) (codes "EDI_")
+
+pub record IsSegment (segment : Segment) : Type 0 where
+  pub named : length segment.segnam ≤ 30
+  pub segnam : IsTrue (not (is_no_segment segment.segnam))
+  pub fits : length segment.sdata ≤ 1000
+  pub sdata : trimmed segment.sdata ≡ segment.sdata
+
+-- the line is a data record of this segment: what it lacks at its end is blank
+pub record IsDataLine (line : List ℕ) (segment : Segment) : Type 0 where
+  pub fits : length (trimmed line) ≤ 1063
+  pub segnam : segment.segnam ≡ text_at segnam (padded 1063 (trimmed line))
+  pub sdata : segment.sdata ≡ text_at sdata (padded 1063 (trimmed line))
+  pub kept : IsSegment segment
+
+-- 1,063 bytes as a segment, or the first that is wrong with them
+abbrev pub segment_of : List ℕ → Result Segment RecordFault
+segment_of bytes =
+    if is_no_segment (text_at segnam bytes) then Err WrongTable
+    else Ok (record { segnam = text_at segnam bytes; sdata = text_at sdata bytes })
+
+-- a line as a segment, or the first that is wrong with it
+abbrev pub data_read : List ℕ → Result Segment RecordFault
+data_read line =
+    if nat_lt 1063 (length (trimmed line)) then Err (TooLong (told_length (length (trimmed line))))
+    else segment_of (padded 1063 (trimmed line))

@@ -1,0 +1,4 @@
+pub mod ControlField
+pub mod Parts
+pub mod Control
+pub mod Data

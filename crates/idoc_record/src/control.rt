@@ -1,0 +1,111 @@
+ghost use Rattle.std.specs.Prelude.{◌≡◌, ◌↔◌, ℕ, List, Ok};
+ghost use Rattle.idoc_record.specs.Control.{IsControlLine, control_read, control_of, field_of, is_number, is_direction};
+
+use crate::parts::{put_padded, told_length};
+use crate::{ControlField, RecordFault};
+use ale_base::trimmed;
+use std::marker::Model;
+
+/// A control record EDI_DC40: 524 bytes with TABNAM `EDI_DC40`, a DOCNUM of digits or blank, and a DIRECT of `1`, `2`
+/// or blank. Contracts see the bytes.
+#[derive(Debug, Drop)]
+pub struct Control {
+    bytes: [u8; 524],
+}
+
+impl Model for Control {
+    ghost use Rattle.std.specs.Prelude.{ℕ, List};
+    ghost use Rattle.idoc_record.specs.Control.{IsControl};
+
+    ghost Value = { List ℕ };
+
+    ghost view = { λ c. c.bytes };
+
+    ghost invariant = { λ c. IsControl c.bytes };
+
+    ghost inverse = { λ bytes. record { bytes = bytes } };
+}
+
+impl Control {
+    ghost use Rattle.std.specs.Prelude.{◌≡◌, ◌≤◌, length};
+    ghost use Rattle.ale_base.specs.Blanks.{trimmed};
+    ghost use Rattle.idoc_record.specs.ControlField.{span_of};
+    ghost use Rattle.idoc_record.specs.Parts.{with_text};
+    ghost use Rattle.idoc_record.specs.Control.{IsControl, IsAllowed, field_of};
+
+    /// The length of the record, in bytes.
+    pub const LEN: usize = 524;
+
+    /// The text of a field, without the blanks at its end.
+    pub fn get(&self, field: ControlField) -> &[u8]
+        ensures { result.now ≡ field_of self.now field }
+    {
+        text_of(&self.bytes, field)
+    }
+
+    /// Writes the text of a field. The rest of the record stays.
+    pub fn set(&mut self, field: ControlField, value: &[u8])
+        requires fits { length value.now ≤ (span_of field).length }
+        requires allowed { IsAllowed field (trimmed value.now) }
+        ensures { self.new ≡ with_text (span_of field) value.now self.old }
+    {
+        let span = field.span();
+        let (_, rest) = self.bytes.split_at_mut(span.offset);
+        let (place, _) = rest.split_at_mut(span.length);
+        put_padded(place, value);
+    }
+}
+
+/// The control record of a line, which ends where its blanks begin and may be shorter than the record.
+///
+/// The faults, in this order: `TooLong` where more than 524 bytes are left, `WrongTable` where TABNAM is not `EDI_DC40`,
+/// `BadNumber` of DOCNUM where it has a byte that is no digit, and `BadNumber` of DIRECT where it is not `1`, `2` or
+/// blank.
+pub fn read_control(bytes: &[u8]) -> Result<Control, RecordFault>
+    ensures record { (control : List ℕ) → (result ≡ Ok control) ↔ IsControlLine bytes.now control }
+    ensures first_fault { result ≡ control_read bytes.now }
+{
+    let text = trimmed(bytes);
+    if text.len() > Control::LEN {
+        return Err(RecordFault::TooLong(told_length(text.len())));
+    }
+    let mut bytes = [b' '; 524];
+    put_padded(&mut bytes, text);
+    control_of(bytes)
+}
+
+/// The bytes as a control record.
+fn control_of(bytes: [u8; 524]) -> Result<Control, RecordFault>
+    ensures { result ≡ control_of bytes }
+{
+    if text_of(&bytes, ControlField::Tabnam) != b"EDI_DC40".as_slice() {
+        return Err(RecordFault::WrongTable);
+    }
+    if !is_number(text_of(&bytes, ControlField::Docnum)) {
+        return Err(RecordFault::BadNumber(ControlField::Docnum));
+    }
+    if !is_direction(text_of(&bytes, ControlField::Direct)) {
+        return Err(RecordFault::BadNumber(ControlField::Direct));
+    }
+    Ok(Control { bytes })
+}
+
+/// The text of a field, without the blanks at its end.
+fn text_of(bytes: &[u8; 524], field: ControlField) -> &[u8]
+    ensures { result.now ≡ field_of bytes.now field }
+{
+    let span = field.span();
+    trimmed(&bytes[span.offset..span.offset + span.length])
+}
+
+fn is_number(text: &[u8]) -> bool
+    ensures { result ≡ is_number text.now }
+{
+    text.iter().all(|byte| byte.is_ascii_digit())
+}
+
+fn is_direction(text: &[u8]) -> bool
+    ensures { result ≡ is_direction text.now }
+{
+    text == b"1".as_slice() || text == b"2".as_slice() || text.is_empty()
+}

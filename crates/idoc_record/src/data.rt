@@ -1,0 +1,100 @@
+ghost use Rattle.std.specs.Prelude.{◌≡◌, ◌≢◌, ◌≤◌, length, Ok, Err, IfOk, IfErr};
+ghost use Rattle.ale_base.specs.Blanks.{padded};
+ghost use Rattle.idoc_record.specs.Parts.{text_at};
+ghost use Rattle.idoc_record.specs.Data.{Segment, IsDataLine, data_read, segnam, sdata, is_no_segment};
+
+use crate::RecordFault;
+use crate::parts::told_length;
+use ale_base::{Fixed, Items, trimmed};
+use std::alloc::Global;
+use std::marker::Model;
+
+/// The data record EDI_DD40 of one segment: a SEGNAM that is not blank and does not begin with `EDI_`, and SDATA of at
+/// most 1,000 bytes without blanks at their end. Contracts see both texts.
+#[derive(Debug, Drop)]
+pub struct Data {
+    pub segnam: Fixed<30>,
+    pub sdata: Items<u8>,
+}
+
+impl Model for Data {
+    ghost use Rattle.idoc_record.specs.Data.{Segment, IsSegment};
+
+    ghost Value = { Segment };
+
+    ghost view = { λ d. record { segnam = d.segnam; sdata = d.sdata } };
+
+    ghost invariant = { λ d. IsSegment (record { segnam = d.segnam; sdata = d.sdata }) };
+
+    ghost inverse = { λ d. record { segnam = d.segnam; sdata = d.sdata } };
+}
+
+impl Data {
+    /// The length of the record, in bytes.
+    pub const LEN: usize = 1_063;
+
+    /// The greatest length of SEGNAM, in bytes.
+    const SEGNAM_LEN: usize = 30;
+
+    /// The offset of SDATA, in bytes.
+    const SDATA_OFFSET: usize = 63;
+}
+
+/// The data record of a line, which ends where its blanks begin and may be shorter than the record.
+///
+/// The faults, in this order: `TooLong` where more than 1,063 bytes are left, and `WrongTable` where SEGNAM is blank or
+/// begins with `EDI_`.
+pub fn read_data(alloc: Global, bytes: &[u8]) -> Result<Data, RecordFault>
+    ensures found { (segment : Segment) → result ≡ Ok segment → IsDataLine bytes.now segment }
+    ensures only { (segment : Segment) → IsDataLine bytes.now segment → result ≢ Err RecordFault.OutOfMemory → result ≡ Ok segment }
+    ensures first_fault { result ≢ Err RecordFault.OutOfMemory → result ≡ data_read bytes.now }
+{
+    let text = trimmed(bytes);
+    if text.len() > Data::LEN {
+        return Err(RecordFault::TooLong(told_length(text.len())));
+    }
+    let segnam = segnam_of(text);
+    if is_no_segment(segnam.trimmed()) {
+        return Err(RecordFault::WrongTable);
+    }
+    let sdata = copied(alloc, sdata_of(text))?;
+    Ok(Data { segnam, sdata })
+}
+
+fn copied(alloc: Global, bytes: &[u8]) -> Result<Items<u8>, RecordFault>
+    ensures ok { IfOk result (λ copy. copy ≡ bytes.now) }
+    ensures err { IfErr result (λ fault. fault ≡ RecordFault.OutOfMemory) }
+{
+    match Vec::from_slice(alloc, bytes) {
+        Ok(copy) => Ok(Items::from_vec(copy)),
+        Err(_) => Err(RecordFault::OutOfMemory),
+    }
+}
+
+/// The name of the segment.
+fn segnam_of(text: &[u8]) -> Fixed<30>
+    ensures { result ≡ text_at segnam (padded 1063 text.now) }
+{
+    let name = &text[..Data::SEGNAM_LEN.min(text.len())];
+    match Fixed::of(name) {
+        Some(segnam) => segnam,
+        None => unreachable!(),
+    }
+}
+
+/// The data of the segment, without the blanks at their end.
+fn sdata_of(text: &[u8]) -> &[u8]
+    requires { length text.now ≤ 1063 }
+    ensures { result.now ≡ text_at sdata (padded 1063 text.now) }
+{
+    if text.len() <= Data::SDATA_OFFSET {
+        return &[];
+    }
+    trimmed(&text[Data::SDATA_OFFSET..])
+}
+
+fn is_no_segment(name: &[u8]) -> bool
+    ensures { result ≡ is_no_segment name.now }
+{
+    name.is_empty() || name.starts_with(b"EDI_")
+}
