@@ -1,4 +1,4 @@
-ghost use Rattle.std.specs.Prelude.{◌≡◌, ◌<◌, ◌↔◌, length, IsNone, IfSome};
+ghost use Rattle.std.specs.Prelude.{◌≡◌, ◌<◌, ◌≤◌, ◌↔◌, length, IsNone, IfSome};
 ghost use Rattle.ale_base.specs.Blanks.{trimmed};
 
 use crate::blanks::trimmed;
@@ -45,7 +45,9 @@ impl<const N: usize> Fixed<N> {
 
     /// The text, without blanks at its end.
     pub fn trimmed(&self) -> &[u8]
-        ensures { result.now ≡ self.now }
+        ensures text { result.now ≡ self.now }
+        ensures trimmed { trimmed self.now ≡ self.now }
+        ensures fits { length self.now ≤ N }
     {
         trimmed(&self.bytes)
     }

@@ -57,18 +57,21 @@ impl<T> Items<T> {
         items
     }
 
+    /// The items as a slice.
     pub fn as_slice(&self) -> &[T]
         ensures { result.now ≡ self.now }
     {
         self.items.as_slice()
     }
 
+    /// How many items there are.
     pub fn len(&self) -> usize
         ensures { result ≡ length self.now }
     {
         self.items.len()
     }
 
+    /// Whether there is no item.
     pub fn is_empty(&self) -> bool
         ensures { IsTrue result ↔ (self.now ≡ []) }
     {
@@ -85,7 +88,8 @@ impl<T> Items<T> {
     /// The item at a place from 0, to be written.
     pub fn at_mut(&mut self, at: usize) -> &mut T
         requires { at < length self.old }
-        ensures* writes_back { sem 𝓛 (Lends (the_row T.row) T.row self.entry result (λ item. slice_set self.entry.now at item)) }
+        ensures* writes_back { sem 𝓛 (Lends (the_row T.row) T.row self.entry result
+            (λ item. slice_set self.entry.now at item)) }
         ensures value { slice_get self.old at ≡ Some result.now }
     {
         &mut self.items[at]

@@ -24,6 +24,7 @@ pub record IsPlain (line : List ℕ) : Type 0 where
   pub short : length line ≤ 4096
   pub no_return : Contains line 13 → ⊥
 
+-- how many data records a document has
 abbrev pub segment_count : Document → ℕ
 segment_count document = length document.segments
 

@@ -41,6 +41,7 @@ Ends words told faults ending.LoadNotBuilt = form_of words ≡ Some Load
 Ends words told faults ending.OutOfMemory = ⊤
 Ends words told faults end = (form_of words ≡ Some Pass) × EndsPass (document_file words) (told (document_file words)) faults end
 
+-- the exit status of an ending, where no write failed
 abbrev pub status_of : Ending → ℕ
 status_of (ending.Passed documents) = 0
 status_of ending.Usage = 1
@@ -50,11 +51,13 @@ status_of ending.RunNotBuilt = 13
 status_of ending.LoadNotBuilt = 13
 status_of (ending.LineNotBuilt n) = 13
 
+-- why a file was not read, as it is printed
 abbrev pub shown_reason : NotRead → List ℕ
 shown_reason Missing = codes "missing\n"
 shown_reason TooLong = codes "too long\n"
 shown_reason Failed = codes "fault\n"
 
+-- what is printed at an ending
 abbrev pub text_of : Ending → List ℕ
 text_of (ending.Passed documents) = pass_text documents
 text_of ending.Usage = codes "usage: aleflow run MODEL DOCS SCRIPT WORKERS, pass DOCS, load N WORKERS\n"

@@ -37,5 +37,6 @@ abbrev pub lines_from : ℕ → List Document → List ℕ
 lines_from k [] = []
 lines_from k (document ∷ documents) = line_of k document ++ lines_from (k + 1) documents
 
+-- a line a document, numbered from 1
 abbrev pub pass_text : List Document → List ℕ
 pass_text documents = lines_from 1 documents

@@ -11,13 +11,13 @@ abbrev pub is_word : List ℕ → List ℕ → Bool
 is_word word other = pointwise nat_eq word other
 
 -- the number that decimal digits spell
-abbrev pub number_of : List ℕ → ℕ
-number_of digits = fold (λ number digit. number * 10 + (digit - 48)) 0 digits
+abbrev pub decimal_value : List ℕ → ℕ
+decimal_value digits = fold (λ number digit. number * 10 + (digit - 48)) 0 digits
 
 -- at most four digits, of which the first is no zero, that spell a number of at most this size
 abbrev pub is_count : ℕ → List ℕ → Bool
 is_count most [] = false
-is_count most (b ∷ bs) = not (b == 48) && (nat_le (length (b ∷ bs)) 4 && (list_all is_ascii_digit (b ∷ bs) && nat_le (number_of (b ∷ bs)) most))
+is_count most (b ∷ bs) = not (b == 48) && (nat_le (length (b ∷ bs)) 4 && (list_all is_ascii_digit (b ∷ bs) && nat_le (decimal_value (b ∷ bs)) most))
 
 -- `pass DOCS`
 abbrev pub pass_form : List ℕ → Option Form

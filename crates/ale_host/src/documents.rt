@@ -11,7 +11,9 @@ use std::marker::Model;
 /// A document of a file: its control record, and the data records of its segments in order.
 #[derive(Debug, Drop)]
 pub struct Document {
+    /// The control record.
     pub control: Control,
+    /// The segments, in the order of the file.
     pub segments: Items<Data>,
 }
 
@@ -29,7 +31,7 @@ const MAX_RECORDS: u32 = 1_000_000;
 
 /// Why a line is not taken.
 #[derive(Clone, Copy, Debug, PartialEq, Eq)]
-pub enum LineEnd {
+pub enum LineRefusal {
     /// It is not read behind the lines before it.
     Unread,
     OutOfMemory,
@@ -70,30 +72,31 @@ impl Documents {
     }
 
     /// Reads the line behind those that were read. After an `Err` nothing more is read.
-    pub fn read_line(&mut self, alloc: Global, line: &[u8]) -> Result<(), LineEnd>
-        ensures read { OnOk result ((lines : List (List ℕ)) → AreDocuments lines self.old → AreDocuments (lines ++ line.now ∷ []) self.new) }
-        ensures unread { IsErrOf result LineEnd.Unread → (lines : List (List ℕ)) → AreDocuments lines self.old
+    pub fn read_line(&mut self, alloc: Global, line: &[u8]) -> Result<(), LineRefusal>
+        ensures read { OnOk result ((lines : List (List ℕ)) → AreDocuments lines self.old
+            → AreDocuments (lines ++ line.now ∷ []) self.new) }
+        ensures unread { IsErrOf result LineRefusal.Unread → (lines : List (List ℕ)) → AreDocuments lines self.old
             → (documents : List Document) → AreDocuments (lines ++ line.now ∷ []) documents → ⊥ }
     {
         if !is_plain(line) {
-            return Err(LineEnd::Unread);
+            return Err(LineRefusal::Unread);
         }
         if let Ok(control) = read_control(line) {
             return self.begin(alloc, control);
         }
         match read_data(alloc, line) {
             Ok(segment) => self.add(segment),
-            Err(fault) => Err(line_end_of(fault)),
+            Err(fault) => Err(refusal_of(fault)),
         }
     }
 
     /// Begins a document.
-    fn begin(&mut self, alloc: Global, control: Control) -> Result<(), LineEnd>
+    fn begin(&mut self, alloc: Global, control: Control) -> Result<(), LineRefusal>
         ensures begun { OnOk result ((length self.old < 4096) × (self.new ≡ self.old ++ begun control ∷ [])) }
-        ensures full { IsErrOf result LineEnd.Unread → 4096 ≤ length self.old }
+        ensures full { IsErrOf result LineRefusal.Unread → 4096 ≤ length self.old }
     {
         if self.documents.len() >= MAX_DOCUMENTS {
-            return Err(LineEnd::Unread);
+            return Err(LineRefusal::Unread);
         }
         let document = Document {
             control,
@@ -101,18 +104,19 @@ impl Documents {
         };
         match self.documents.push(document) {
             Ok(()) => Ok(()),
-            Err(OutOfMemory) => Err(LineEnd::OutOfMemory),
+            Err(OutOfMemory) => Err(LineRefusal::OutOfMemory),
         }
     }
 
     /// Adds a segment to the last document.
-    fn add(&mut self, segment: Data) -> Result<(), LineEnd>
+    fn add(&mut self, segment: Data) -> Result<(), LineRefusal>
         ensures added { OnOk result (AddsToLast self.old self.new segment) }
         ensures within { OnOk result (sum_by segment_count self.old < 1000000) }
-        ensures full { IsErrOf result LineEnd.Unread → (front : List Document) (document : Document) → HasRoom self.old front document → ⊥ }
+        ensures full { IsErrOf result LineRefusal.Unread → (front : List Document) (document : Document)
+            → HasRoom self.old front document → ⊥ }
     {
         if self.records >= MAX_RECORDS {
-            return Err(LineEnd::Unread);
+            return Err(LineRefusal::Unread);
         }
         add_to_last(&mut self.documents, segment)?;
         self.records += 1;
@@ -132,33 +136,33 @@ impl Documents {
 }
 
 /// The end that a fault of the line is.
-fn line_end_of(fault: RecordFault) -> LineEnd
-    ensures { result ≡ LineEnd.Unread → fault ≢ RecordFault.OutOfMemory }
+fn refusal_of(fault: RecordFault) -> LineRefusal
+    ensures { result ≡ LineRefusal.Unread → fault ≢ RecordFault.OutOfMemory }
 {
     match fault {
-        RecordFault::OutOfMemory => LineEnd::OutOfMemory,
-        _ => LineEnd::Unread,
+        RecordFault::OutOfMemory => LineRefusal::OutOfMemory,
+        _ => LineRefusal::Unread,
     }
 }
 
 /// Adds a segment to the last document. `Unread` exactly where there is none with room for it.
-fn add_to_last(documents: &mut Items<Document>, segment: Data) -> Result<(), LineEnd>
+fn add_to_last(documents: &mut Items<Document>, segment: Data) -> Result<(), LineRefusal>
     ensures added { OnOk result (AddsToLast documents.old documents.new segment) }
-    ensures full { IsErrOf result LineEnd.Unread → (front : List Document) (document : Document)
+    ensures full { IsErrOf result LineRefusal.Unread → (front : List Document) (document : Document)
         → documents.old ≡ front ++ document ∷ [] → segment_count document < 10000 → ⊥ }
     ensures err { OnErr result (documents.new ≡ documents.old) }
 {
     let count = documents.len();
     if count == 0 {
-        return Err(LineEnd::Unread);
+        return Err(LineRefusal::Unread);
     }
     let last = documents.at_mut(count - 1);
     if last.segments.len() >= MAX_SEGMENTS {
-        return Err(LineEnd::Unread);
+        return Err(LineRefusal::Unread);
     }
     match last.segments.push(segment) {
         Ok(()) => Ok(()),
-        Err(OutOfMemory) => Err(LineEnd::OutOfMemory),
+        Err(OutOfMemory) => Err(LineRefusal::OutOfMemory),
     }
 }
 

@@ -21,12 +21,13 @@ pub enum NotRead {
 /// How a run ends.
 #[derive(Debug, Drop)]
 pub enum Ending {
-    /// The documents of the file were executed, each once and in order.
+    /// The documents of the file were taken, each once and in order.
     Passed(Items<Document>),
     /// The words have none of the three forms.
     Usage,
     /// The file of this name was not read.
     Unread(Items<u8>, NotRead),
+    /// Memory ran out.
     OutOfMemory,
     /// The command `run` is not built yet.
     RunNotBuilt,

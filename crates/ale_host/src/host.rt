@@ -28,8 +28,10 @@ pub fn aleflow<F: Files, K: Sink>(alloc: Global, words: &[String], files: &mut F
     ensures ended { result ≢ 6 → (ending : Ending)
         × Ends (map string_bytes words.now) (F.told files.old) (Rose (F.faults files.old) (F.faults files.new)) ending
         × (result ≡ status_of ending)
-        × Appends (K.contents out.old) (K.contents out.new) (text_of ending) }
-    ensures write_fault { result ≡ 6 → Rose (K.faults out.old) (K.faults out.new) × ((ending : Ending)
+        × Appends (K.contents out.old) (K.contents out.new) (text_of ending)
+        × (K.faults out.new ≡ K.faults out.old) }
+    ensures write_fault { result ≡ 6 → Rose (K.faults out.old) (K.faults out.new)
+        × ((ending : Ending)
         × Ends (map string_bytes words.now) (F.told files.old) (Rose (F.faults files.old) (F.faults files.new)) ending
         × AppendsFront (K.contents out.old) (K.contents out.new) (text_of ending)) }
     ensures files_kept { (name : List ℕ) → F.told files.new name ≡ F.told files.old name }
@@ -47,7 +49,8 @@ pub fn aleflow<F: Files, K: Sink>(alloc: Global, words: &[String], files: &mut F
 /// take all of the text.
 pub fn out_of_memory<K: Sink>(out: &mut K) -> u8
     ensures ended { result ≢ 6 → (result ≡ status_of Ending.OutOfMemory)
-        × Appends (K.contents out.old) (K.contents out.new) (text_of Ending.OutOfMemory) }
+        × Appends (K.contents out.old) (K.contents out.new) (text_of Ending.OutOfMemory)
+        × (K.faults out.new ≡ K.faults out.old) }
     ensures write_fault { result ≡ 6 → Rose (K.faults out.old) (K.faults out.new)
         × AppendsFront (K.contents out.old) (K.contents out.new) (text_of Ending.OutOfMemory) }
     ensures counted { K.faults out.old ≤ K.faults out.new }
@@ -58,8 +61,10 @@ pub fn out_of_memory<K: Sink>(out: &mut K) -> u8
 /// Puts the text of an ending, and gives its status, or that of a write fault.
 fn put<K: Sink>(out: &mut K, status: u8, text: &[u8]) -> u8
     requires { status ≢ 6 }
-    ensures ended { result ≢ 6 → (result ≡ status) × Appends (K.contents out.old) (K.contents out.new) text.now }
-    ensures write_fault { result ≡ 6 → Rose (K.faults out.old) (K.faults out.new) × AppendsFront (K.contents out.old) (K.contents out.new) text.now }
+    ensures ended { result ≢ 6 → (result ≡ status) × Appends (K.contents out.old) (K.contents out.new) text.now
+        × (K.faults out.new ≡ K.faults out.old) }
+    ensures write_fault { result ≡ 6 → Rose (K.faults out.old) (K.faults out.new)
+        × AppendsFront (K.contents out.old) (K.contents out.new) text.now }
     ensures counted { K.faults out.old ≤ K.faults out.new }
 {
     match out.put(text) {

@@ -1,6 +1,6 @@
 //! The top call: what the program does for its words, from the files that it reads to the text that it prints.
 //!
-//! Contract: a run has one ending, which its words and its files determine but for faults and want of memory, and it
+//! Contract: a run has an ending whose cause stands in its words and files, or is a fault or want of memory, and it
 //! puts exactly the text of that ending. The definitions are in `specs/`: `Words`, `DocumentFile` (which documents a
 //! file holds), `PassText`, `Ending`.
 #![tactic(auto)]

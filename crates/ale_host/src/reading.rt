@@ -2,7 +2,7 @@ ghost use Rattle.std.specs.Prelude.{◌≡◌, ℕ, IfOk, Err};
 ghost use Rattle.ale_host.specs.Lines.{lines_of};
 ghost use Rattle.ale_host.specs.DocumentFile.{AreDocuments, IsFirstUnread};
 
-use crate::documents::{Document, Documents, LineEnd};
+use crate::documents::{Document, Documents, LineRefusal};
 use crate::lines::first_line;
 use ale_base::Items;
 use std::alloc::Global;
@@ -28,8 +28,8 @@ pub fn read_documents(alloc: Global, bytes: &[u8]) -> Result<Items<Document>, Re
         number += 1;
         match documents.read_line(alloc, line) {
             Ok(()) => rest = behind,
-            Err(LineEnd::Unread) => return Err(ReadingEnd::Unread(number)),
-            Err(LineEnd::OutOfMemory) => return Err(ReadingEnd::OutOfMemory),
+            Err(LineRefusal::Unread) => return Err(ReadingEnd::Unread(number)),
+            Err(LineRefusal::OutOfMemory) => return Err(ReadingEnd::OutOfMemory),
         }
     }
     Ok(documents.into_items())

@@ -31,11 +31,11 @@ fn outcome_of(
     })?;
     let mut files = MapFiles {
         files: stored,
-        calls: Calls::failing(Items::from_vec(vec![in alloc; failing_read]?)),
+        calls: Calls::with_failures(Items::from_vec(vec![in alloc; failing_read]?)),
     };
     let mut out = VecSink {
         bytes: Vec::new(alloc),
-        calls: Calls::failing(Items::from_vec(vec![in alloc; failing_put]?)),
+        calls: Calls::with_failures(Items::from_vec(vec![in alloc; failing_put]?)),
     };
     let status = aleflow(alloc, owned.as_slice(), &mut files, &mut out);
     let VecSink { bytes, calls: _ } = out;
@@ -163,9 +163,18 @@ fn a_fault_is_told_as_such(rt: HostRuntime) -> Result<(), Fail> {
         unwritten.printed.as_slice(),
         b"usage: aleflow run MODEL DOCS SCRIPT".as_slice()
     );
+    let empty = outcome_of(alloc, &["pass", "D"], b"", 0, 1)?;
+    assert_eq!(rt; empty.status, 6);
+    assert_eq!(rt; empty.printed.as_slice(), b"".as_slice());
+    let unnamed = outcome_of(alloc, &["pass", ""], b"", 0, 0)?;
+    assert_eq!(rt; unnamed.status, 5);
+    assert_eq!(rt;
+        unnamed.printed.as_slice(),
+        b"cannot read : fault\n".as_slice()
+    );
     let mut out = VecSink {
         bytes: Vec::new(alloc),
-        calls: Calls::reliable(alloc),
+        calls: Calls::without_failures(alloc),
     };
     assert_eq!(rt; out_of_memory(&mut out), 9);
     assert_eq!(rt; out.bytes.as_slice(), b"out of memory\n".as_slice());

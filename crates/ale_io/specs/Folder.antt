@@ -4,6 +4,7 @@ use Rattle.std.specs.Cmp.Lexicographic.{pointwise}
 use Rattle.ale_io.specs.Told.{Told, no_file, file}
 use Rattle.ale_io.specs.declared.map_files.StoredFile.{StoredFile}
 
+-- what is told of a file that was found, or not
 abbrev pub told_by : Option StoredFile → Told
 told_by None = no_file
 told_by (Some stored) = file stored.bytes

@@ -8,14 +8,17 @@ use std::alloc::Global;
 /// counted from 1.
 #[derive(Debug, Drop)]
 pub struct Calls {
+    /// The numbers of the calls that are to fail.
     pub failing: Items<u64>,
+    /// How many calls were made.
     pub made: u64,
+    /// How many faults there were.
     pub faults: u64,
 }
 
 impl Calls {
     /// No call was made, and those of these numbers will fail.
-    pub fn failing(failing: Items<u64>) -> Calls
+    pub fn with_failures(failing: Items<u64>) -> Calls
         ensures { result ≡ record { failing = failing; made = 0; faults = 0 } }
     {
         Calls {
@@ -26,10 +29,10 @@ impl Calls {
     }
 
     /// No call was made, and none is chosen to fail. It takes no memory.
-    pub fn reliable(alloc: Global) -> Calls
+    pub fn without_failures(alloc: Global) -> Calls
         ensures { result ≡ record { failing = []; made = 0; faults = 0 } }
     {
-        Calls::failing(Items::new(alloc))
+        Calls::with_failures(Items::new(alloc))
     }
 
     /// Counts a call. True exactly where it is to fail, and then it is a fault.
@@ -37,7 +40,8 @@ impl Calls {
         ensures made { self.new.made ≡ min (self.old.made + 1) (2 ^ 64 - 1) }
         ensures chosen { IsTrue result ↔ Contains self.old.failing self.new.made }
         ensures failing { self.new.failing ≡ self.old.failing }
-        ensures faults { self.new.faults ≡ (if result then min (self.old.faults + 1) (2 ^ 64 - 1) else self.old.faults) }
+        ensures faults { self.new.faults
+            ≡ (if result then min (self.old.faults + 1) (2 ^ 64 - 1) else self.old.faults) }
         ensures counted { self.old.faults ≤ self.new.faults }
         ensures rose { IsTrue result → Rose self.old.faults self.new.faults }
     {

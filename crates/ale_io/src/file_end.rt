@@ -12,6 +12,7 @@ pub enum FileEnd {
     /// The read failed.
     #[error("fault")]
     Failed,
+    /// A request for memory was refused.
     #[error("out of memory")]
     OutOfMemory,
 }

@@ -1,4 +1,4 @@
-ghost use Rattle.std.specs.Prelude.{◌≡◌, ℕ, List, ◌++◌, ◌<◌, ◌≤◌, length, OnOk, OnErr, IsErrOf};
+ghost use Rattle.std.specs.Prelude.{◌≡◌, ℕ, List, [], ◌++◌, ◌<◌, ◌≤◌, length, OnOk, OnErr, IsErrOf};
 ghost use Rattle.ale_io.specs.Told.{Told, MayHold, MayLack};
 ghost use Rattle.ale_io.specs.Faults.{Rose};
 
@@ -15,7 +15,7 @@ pub trait Files {
     /// Appends the bytes of a file of at most `limit` bytes.
     ///
     /// `Missing` comes where no file has the name, `TooLong` where the file is longer than the limit, and `Failed`
-    /// only where this call is a fault. After an `Err` the vector is as before.
+    /// only where this call is a fault. A read with no name is one. After an `Err` the vector is as before.
     fn read_file(&mut self, name: &str, limit: usize, into: &mut Vec<u8>) -> Result<(), FileEnd>
         ensures read { OnOk result ((bytes : List ℕ) × MayHold (told self.old name.now) bytes
             × (length bytes ≤ limit) × (into.new.items ≡ into.old.items ++ bytes)) }
@@ -24,7 +24,9 @@ pub trait Files {
             (bytes : List ℕ) × MayHold (told self.old name.now) bytes × (limit < length bytes) }
         ensures failed { IsErrOf result FileEnd.Failed → Rose (faults self.old) (faults self.new) }
         ensures err { OnErr result (into.new.items ≡ into.old.items) }
+        ensures no_name { name.now ≡ [] → IsErrOf result FileEnd.Failed }
 
         ensures kept { (other : List ℕ) → told self.new other ≡ told self.old other }
-        ensures counted { faults self.old ≤ faults self.new };
+        ensures counted { faults self.old ≤ faults self.new }
+        ensures quiet { OnOk result (faults self.new ≡ faults self.old) };
 }

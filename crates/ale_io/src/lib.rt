@@ -1,8 +1,8 @@
 //! The outside that the program reads and writes: files and a sink, as traits, and both in memory.
 //!
-//! Contract: a call says what it read or wrote where the implementation tells its contents, and it fails only where
-//! the implementation's count of faults rises in that call. The definitions are in `specs/`: `Told` (what is known of
-//! a file), `Faults`, `Written`.
+//! Contract: a call says what it read or wrote where the implementation tells its contents, and it answers `Failed` or
+//! `SinkFailed` only where the implementation's count of faults rises in that call. The definitions are in `specs/`:
+//! `Told` (what is known of a file), `Faults`, `Written`.
 #![tactic(auto)]
 
 mod calls;

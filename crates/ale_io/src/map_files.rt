@@ -4,14 +4,18 @@ use ale_base::Items;
 /// A file in memory.
 #[derive(Debug, Drop)]
 pub struct StoredFile {
+    /// The bytes of its name.
     pub name: Items<u8>,
+    /// What it holds.
     pub bytes: Items<u8>,
 }
 
 /// Files in memory, of which chosen calls fail. Of several files with one name the first counts.
 #[derive(Debug, Drop)]
 pub struct MapFiles {
+    /// The files. Those with no name can't be read.
     pub files: Items<StoredFile>,
+    /// The calls of `read_file`.
     pub calls: Calls,
 }
 
@@ -31,14 +35,38 @@ impl MapFiles {
 }
 
 impl Files for MapFiles {
+    ghost use Rattle.std.specs.Prelude.{◌≡◌, ◌↔◌, ◌⊎◌, ℕ, List, [], ◌+◌, ◌-◌, ◌^◌, ◌++◌, ◌<◌, ◌≤◌, length, min, Contains, OnOk, OnErr, IsErrOf};
+    ghost use Rattle.ale_io.specs.Told.{MayHold, MayLack};
+    ghost use Rattle.ale_io.specs.Faults.{Rose};
     ghost use Rattle.ale_io.specs.Folder.{told_of};
 
     ghost told = { λ folder name. told_of folder.files name };
 
     ghost faults = { λ folder. folder.calls.faults };
 
-    fn read_file(&mut self, name: &str, limit: usize, into: &mut Vec<u8>) -> Result<(), FileEnd> {
+    fn read_file(&mut self, name: &str, limit: usize, into: &mut Vec<u8>) -> Result<(), FileEnd>
+        ensures read { OnOk result ((bytes : List ℕ) × MayHold (told_of self.old.files name.now) bytes
+            × (length bytes ≤ limit) × (into.new.items ≡ into.old.items ++ bytes)) }
+        ensures missing { IsErrOf result FileEnd.Missing → MayLack (told_of self.old.files name.now) }
+        ensures too_long { IsErrOf result FileEnd.TooLong →
+            (bytes : List ℕ) × MayHold (told_of self.old.files name.now) bytes × (limit < length bytes) }
+        ensures failed { IsErrOf result FileEnd.Failed → Rose self.old.calls.faults self.new.calls.faults }
+        ensures err { OnErr result (into.new.items ≡ into.old.items) }
+        ensures kept { (other : List ℕ) → told_of self.new.files other ≡ told_of self.old.files other }
+        ensures no_name { name.now ≡ [] → IsErrOf result FileEnd.Failed }
+        ensures counted { self.old.calls.faults ≤ self.new.calls.faults }
+        ensures quiet { OnOk result (self.new.calls.faults ≡ self.old.calls.faults) }
+
+        // It fails exactly at the calls that are to fail, and with no name.
+        ensures chosen { IsErrOf result FileEnd.Failed ↔ (Contains self.old.calls.failing self.new.calls.made ⊎ (name.now ≡ [])) }
+        ensures made { self.new.calls.made ≡ min (self.old.calls.made + 1) (2 ^ 64 - 1) }
+        ensures failing { self.new.calls.failing ≡ self.old.calls.failing }
+    {
         if self.calls.next_fails() {
+            return Err(FileEnd::Failed);
+        }
+        if name.is_empty() {
+            self.calls.fault();
             return Err(FileEnd::Failed);
         }
         let Some(stored) = self.stored(name) else {

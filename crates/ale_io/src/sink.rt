@@ -1,4 +1,4 @@
-ghost use Rattle.std.specs.Prelude.{ℕ, List, Option, ◌≤◌, OnOk, OnErr};
+ghost use Rattle.std.specs.Prelude.{◌≡◌, ℕ, List, Option, ◌≤◌, OnOk, OnErr};
 ghost use Rattle.std.specs.Io.KnownBytes.{Appends};
 ghost use Rattle.ale_io.specs.Faults.{Rose};
 ghost use Rattle.ale_io.specs.Written.{AppendsFront};
@@ -24,5 +24,6 @@ pub trait Sink {
         ensures ok { OnOk result (Appends (contents self.old) (contents self.new) bytes.now) }
         ensures err { OnErr result (AppendsFront (contents self.old) (contents self.new) bytes.now) }
         ensures failed { OnErr result (Rose (faults self.old) (faults self.new)) }
-        ensures counted { faults self.old ≤ faults self.new };
+        ensures counted { faults self.old ≤ faults self.new }
+        ensures quiet { OnOk result (faults self.new ≡ faults self.old) };
 }

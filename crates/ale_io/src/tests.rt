@@ -18,13 +18,13 @@ fn a_file_is_read_up_to_its_limit(rt: HostRuntime) -> Result<(), Fail> {
     }
     let mut files = MapFiles {
         files: stored,
-        calls: Calls::failing(Items::from_vec(vec![in alloc; 5]?)),
+        calls: Calls::with_failures(Items::from_vec(vec![in alloc; 5]?)),
     };
     let expected: [(&str, usize, Result<(), FileEnd>, &[u8]); 7] = [
         ("docs", 8, Ok(()), b"so far EDI_DC40"),
         ("docs", 7, Err(FileEnd::TooLong), b"so far "),
         ("nope", 8, Err(FileEnd::Missing), b"so far "),
-        ("", 8, Err(FileEnd::Missing), b"so far "),
+        ("", 8, Err(FileEnd::Failed), b"so far "),
         ("docs", 8, Err(FileEnd::Failed), b"so far "),
         ("docs", 8, Ok(()), b"so far EDI_DC40"),
         ("empty", 0, Ok(()), b"so far "),
@@ -39,7 +39,7 @@ fn a_file_is_read_up_to_its_limit(rt: HostRuntime) -> Result<(), Fail> {
         assert_eq!(rt; into.as_slice(), held);
     }
     assert_eq!(rt; files.calls.made, 7);
-    assert_eq!(rt; files.calls.faults, 1);
+    assert_eq!(rt; files.calls.faults, 2);
     Ok(())
 }
 
@@ -48,7 +48,7 @@ fn a_failed_put_takes_half_of_its_bytes(rt: HostRuntime) -> Result<(), Fail> {
     let alloc = rt.alloc();
     let mut sink = VecSink {
         bytes: Vec::new(alloc),
-        calls: Calls::failing(Items::from_vec(vec![in alloc; 2, 4]?)),
+        calls: Calls::with_failures(Items::from_vec(vec![in alloc; 2, 4]?)),
     };
     let expected: [(&[u8], Result<(), SinkFailed>, &[u8]); 4] = [
         (b"one ", Ok(()), b"one "),
@@ -61,6 +61,6 @@ fn a_failed_put_takes_half_of_its_bytes(rt: HostRuntime) -> Result<(), Fail> {
         assert_eq!(rt; sink.bytes.as_slice(), held);
     }
     assert_eq!(rt; sink.calls.faults, 2);
-    assert_eq!(rt; Calls::reliable(alloc).next_fails(), false);
+    assert_eq!(rt; Calls::without_failures(alloc).next_fails(), false);
     Ok(())
 }

@@ -5,18 +5,35 @@ use ale_base::Items;
 /// for which there is no memory takes none of them, and is a fault too.
 #[derive(Debug, Drop)]
 pub struct VecSink {
+    /// What was put.
     pub bytes: Vec<u8>,
+    /// The calls of `put`.
     pub calls: Calls,
 }
 
 impl Sink for VecSink {
-    ghost use Rattle.std.specs.Prelude.{Some};
+    ghost use Rattle.std.specs.Prelude.{◌≡◌, ◌⊎◌, ◌+◌, ◌-◌, ◌/◌, ◌^◌, ◌++◌, ◌≤◌, length, take, min, Contains, Some, OnOk, OnErr, IsErr};
+    ghost use Rattle.std.specs.Io.KnownBytes.{Appends};
+    ghost use Rattle.ale_io.specs.Faults.{Rose};
+    ghost use Rattle.ale_io.specs.Written.{AppendsFront};
 
     ghost contents = { λ sink. Some sink.bytes.items };
 
     ghost faults = { λ sink. sink.calls.faults };
 
-    fn put(&mut self, bytes: &[u8]) -> Result<(), SinkFailed> {
+    fn put(&mut self, bytes: &[u8]) -> Result<(), SinkFailed>
+        ensures ok { OnOk result (Appends (Some self.old.bytes.items) (Some self.new.bytes.items) bytes.now) }
+        ensures err { OnErr result (AppendsFront (Some self.old.bytes.items) (Some self.new.bytes.items) bytes.now) }
+        ensures failed { OnErr result (Rose self.old.calls.faults self.new.calls.faults) }
+        ensures counted { self.old.calls.faults ≤ self.new.calls.faults }
+        ensures quiet { OnOk result (self.new.calls.faults ≡ self.old.calls.faults) }
+
+        // The calls that are to fail do, and take half of the bytes, or none for want of memory.
+        ensures chosen { Contains self.old.calls.failing self.new.calls.made → IsErr result
+            × ((self.new.bytes.items ≡ self.old.bytes.items ++ take (length bytes.now / 2) bytes.now) ⊎ (self.new.bytes.items ≡ self.old.bytes.items)) }
+        ensures made { self.new.calls.made ≡ min (self.old.calls.made + 1) (2 ^ 64 - 1) }
+        ensures failing { self.new.calls.failing ≡ self.old.calls.failing }
+    {
         if self.calls.next_fails() {
             let _ = self.bytes.extend_from_slice(&bytes[..bytes.len() / 2]);
             return Err(SinkFailed);

@@ -1,5 +1,5 @@
-ghost use Rattle.std.specs.Prelude.{◌≡◌};
-ghost use Rattle.aleflow.specs.Appended.{AppendsAtMost};
+ghost use Rattle.std.specs.Prelude.{◌≡◌, [], ◌++◌, ◌+◌, ◌<◌, ◌≤◌, length, IfSome, OnOk, IsErrOf};
+ghost use Rattle.std.specs.Io.{StartsWith};
 
 use ale_io::{FileEnd, Files};
 use std::io::{ErrorKind, Read};
@@ -22,14 +22,16 @@ impl<'a, R: rt::Files> DirFiles<'a, R> {
 
     /// Appends the bytes of a file. After an `Err` some of them may have been appended.
     fn append(&self, name: &str, limit: usize, into: &mut Vec<u8>) -> Result<(), FileEnd>
-        ensures { AppendsAtMost into.old.items into.new.items limit }
+        ensures kept { StartsWith into.new.items into.old.items }
+        ensures within { OnOk result (length into.new.items ≤ length into.old.items + limit) }
+        ensures no_name { name.now ≡ [] → IsErrOf result FileEnd.Failed }
     {
         // The system says of an empty name what it says of a file that is not there.
         if name.is_empty() {
             return Err(FileEnd::Failed);
         }
         match fs::open(self.rt, name) {
-            Ok(mut file) => append_all(&mut file, limit, into),
+            Ok(file) => append_all(file, limit, into),
             Err(error) if error.kind() == ErrorKind::NotFound => Err(FileEnd::Missing),
             Err(_) => Err(FileEnd::Failed),
         }
@@ -56,25 +58,18 @@ impl<R: rt::Files> Files for DirFiles<'_, R> {
     }
 }
 
-/// Appends what is left to read, at most `limit` bytes.
-fn append_all(file: &mut impl Read, limit: usize, into: &mut Vec<u8>) -> Result<(), FileEnd>
-    ensures { AppendsAtMost into.old.items into.new.items limit }
+/// Appends what is left to read, at most `limit` bytes. After an `Err` some of them may have been appended.
+fn append_all<F: Read + Drop>(file: F, limit: usize, into: &mut Vec<u8>) -> Result<(), FileEnd>
+    ensures kept { StartsWith into.new.items into.old.items }
+    ensures within { OnOk result (length into.new.items ≤ length into.old.items + limit) }
+    ensures read { OnOk result (IfSome (F.remaining file) (λ left. into.new.items ≡ into.old.items ++ left)) }
+    ensures too_long { IsErrOf result FileEnd.TooLong → IfSome (F.remaining file) (λ left. limit < length left) }
 {
-    let mut chunk = [0u8; 65_536];
-    let mut room = limit;
-    for _ in 0..u64::MAX {
-        match file.read(&mut chunk) {
-            Ok(0) => return Ok(()),
-            Ok(count) if count > room => return Err(FileEnd::TooLong),
-            Ok(count) => {
-                if into.extend_from_slice(&chunk[..count]).is_err() {
-                    return Err(FileEnd::OutOfMemory);
-                }
-                room -= count;
-            }
-            Err(error) if error.kind() == ErrorKind::Interrupted => {}
-            Err(_) => return Err(FileEnd::Failed),
-        }
+    let mut head = file.take((limit as u64).saturating_add(1));
+    match head.read_to_end(into) {
+        Ok(count) if count > limit => Err(FileEnd::TooLong),
+        Ok(_) => Ok(()),
+        Err(error) if error.kind() == ErrorKind::OutOfMemory => Err(FileEnd::OutOfMemory),
+        Err(_) => Err(FileEnd::Failed),
     }
-    Err(FileEnd::Failed)
 }

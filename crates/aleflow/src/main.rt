@@ -1,7 +1,7 @@
 //! The program: the top call over the current folder and standard output.
 //!
-//! Contract: the adapters meet the traits of files and sink and tell no contents, so all that is proved of the top
-//! call holds of the program.
+//! Contract: the adapters meet the traits of files and sink, so what is proved of the top call holds of the program as
+//! far as they tell. They tell no contents: nothing is claimed of a real disk or of standard output.
 #![tactic(auto)]
 
 mod dir_files;
@@ -33,3 +33,6 @@ fn main(rt: HostRuntime) -> ExitCode {
     };
     ExitCode::from(status)
 }
+
+#[cfg(test)]
+mod tests;

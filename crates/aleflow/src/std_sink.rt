@@ -17,16 +17,34 @@ impl<W: Write> StdSink<W> {
     {
         StdSink { out, faults: 0 }
     }
+
+    /// What it writes to.
+    #[cfg(test)]
+    pub fn writer(&self) -> &W {
+        &self.out
+    }
 }
 
 impl<W: Write> Sink for StdSink<W> {
-    ghost use Rattle.std.specs.Prelude.{None};
+    ghost use Rattle.std.specs.Prelude.{◌≡◌, ◌≤◌, None, OnOk, OnErr};
+    ghost use Rattle.std.specs.Io.KnownBytes.{Appends};
+    ghost use Rattle.ale_io.specs.Faults.{Rose};
+    ghost use Rattle.ale_io.specs.Written.{AppendsFront};
 
     ghost contents = { λ _. None };
 
     ghost faults = { λ sink. sink.faults };
 
-    fn put(&mut self, bytes: &[u8]) -> Result<(), SinkFailed> {
+    fn put(&mut self, bytes: &[u8]) -> Result<(), SinkFailed>
+        ensures ok { OnOk result (Appends None None bytes.now) }
+        ensures err { OnErr result (AppendsFront None None bytes.now) }
+        ensures failed { OnErr result (Rose self.old.faults self.new.faults) }
+        ensures counted { self.old.faults ≤ self.new.faults }
+        ensures quiet { OnOk result (self.new.faults ≡ self.old.faults) }
+
+        // What the writer holds grew by the bytes, where it tells.
+        ensures written { OnOk result (Appends (W.contents self.old.out) (W.contents self.new.out) bytes.now) }
+    {
         if self.out.write_all(bytes).is_err() || self.out.flush().is_err() {
             self.faults = self.faults.saturating_add(1);
             return Err(SinkFailed);

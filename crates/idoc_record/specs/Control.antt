@@ -19,6 +19,7 @@ field_of control field = text_at (span_of field) control
 abbrev pub is_text : List ℕ → List ℕ → Bool
 is_text text other = pointwise nat_eq text other
 
+-- the name of the table of control records
 abbrev pub is_control_table : List ℕ → Bool
 is_control_table text = is_text text (codes "EDI_DC40")
 

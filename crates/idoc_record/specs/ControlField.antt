@@ -4,6 +4,7 @@ use Rattle.idoc_record.specs.declared.span.Span.{Span}
 use Rattle.idoc_record.specs.declared.control_field.ControlField.{ControlField}
 use Rattle.idoc_record.specs.declared.control_field.ControlField.TheVariants.{Tabnam, Mandt, Docnum, Docrel, Status, Direct, Outmod, Exprss, Test, Idoctyp, Cimtyp, Mestyp, Mescod, Mesfct, Std, Stdvrs, Stdmes, Sndpor, Sndprt, Sndpfc, Sndprn, Sndsad, Sndlad, Rcvpor, Rcvprt, Rcvpfc, Rcvprn, Rcvsad, Rcvlad, Credat, Cretim, Refint, Refgrp, Refmes, Arckey, Serial}
 
+-- a place by its two numbers
 abbrev pub span : ℕ → ℕ → Span
 span offset length = record { offset = offset; length = length }
 

@@ -8,11 +8,12 @@ use Rattle.idoc_record.specs.declared.fault.RecordFault.TheVariants.{TooLong, Wr
 use Rattle.idoc_record.specs.ControlField.{span}
 use Rattle.idoc_record.specs.Parts.{text_at, told_length}
 
--- the fields that are read: the name of the segment, and its data. Between them stand MANDT (3 bytes at 30), DOCNUM
--- (16 at 33), SEGNUM (6 at 49), PSGNUM (6 at 55) and HLEVEL (2 at 61), which are not consulted
+-- the name of the segment. Between it and its data stand MANDT (3 bytes at 30), DOCNUM (16 at 33), SEGNUM (6 at 49),
+-- PSGNUM (6 at 55) and HLEVEL (2 at 61), which are not consulted
 abbrev pub segnam : Span
 segnam = span 0 30
 
+-- the data of the segment
 abbrev pub sdata : Span
 sdata = span 63 1000
 
@@ -26,6 +27,7 @@ abbrev pub is_no_segment : List ℕ → Bool
 is_no_segment [] = true
 is_no_segment (b ∷ name) = starts_with nat_eq (b ∷ name) (codes "EDI_")
 
+-- what a data record may hold: a name of another kind, and at most 1,000 bytes that end in no blank
 pub record IsSegment (segment : Segment) : Type 0 where
   pub named : length segment.segnam ≤ 30
   pub segnam : IsTrue (not (is_no_segment segment.segnam))

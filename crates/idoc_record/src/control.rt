@@ -38,16 +38,18 @@ impl Control {
 
     /// The text of a field, without the blanks at its end.
     pub fn get(&self, field: ControlField) -> &[u8]
-        ensures { result.now ≡ field_of self.now field }
+        ensures text { result.now ≡ field_of self.now field }
+        ensures record { IsControl self.now }
     {
-        text_of(&self.bytes, field)
+        field_of(&self.bytes, field)
     }
 
     /// Writes the text of a field. The rest of the record stays.
     pub fn set(&mut self, field: ControlField, value: &[u8])
         requires fits { length value.now ≤ (span_of field).length }
         requires allowed { IsAllowed field (trimmed value.now) }
-        ensures { self.new ≡ with_text (span_of field) value.now self.old }
+        ensures written { self.new ≡ with_text (span_of field) value.now self.old }
+        ensures record { IsControl self.new }
     {
         let span = field.span();
         let (_, rest) = self.bytes.split_at_mut(span.offset);
@@ -69,29 +71,29 @@ pub fn read_control(bytes: &[u8]) -> Result<Control, RecordFault>
     if text.len() > Control::LEN {
         return Err(RecordFault::TooLong(told_length(text.len())));
     }
-    let mut bytes = [b' '; 524];
-    put_padded(&mut bytes, text);
-    control_of(bytes)
+    let mut padded = [b' '; 524];
+    put_padded(&mut padded, text);
+    control_of(padded)
 }
 
 /// The bytes as a control record.
 fn control_of(bytes: [u8; 524]) -> Result<Control, RecordFault>
     ensures { result ≡ control_of bytes }
 {
-    if text_of(&bytes, ControlField::Tabnam) != b"EDI_DC40".as_slice() {
+    if field_of(&bytes, ControlField::Tabnam) != b"EDI_DC40".as_slice() {
         return Err(RecordFault::WrongTable);
     }
-    if !is_number(text_of(&bytes, ControlField::Docnum)) {
+    if !is_number(field_of(&bytes, ControlField::Docnum)) {
         return Err(RecordFault::BadNumber(ControlField::Docnum));
     }
-    if !is_direction(text_of(&bytes, ControlField::Direct)) {
+    if !is_direction(field_of(&bytes, ControlField::Direct)) {
         return Err(RecordFault::BadNumber(ControlField::Direct));
     }
     Ok(Control { bytes })
 }
 
 /// The text of a field, without the blanks at its end.
-fn text_of(bytes: &[u8; 524], field: ControlField) -> &[u8]
+fn field_of(bytes: &[u8; 524], field: ControlField) -> &[u8]
     ensures { result.now ≡ field_of bytes.now field }
 {
     let span = field.span();

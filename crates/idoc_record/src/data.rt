@@ -13,7 +13,9 @@ use std::marker::Model;
 /// most 1,000 bytes without blanks at their end. Contracts see both texts.
 #[derive(Debug, Drop)]
 pub struct Data {
+    /// The name of the segment.
     pub segnam: Fixed<30>,
+    /// The data of the segment.
     pub sdata: Items<u8>,
 }
 
@@ -46,7 +48,8 @@ impl Data {
 /// begins with `EDI_`.
 pub fn read_data(alloc: Global, bytes: &[u8]) -> Result<Data, RecordFault>
     ensures found { (segment : Segment) → result ≡ Ok segment → IsDataLine bytes.now segment }
-    ensures only { (segment : Segment) → IsDataLine bytes.now segment → result ≢ Err RecordFault.OutOfMemory → result ≡ Ok segment }
+    ensures only { (segment : Segment) → IsDataLine bytes.now segment
+        → result ≢ Err RecordFault.OutOfMemory → result ≡ Ok segment }
     ensures first_fault { result ≢ Err RecordFault.OutOfMemory → result ≡ data_read bytes.now }
 {
     let text = trimmed(bytes);

@@ -14,6 +14,7 @@ pub enum RecordFault {
     /// DOCNUM has a byte that is no digit, or DIRECT is not `1`, `2` or blank.
     #[error("no such number: {0:?}")]
     BadNumber(ControlField),
+    /// A request for memory was refused.
     #[error("out of memory")]
     OutOfMemory,
 }

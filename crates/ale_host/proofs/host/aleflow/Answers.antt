@@ -3,7 +3,7 @@ use Rattle.ale_host.proofs.host.aleflow.Goals as goal
 
 pub returns-clause-ended : goal.returns-clause-ended
 returns-clause-ended g c = λ taken.
-    let put = c.out_of_memory.ensures.ended taken in (OutOfMemory, tt, put.0, put.1)
+    let put = c.out_of_memory.ensures.ended taken in (OutOfMemory, tt, put.0, put.1, put.2)
 
 pub returns-clause-write_fault : goal.returns-clause-write_fault
 returns-clause-write_fault g c = λ failed.

@@ -12,7 +12,7 @@ read c =
     let is_text : text ≡ trimmed c.args.bytes.now = c.trimmed-text.ensures in
     IsDataLine-read c.args.bytes.now (record { segnam = c.segnam_of-segnam.result; sdata = c.in_ok-sdata.sdata })
     (subst (λ (t : _). length t ≤ 1063) is_text c.if-text-gt-LEN.false)
-    (sym (ap is_no_segment c.trimmed.ensures) ∙ sym c.is_no_segment.ensures ∙ c.if-is_no_segment.false)
+    (sym (ap is_no_segment c.trimmed.ensures.text) ∙ sym c.is_no_segment.ensures ∙ c.if-is_no_segment.false)
     (c.segnam_of-segnam.ensures ∙ ap (λ t. text_at segnam (padded 1063 t)) is_text)
     (c.in_ok-sdata.ensures.ok ∙ c.sdata_of.ensures ∙ ap (λ t. text_at sdata (padded 1063 t)) is_text)
 

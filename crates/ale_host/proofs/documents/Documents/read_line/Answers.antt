@@ -1,7 +1,7 @@
 use Rattle.std.proofs.Common.{◌≡◌, ◌<◌, List, [], ◌∷◌, ◌++◌, sym, subst}
 use Rattle.std.specs.Prelude.{sum_by}
 use Rattle.ale_host.specs.declared.documents.Document.{Document}
-use Rattle.ale_host.specs.declared.documents.LineEnd.TheVariants.{Unread}
+use Rattle.ale_host.specs.declared.documents.LineRefusal.TheVariants.{Unread}
 use Rattle.ale_host.specs.DocumentFile.{AreDocuments, segment_count}
 use Rattle.ale_base.proofs.OnOkLemmas.{on_ok, on_ok_both}
 use Rattle.ale_host.proofs.DocumentLemmas.{AreDocuments-begun, AreDocuments-with_segment, unread-full, unread-no_room, unread-no_record}
@@ -44,8 +44,8 @@ returns-in-Err c = record {
       unread-no_record c.args.line.now
       (λ bytes is. let found = (c.read_control.ensures.record bytes).1 is in absurd (cc))
       (λ new is.
-      let unread : c.line_end_of.result ≡ Unread = cc in
-      let other = c.line_end_of.ensures unread in
+      let unread : c.refusal_of.result ≡ Unread = cc in
+      let other = c.refusal_of.ensures unread in
       let found = c.read_data.ensures.only new is (λ same. other (cc)) in absurd (cc))
       lines documents more;
 }
