@@ -2,3 +2,4 @@ pub mod HexadecimalLemmas
 pub mod TidLemmas
 pub mod SnocLemmas
 pub mod OnOkLemmas
+pub mod QueueNameLemmas

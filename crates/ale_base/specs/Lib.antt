@@ -2,3 +2,4 @@ pub mod TrimmedLemmas
 pub mod Blanks
 pub mod Hexadecimal
 pub mod Tid
+pub mod QueueName

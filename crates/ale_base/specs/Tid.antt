@@ -1,5 +1,5 @@
 -- Transaction ids.
-use Rattle.std.specs.Prelude.{ℕ, ◌≤◌, ◌++◌, List, codes}
+use Rattle.std.specs.Prelude.{ℕ, ◌≤◌, ◌==◌, ◌&&◌, Bool, ◌++◌, List, codes}
 use Rattle.ale_base.specs.Hexadecimal.{digits_of}
 
 -- a unit of work of a system
@@ -17,3 +17,7 @@ pub record IsTid (tid : TidOf) : Type 0 where
   pub system_most : tid.system ≤ 16
   pub unit_least : 1 ≤ tid.unit
   pub unit_most : tid.unit ≤ 65536
+
+-- whether two ids are the same
+abbrev pub is_tid : TidOf → TidOf → Bool
+is_tid a b = (a.system == b.system) && (a.unit == b.unit)

@@ -6,21 +6,29 @@
 #![tactic(auto)]
 
 mod blanks;
+mod change;
 mod doc_num;
 mod fixed;
 mod hexadecimal;
 mod items;
+mod mark;
 mod out_of_memory;
+mod queue_name;
 mod system_no;
 mod tid;
+mod way;
 
 pub use blanks::trimmed;
+pub use change::{Change, FieldValue};
 pub use doc_num::DocNum;
 pub use fixed::Fixed;
 pub use items::Items;
+pub use mark::Mark;
 pub use out_of_memory::OutOfMemory;
+pub use queue_name::{NameFault, QueueName};
 pub use system_no::SystemNo;
 pub use tid::Tid;
+pub use way::Way;
 
 #[cfg(test)]
 mod tests;

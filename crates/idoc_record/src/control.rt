@@ -4,6 +4,7 @@ ghost use Rattle.idoc_record.specs.Control.{IsControlLine, control_read, control
 use crate::parts::{put_padded, told_length};
 use crate::{ControlField, RecordFault};
 use ale_base::trimmed;
+use std::alloc::AllocError;
 use std::marker::Model;
 
 /// A control record EDI_DC40: 524 bytes with TABNAM `EDI_DC40`, a DOCNUM of digits or blank, and a DIRECT of `1`, `2`
@@ -55,6 +56,16 @@ impl Control {
         let (_, rest) = self.bytes.split_at_mut(span.offset);
         let (place, _) = rest.split_at_mut(span.length);
         put_padded(place, value);
+    }
+}
+
+impl Clone for Control {
+    ghost use Rattle.std.specs.Prelude.{◌≡◌};
+
+    ghost is_clone = { λ control copy. copy ≡ control };
+
+    fn clone(&self) -> Result<Control, AllocError> {
+        Ok(Control { bytes: self.bytes })
     }
 }
 

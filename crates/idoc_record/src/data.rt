@@ -6,7 +6,7 @@ ghost use Rattle.idoc_record.specs.Data.{Segment, IsDataLine, data_read, segnam,
 use crate::RecordFault;
 use crate::parts::told_length;
 use ale_base::{Fixed, Items, trimmed};
-use std::alloc::Global;
+use std::alloc::{AllocError, Global};
 use std::marker::Model;
 
 /// The data record EDI_DD40 of one segment: a SEGNAM that is not blank and does not begin with `EDI_`, and SDATA of at
@@ -40,6 +40,19 @@ impl Data {
 
     /// The offset of SDATA, in bytes.
     const SDATA_OFFSET: usize = 63;
+}
+
+impl Clone for Data {
+    ghost use Rattle.std.specs.Prelude.{◌≡◌};
+
+    ghost is_clone = { λ segment copy. copy ≡ segment };
+
+    fn clone(&self) -> Result<Data, AllocError> {
+        Ok(Data {
+            segnam: self.segnam,
+            sdata: self.sdata.clone()?,
+        })
+    }
 }
 
 /// The data record of a line, which ends where its blanks begin and may be shorter than the record.

@@ -1,0 +1,35 @@
+use crate::Items;
+use std::alloc::AllocError;
+
+/// A field of an object, and what it holds.
+#[derive(Debug, PartialEq, Eq, Drop)]
+pub struct FieldValue {
+    /// The name of the field.
+    pub field: Items<u8>,
+    /// Its value, without blanks at the end.
+    pub value: Items<u8>,
+}
+
+impl Clone for FieldValue {
+    ghost use Rattle.std.specs.Prelude.{◌≡◌};
+
+    ghost is_clone = { λ field copy. copy ≡ field };
+
+    fn clone(&self) -> Result<FieldValue, AllocError> {
+        Ok(FieldValue {
+            field: self.field.clone()?,
+            value: self.value.clone()?,
+        })
+    }
+}
+
+/// A change of an object: the fields that get a value, in the order given.
+#[derive(Debug, PartialEq, Eq, Drop)]
+pub struct Change {
+    /// The name of the object's kind.
+    pub kind: Items<u8>,
+    /// The key of the object.
+    pub key: Items<u8>,
+    /// The fields.
+    pub fields: Items<FieldValue>,
+}

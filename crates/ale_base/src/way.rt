@@ -1,0 +1,8 @@
+/// A direction, seen from a system.
+#[derive(Clone, Copy, Debug, PartialEq, Eq)]
+pub enum Way {
+    /// To another system.
+    Outgoing,
+    /// From another system.
+    Incoming,
+}

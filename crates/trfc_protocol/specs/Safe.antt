@@ -1,0 +1,56 @@
+-- What holds of the world at every moment.
+use Rattle.std.specs.Prelude.{◌≡◌, ◌≢◌, ℕ, ◌<◌, ◌≤◌, ⊤, Bool, true, false, not, ◌==◌, ◌&&◌, Option, Some, None, List, [], ◌∷◌, length, All}
+use Rattle.ale_base.specs.Tid.{TidOf}
+use Rattle.unit_core.specs.declared.ale_unit.AleUnit.{AleUnit}
+use Rattle.unit_core.specs.declared.records.Record.{Record}
+use Rattle.unit_core.specs.Filters.{received}
+use Rattle.unit_core.specs.Queues.{is_among}
+use Rattle.unit_core.specs.Once.{Once}
+use Rattle.trfc_protocol.specs.declared.world.World.{World}
+use Rattle.trfc_protocol.specs.declared.world.SystemState.{SystemState}
+use Rattle.trfc_protocol.specs.declared.held.Held.{Held}
+use Rattle.trfc_protocol.specs.declared.held.HeldKind.{HeldKind}
+use Rattle.trfc_protocol.specs.declared.held.HeldKind.TheVariants.{Out, In, Direct}
+use Rattle.trfc_protocol.specs.Meaning.{Meaning}
+use Rattle.trfc_protocol.specs.Legal.{IsLegal, is_empty, is_free_outbound, is_free_inbound}
+use Rattle.trfc_protocol.specs.Worlds.{log_of, is_up, offers_now, committed_by, committed_unit, is_claimed, claim_of}
+use Rattle.trfc_protocol.specs.Offered.{heads_at_sender}
+
+-- a direct run may end: the unit has no inbound queue and an offered function, was not received, and heads its queues
+abbrev pub is_direct : {R : Type 0} → Meaning → World R → ℕ → Option AleUnit → Bool
+is_direct rules world system None = false
+is_direct rules world system (Some unit) =
+    (unit.receiver == system)
+    && is_empty unit.inq
+    && offers_now rules world system unit.function
+    && not (is_among unit.tid (received (log_of world system)))
+    && heads_at_sender rules world unit
+
+-- what a claim was made for still holds
+abbrev pub still_holds : {R : Type 0} → Meaning → World R → Held → HeldKind → Bool
+still_holds rules world held Out = (held.system == held.tid.system)
+    && is_free_outbound (committed_by rules world held.system) (log_of world held.system) held.tid
+still_holds rules world held In = is_free_inbound (log_of world held.system) held.tid
+still_holds rules world held Direct = is_direct rules world held.system (committed_unit rules world held.tid)
+
+-- a claim stands where its system is up, and what it was made for still holds
+pub record Stands {R : Type 0} (rules : Meaning) (world : World R) (held : Held) : Type 0 where
+  pub up : is_up world held.system ≡ true
+  pub holds : still_holds rules world held held.kind ≡ true
+  pub number : held.number < world.next_number
+
+-- claims differ in their numbers, and no unit has two of one kind
+abbrev pub AreApart : List Held → Type 0
+AreApart [] = ⊤
+AreApart (held ∷ others) = (claim_of held.number others ≡ None) × (is_claimed held.kind held.tid others ≡ false) × AreApart others
+
+-- the exactly-once law holds of legal logs, and each claim stands. No system has a record that it may find at its
+-- opening, since none has fallen
+pub record Safe {R : Type 0} (rules : Meaning) (world : World R) : Type 0 where
+  pub systems : length world.systems ≡ rules.systems
+  pub legal : (system : ℕ) → IsLegal rules system (log_of world system)
+  pub begun : (system : ℕ) → 1 ≤ system → system ≤ rules.systems → log_of world system ≢ []
+  pub once : Once (committed_by rules world) (log_of world)
+  pub settled : All (λ state. state.rest ≡ None) world.systems
+  pub stand : All (Stands rules world) world.claims
+  pub apart : AreApart world.claims

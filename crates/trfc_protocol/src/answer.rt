@@ -1,0 +1,16 @@
+/// How a receiver answers the arrival of a unit.
+#[derive(Clone, Copy, Debug, PartialEq, Eq)]
+pub enum Answer {
+    /// The receiver is down.
+    Down,
+    /// The unit was received.
+    Known,
+    /// A direct run of the unit is under way.
+    Busy,
+    /// The unit has no inbound queue, and its function is not offered.
+    SysFail,
+    /// The unit has no inbound queue: a direct run begins.
+    Run,
+    /// The unit is taken in.
+    New,
+}

@@ -1,0 +1,26 @@
+//! The protocol of transactional and queued calls as a pure machine: the logs of all systems and the claims of their
+//! workers, and what each event makes of them.
+//!
+//! Contract: from a world that is safe every list of events gives a world that is safe, so each unit is taken and
+//! executed once, and in the order of its queues, whatever is lost or repeated; and each step is exactly that of the
+//! definition. The definitions are in `specs/`: `Meaning` and `Legal` (the rules of a landscape, and which record may
+//! follow a log), `Worlds`, `Offered`, `Happens` (the events), `Safe`.
+#![tactic(auto)]
+
+mod answer;
+mod event;
+mod happens;
+mod held;
+mod legal;
+mod offered;
+mod rules;
+mod start;
+mod steps;
+mod world;
+
+pub use answer::Answer;
+pub use event::{Action, CoreAnswer, Event, ReplyTo};
+pub use held::{Held, HeldKind};
+pub use rules::Rules;
+pub use steps::{run_events, step};
+pub use world::{SystemState, World};

@@ -1,0 +1,4 @@
+pub mod MemberLemmas
+pub mod TidLemmas
+pub mod QueueLemmas
+pub mod OnceLemmas

@@ -1,0 +1,388 @@
+-- The exactly-once law stays where one record joins the log of one system.
+use Rattle.std.specs.Prelude.{find, filter, Contains, All}
+use Rattle.std.specs.List.{list_any, filter_map}
+use Rattle.std.proofs.Common.{◌≡◌, ◌≢◌, ℕ, ◌<◌, ◌≤◌, ◌==◌, ◌&&◌, Bool, true, false, not, Option, Some, None, List, [], ◌∷◌, ◌++◌, length, map, take, inl, inr, ◌⊎◌, refl, sym, ap, subst, ◌∙◌, arith}
+use Rattle.std.proofs.lemmas.Bool.{cases_Bool, cases_eq, cases_lt, and_parts, and_right, and_left, both_ways, not-true, false_from_ne_true, eqb-true}
+use Rattle.std.proofs.lemmas.List.{append-nil, map-append, take-append-le, take_all, length-append}
+use Rattle.std.proofs.lemmas.List.Elements.{All-push, All-weaker, All-contains, Contains-append_left, Contains-push, All-from_recursion}
+use Rattle.std.proofs.lemmas.Option.{same_Some, none-some}
+use Rattle.ale_base.specs.Tid.{TidOf, is_tid}
+use Rattle.unit_core.specs.declared.ale_unit.AleUnit.{AleUnit}
+use Rattle.unit_core.specs.declared.records.Record.{Record}
+use Rattle.unit_core.specs.declared.queue.Queue.{Queue}
+use Rattle.unit_core.specs.declared.queue.Queue.TheVariants.{Outbound, Inbound}
+use Rattle.unit_core.specs.Filters.{taken_by, executed_by, done_by, ended_by, forgotten_by, received, executed, done_in, ended_in, forgotten_in}
+use Rattle.unit_core.specs.Queues.{is_listed, is_among, is_outstanding, unit_named, tids_of, has_name, stands_in, in_queue, heads_outbound, heads_inbound}
+use Rattle.unit_core.specs.Once.{IsPrefix, NoneTwice, TakenOnce, TakenWasCommitted, TakenInOrder, executed_units, ExecutedInOrder, DoneWasTaken, ForgottenWasDone, EndedWasForgotten, Once}
+use Rattle.unit_core.proofs.MemberLemmas.{Contains-map, Contains-map_back, Contains-filter, Contains-filter_back, IsPrefix-same, IsPrefix-append, IsPrefix-trans, IsPrefix-filter, IsPrefix-Contains, IsPrefix-filter_map, filter_map-None, filter_map-Some, filter-kept, filter-left_out, filter_map-agree, filter_map-Contains, filter_map-Contains_back, find-longer}
+use Rattle.unit_core.proofs.TidLemmas.{is_tid-same, is_listed-Contains, Contains-is_listed, is_among-listed, is_among-Contains, Contains-is_among, unit_named-Some, unit_named-Contains, NoneTwice-push, same_unit}
+use Rattle.unit_core.proofs.QueueLemmas.{is_head-outbound, is_head-inbound, next_of_queue}
+
+-- one record joined the log of one system
+pub record Joins (logs after : ℕ → List Record) (system : ℕ) (next : Record) : Type 0 where
+  pub here : after system ≡ logs system ++ next ∷ []
+  pub elsewhere : (other : ℕ) → other ≢ system → after other ≡ logs other
+
+-- a unit may be taken in: it was committed for this system and not received, and it heads its outbound queues
+pub record MayTake (committed : ℕ → List AleUnit) (logs : ℕ → List Record) (system : ℕ) (unit : AleUnit) : Type 0 where
+  pub receiver : unit.receiver ≡ system
+  pub was_committed : Contains (committed unit.sender) unit
+  pub new : is_among unit.tid (received (logs system)) ≡ false
+  pub heads : heads_outbound (done_in (logs unit.sender)) (committed unit.sender) unit ≡ true
+
+-- a unit that was received may be executed: it is not yet, and it heads its inbound queues
+pub record MayExecute (log : List Record) (tid : TidOf) : Type 0 where
+  pub unit : AleUnit
+  pub named : unit_named tid (received log) ≡ Some unit
+  pub open_ : is_listed tid (executed log) ≡ false
+  pub heads : heads_inbound (executed log) (received log) unit ≡ true
+
+-- a unit with no inbound queue may be taken in and executed in one record
+pub record MayRun (next : Record) (tid : TidOf) : Type 0 where
+  pub unit : AleUnit
+  pub taken : taken_by next ≡ Some unit
+  pub its_tid : unit.tid ≡ tid
+  pub direct : unit.inq ≡ []
+
+-- the unit of an id was received by its receiver
+abbrev pub WasTaken : (ℕ → List AleUnit) → (ℕ → List Record) → ℕ → TidOf → Type 0
+WasTaken committed logs system tid = (unit : AleUnit) × (unit.tid ≡ tid) × Contains (committed system) unit × Contains (received (logs unit.receiver)) unit
+
+-- the id of a unit was forgotten by its receiver
+abbrev pub WasForgotten : (ℕ → List AleUnit) → (ℕ → List Record) → ℕ → TidOf → Type 0
+WasForgotten committed logs system tid = (unit : AleUnit) × (unit.tid ≡ tid) × Contains (committed system) unit × Contains (forgotten_in (logs unit.receiver)) tid
+
+-- the record may join: what it takes in, executes, finishes, forgets and ends is in order
+pub record MayJoin (committed : ℕ → List AleUnit) (logs : ℕ → List Record) (system : ℕ) (next : Record) : Type 0 where
+  pub takes : (unit : AleUnit) → taken_by next ≡ Some unit → MayTake committed logs system unit
+  pub executes : (tid : TidOf) → executed_by next ≡ Some tid → ((taken_by next ≡ None) × MayExecute (logs system) tid) ⊎ MayRun next tid
+  pub runs : (unit : AleUnit) → taken_by next ≡ Some unit → executed_by next ≡ None ⊎ ((executed_by next ≡ Some unit.tid) × (unit.inq ≡ []))
+  pub finishes : (tid : TidOf) → done_by next ≡ Some tid → WasTaken committed logs system tid
+  pub forgets : (tid : TidOf) → forgotten_by next ≡ Some tid → Contains (done_in (logs tid.system)) tid
+  pub ends : (tid : TidOf) → ended_by next ≡ Some tid → WasForgotten committed logs system tid
+
+-- an option is one of its two cases
+cases_Option : {A : Type 0} (o : Option A) → (o ≡ None) ⊎ ((x : A) × (o ≡ Some x))
+cases_Option None = inl refl
+cases_Option (Some x) = inr (x, refl)
+
+-- logs grow
+pub Joins-grows : (logs after : ℕ → List Record) (system : ℕ) (next : Record) → Joins logs after system next → (other : ℕ) → IsPrefix (logs other) (after other)
+Joins-grows logs after system next joins other =
+    elim (cases_eq other system) [
+      | inl same ↦ subst (λ s. IsPrefix (logs s) (after s)) (sym same) (next ∷ [], sym joins.here)
+      | inr differs ↦ subst (λ log. IsPrefix (logs other) log) (sym (joins.elsewhere other differs)) (IsPrefix-same (logs other))
+    ]
+
+-- what holds of each system's log before, and of the one log that a record joined, holds of each after
+pub at_each : (logs after : ℕ → List Record) (system : ℕ) (next : Record) → Joins logs after system next → (P : ℕ → List Record → Type 0)
+    → ((other : ℕ) → P other (logs other)) → P system (logs system ++ next ∷ []) → (other : ℕ) → P other (after other)
+at_each logs after system next joins P before here other =
+    elim (cases_eq other system) [
+      | inl same ↦ subst (λ s. P s (after s)) (sym same) (subst (P system) (sym joins.here) here)
+      | inr differs ↦ subst (P other) (sym (joins.elsewhere other differs)) (before other)
+    ]
+
+module _ (committed : ℕ → List AleUnit) (logs : ℕ → List Record) (system : ℕ) (next : Record)
+    (numbered : (s : ℕ) → NoneTwice (tids_of (committed s))) (once : Once committed logs) (may : MayJoin committed logs system next) where
+  -- ---- taken once
+
+  taken_once : TakenOnce (logs system ++ next ∷ [])
+  taken_once =
+      elim (cases_Option (taken_by next)) [
+        | inl none ↦ subst (λ units. NoneTwice (tids_of units)) (sym (filter_map-None taken_by (logs system) next none)) (once.taken_once system)
+        | inr some ↦ subst (λ units. NoneTwice (tids_of units)) (sym (filter_map-Some taken_by (logs system) next some.0 some.1))
+            (subst NoneTwice (sym (map-append (λ u. u.tid) (received (logs system)) (some.0 ∷ [])))
+              (NoneTwice-push (tids_of (received (logs system))) some.0.tid (once.taken_once system)
+                (sym (is_among-listed some.0.tid (received (logs system))) ∙ (may.takes some.0 some.1).new)))
+      ]
+
+  -- ---- taken was committed
+
+  taken_was_committed : TakenWasCommitted committed system (logs system ++ next ∷ [])
+  taken_was_committed =
+      let P : AleUnit → Type 0 = λ unit. (unit.receiver ≡ system) × Contains (committed unit.sender) unit in
+      elim (cases_Option (taken_by next)) [
+        | inl none ↦ subst (All P) (sym (filter_map-None taken_by (logs system) next none)) (once.taken_was_committed system)
+        | inr some ↦ let take = may.takes some.0 some.1 in
+            subst (All P) (sym (filter_map-Some taken_by (logs system) next some.0 some.1))
+              (All-push P (received (logs system)) some.0 (once.taken_was_committed system) (take.receiver, take.was_committed))
+      ]
+
+  -- ---- taken in outbound order
+
+  -- a unit of a queue that is done stands among those of the queue that were received
+  done_of_queue : (sender : ℕ) (name : List ℕ) (v : AleUnit) → Contains (committed sender) v → stands_in (Outbound sender system name) v ≡ true
+      → is_listed v.tid (done_in (logs sender)) ≡ true → is_among v.tid (in_queue (Outbound sender system name) (received (logs system))) ≡ true
+  done_of_queue sender name v has stands listed =
+      let was : WasTaken committed logs sender v.tid =
+        All-contains (WasTaken committed logs sender) (done_in (logs sender)) v.tid (once.done_was_taken sender) (Contains-is_listed v.tid (done_in (logs sender)) listed) in
+      let same : was.0 ≡ v = same_unit (committed sender) was.0 v (numbered sender) was.2 has was.1 in
+      let to : v.receiver ≡ system = eqb-true v.receiver system (and_parts (v.sender == sender) (v.receiver == system) (and_parts ((v.sender == sender) && (v.receiver == system)) (has_name name v.outq) stands).0).1 in
+      let here : Contains (received (logs system)) v =
+        subst (λ s. Contains (received (logs s)) v) to (subst (λ u. Contains (received (logs u.receiver)) u) same was.3) in
+      is_among-Contains v (in_queue (Outbound sender system name) (received (logs system)))
+        (Contains-filter (stands_in (Outbound sender system name)) (received (logs system)) v here stands)
+
+  taken_next : (sender : ℕ) (name : List ℕ) (unit : AleUnit) → MayTake committed logs system unit → stands_in (Outbound sender system name) unit ≡ true
+      → IsPrefix (in_queue (Outbound sender system name) (received (logs system)) ++ unit ∷ []) (in_queue (Outbound sender system name) (committed sender))
+  taken_next sender name unit take stands =
+      let from : unit.sender ≡ sender = eqb-true unit.sender sender (and_parts (unit.sender == sender) (unit.receiver == system) (and_parts ((unit.sender == sender) && (unit.receiver == system)) (has_name name unit.outq) stands).0).0 in
+      next_of_queue (done_in (logs sender)) (committed sender) (in_queue (Outbound sender system name) (received (logs system))) (Outbound sender system name) unit
+        (numbered sender) (once.taken_in_order system sender name)
+        (subst (λ s. Contains (committed s) unit) from take.was_committed)
+        (is_head-outbound (done_in (logs sender)) (committed sender) unit sender system name
+          (subst (λ s. heads_outbound (done_in (logs s)) (committed s) unit ≡ true) from take.heads) stands)
+        (done_of_queue sender name)
+        (false_from_ne_true (is_among unit.tid (in_queue (Outbound sender system name) (received (logs system)))) (λ among.
+          let found = Contains-is_among unit.tid (in_queue (Outbound sender system name) (received (logs system))) among in
+          let back = Contains-filter_back (stands_in (Outbound sender system name)) (received (logs system)) found.0 found.1 in
+          both_ways (is_among unit.tid (received (logs system))) take.new
+            (subst (λ t. is_among t (received (logs system)) ≡ true) found.2 (is_among-Contains found.0 (received (logs system)) back.0))))
+
+  taken_in_order : TakenInOrder committed system (logs system ++ next ∷ [])
+  taken_in_order sender name =
+      let queue : Queue = Outbound sender system name in
+      let P : List AleUnit → Type 0 = λ units. IsPrefix (in_queue queue units) (in_queue queue (committed sender)) in
+      elim (cases_Option (taken_by next)) [
+        | inl none ↦ subst P (sym (filter_map-None taken_by (logs system) next none)) (once.taken_in_order system sender name)
+        | inr some ↦ subst P (sym (filter_map-Some taken_by (logs system) next some.0 some.1))
+            (elim (cases_Bool (stands_in queue some.0)) [
+              | inl stands ↦ subst (λ units. IsPrefix units (in_queue queue (committed sender))) (sym (filter-kept (stands_in queue) (received (logs system)) some.0 stands))
+                  (taken_next sender name some.0 (may.takes some.0 some.1) stands)
+              | inr out ↦ subst (λ units. IsPrefix units (in_queue queue (committed sender))) (sym (filter-left_out (stands_in queue) (received (logs system)) some.0 out))
+                  (once.taken_in_order system sender name)
+            ])
+      ]
+
+  -- ---- executed in inbound order
+
+  -- what was executed was received
+  executed_was_received : All (λ tid. Contains (tids_of (received (logs system))) tid) (executed (logs system))
+  executed_was_received =
+      subst (λ log. All (λ tid. Contains (tids_of (received log)) tid) (executed log)) (take_all (length (logs system)) (logs system) (omega arith))
+        ((once.executed_in_order system).was_received (length (logs system)))
+
+  -- the unit of an id that was executed is found among those received
+  executed_is_found : (tid : TidOf) → Contains (executed (logs system)) tid → (unit : AleUnit) × (unit_named tid (received (logs system)) ≡ Some unit)
+  executed_is_found tid has =
+      let back = Contains-map_back (λ u. u.tid) (received (logs system)) tid (All-contains (λ t. Contains (tids_of (received (logs system))) t) (executed (logs system)) tid executed_was_received has) in
+      (back.0, subst (λ t. unit_named t (received (logs system)) ≡ Some back.0) back.2 (unit_named-Contains (received (logs system)) back.0 (once.taken_once system) back.1))
+
+  received_tids_grow : (tid : TidOf) → Contains (tids_of (received (logs system))) tid → Contains (tids_of (received (logs system ++ next ∷ []))) tid
+  received_tids_grow tid has =
+      let back = Contains-map_back (λ u. u.tid) (received (logs system)) tid has in
+      let there = IsPrefix-Contains (received (logs system)) (received (logs system ++ next ∷ [])) back.0 (IsPrefix-filter_map taken_by (logs system) (logs system ++ next ∷ []) (next ∷ [], refl)) back.1 in
+      subst (Contains (tids_of (received (logs system ++ next ∷ [])))) back.2 (Contains-map (λ u. u.tid) (received (logs system ++ next ∷ [])) back.0 there)
+
+  -- the id that a record executes was received, in this record or before
+  next_was_received : (tid : TidOf) → executed_by next ≡ Some tid → Contains (tids_of (received (logs system ++ next ∷ []))) tid
+  next_was_received tid executes =
+      elim (may.executes tid executes) [
+        | inl before ↦ let named = unit_named-Some tid (received (logs system)) before.1.unit before.1.named in
+            received_tids_grow tid (subst (Contains (tids_of (received (logs system)))) named.1 (Contains-map (λ u. u.tid) (received (logs system)) before.1.unit named.0))
+        | inr run ↦ subst (Contains (tids_of (received (logs system ++ next ∷ [])))) run.its_tid
+            (Contains-map (λ u. u.tid) (received (logs system ++ next ∷ [])) run.unit
+              (subst (λ units. Contains units run.unit) (sym (filter_map-Some taken_by (logs system) next run.unit run.taken)) (Contains-push (received (logs system)) run.unit)))
+      ]
+
+  all_received : All (λ tid. Contains (tids_of (received (logs system ++ next ∷ []))) tid) (executed (logs system ++ next ∷ []))
+  all_received =
+      let P : TidOf → Type 0 = λ tid. Contains (tids_of (received (logs system ++ next ∷ []))) tid in
+      let before : All P (executed (logs system)) = All-weaker (λ tid. Contains (tids_of (received (logs system))) tid) P received_tids_grow (executed (logs system)) executed_was_received in
+      elim (cases_Option (executed_by next)) [
+        | inl none ↦ subst (All P) (sym (filter_map-None executed_by (logs system) next none)) before
+        | inr some ↦ subst (All P) (sym (filter_map-Some executed_by (logs system) next some.0 some.1))
+            (All-push P (executed (logs system)) some.0 before (next_was_received some.0 some.1))
+      ]
+
+  was_received : (n : ℕ) → All (λ tid. Contains (tids_of (received (take n (logs system ++ next ∷ [])))) tid) (executed (take n (logs system ++ next ∷ [])))
+  was_received n =
+      let P : List Record → Type 0 = λ log. All (λ tid. Contains (tids_of (received log)) tid) (executed log) in
+      elim (cases_lt (length (logs system)) n) [
+        | inl behind ↦ subst P (sym (take_all n (logs system ++ next ∷ []) (omega (arith, length-append (logs system) (next ∷ []))))) all_received
+        | inr within ↦ subst P (sym (take-append-le n (logs system) (next ∷ []) within)) ((once.executed_in_order system).was_received n)
+      ]
+
+  -- an id that is not among those received is not among those executed
+  new_not_executed : (tid : TidOf) → is_among tid (received (logs system)) ≡ false → is_listed tid (executed (logs system)) ≡ false
+  new_not_executed tid new =
+      false_from_ne_true (is_listed tid (executed (logs system))) (λ listed.
+        both_ways (is_among tid (received (logs system))) new
+          (is_among-listed tid (received (logs system)) ∙ is_listed-Contains tid (tids_of (received (logs system)))
+            (All-contains (λ t. Contains (tids_of (received (logs system))) t) (executed (logs system)) tid executed_was_received (Contains-is_listed tid (executed (logs system)) listed))))
+
+  not_executed : (tid : TidOf) → executed_by next ≡ Some tid → is_listed tid (executed (logs system)) ≡ false
+  not_executed tid executes =
+      elim (may.executes tid executes) [
+        | inl before ↦ before.1.open_
+        | inr run ↦ new_not_executed tid (subst (λ t. is_among t (received (logs system)) ≡ false) run.its_tid (may.takes run.unit run.taken).new)
+      ]
+
+  executed_once : NoneTwice (executed (logs system ++ next ∷ []))
+  executed_once =
+      elim (cases_Option (executed_by next)) [
+        | inl none ↦ subst NoneTwice (sym (filter_map-None executed_by (logs system) next none)) (once.executed_in_order system).once
+        | inr some ↦ subst NoneTwice (sym (filter_map-Some executed_by (logs system) next some.0 some.1))
+            (NoneTwice-push (executed (logs system)) some.0 (once.executed_in_order system).once (not_executed some.0 some.1))
+      ]
+
+  -- the units executed so far are the same, where a unit more was received
+  same_executed_units : (unit : AleUnit) → filter_map (λ tid. unit_named tid (received (logs system) ++ unit ∷ [])) (executed (logs system)) ≡ executed_units (logs system)
+  same_executed_units unit =
+      filter_map-agree (λ tid. unit_named tid (received (logs system) ++ unit ∷ [])) (λ tid. unit_named tid (received (logs system))) (executed (logs system))
+        (λ tid has. let found = executed_is_found tid has in
+          find-longer (λ u. is_tid u.tid tid) (received (logs system)) (unit ∷ []) found.0 found.1 ∙ sym found.1)
+
+  -- a unit of an inbound queue that was executed stands among the units executed of the queue
+  executed_of_queue : (name : List ℕ) (v : AleUnit) → Contains (received (logs system)) v → stands_in (Inbound name) v ≡ true
+      → is_listed v.tid (executed (logs system)) ≡ true → is_among v.tid (in_queue (Inbound name) (executed_units (logs system))) ≡ true
+  executed_of_queue name v has stands listed =
+      is_among-Contains v (in_queue (Inbound name) (executed_units (logs system)))
+        (Contains-filter (stands_in (Inbound name)) (executed_units (logs system)) v
+          (filter_map-Contains (λ tid. unit_named tid (received (logs system))) (executed (logs system)) v.tid v
+            (Contains-is_listed v.tid (executed (logs system)) listed) (unit_named-Contains (received (logs system)) v (once.taken_once system) has))
+          stands)
+
+  not_among_executed : (name : List ℕ) (tid : TidOf) → is_listed tid (executed (logs system)) ≡ false → is_among tid (in_queue (Inbound name) (executed_units (logs system))) ≡ false
+  not_among_executed name tid open_ =
+      false_from_ne_true (is_among tid (in_queue (Inbound name) (executed_units (logs system)))) (λ among.
+        let found = Contains-is_among tid (in_queue (Inbound name) (executed_units (logs system))) among in
+        let back = Contains-filter_back (stands_in (Inbound name)) (executed_units (logs system)) found.0 found.1 in
+        let made = filter_map-Contains_back (λ t. unit_named t (received (logs system))) (executed (logs system)) found.0 back.0 in
+        let its : found.0.tid ≡ made.0 = (unit_named-Some made.0 (received (logs system)) found.0 made.2).1 in
+        both_ways (is_listed tid (executed (logs system))) open_
+          (is_listed-Contains tid (executed (logs system)) (subst (Contains (executed (logs system))) (sym its ∙ found.2) made.1)))
+
+  executed_next : (name : List ℕ) (tid : TidOf) (execute : MayExecute (logs system) tid) → stands_in (Inbound name) execute.unit ≡ true
+      → IsPrefix (in_queue (Inbound name) (executed_units (logs system)) ++ execute.unit ∷ []) (in_queue (Inbound name) (received (logs system)))
+  executed_next name tid execute stands =
+      let named = unit_named-Some tid (received (logs system)) execute.unit execute.named in
+      next_of_queue (executed (logs system)) (received (logs system)) (in_queue (Inbound name) (executed_units (logs system))) (Inbound name) execute.unit
+        (once.taken_once system) ((once.executed_in_order system).in_order name) named.0
+        (is_head-inbound (executed (logs system)) (received (logs system)) execute.unit name execute.heads stands)
+        (executed_of_queue name)
+        (not_among_executed name execute.unit.tid (subst (λ t. is_listed t (executed (logs system)) ≡ false) (sym named.1) execute.open_))
+
+  abbrev InOrder : List ℕ → List AleUnit → List TidOf → Type 0
+  InOrder name units tids = IsPrefix (in_queue (Inbound name) (filter_map (λ tid. unit_named tid units) tids)) (in_queue (Inbound name) units)
+
+  -- a unit is executed that was received before
+  in_order-executed : (name : List ℕ) (tid : TidOf) → MayExecute (logs system) tid → InOrder name (received (logs system)) (executed (logs system) ++ tid ∷ [])
+  in_order-executed name tid execute =
+      let queue : Queue = Inbound name in
+      subst (λ units. IsPrefix (in_queue queue units) (in_queue queue (received (logs system))))
+        (sym (filter_map-Some (λ t. unit_named t (received (logs system))) (executed (logs system)) tid execute.unit execute.named))
+        (elim (cases_Bool (stands_in queue execute.unit)) [
+          | inl stands ↦ subst (λ units. IsPrefix units (in_queue queue (received (logs system)))) (sym (filter-kept (stands_in queue) (executed_units (logs system)) execute.unit stands))
+              (executed_next name tid execute stands)
+          | inr out ↦ subst (λ units. IsPrefix units (in_queue queue (received (logs system)))) (sym (filter-left_out (stands_in queue) (executed_units (logs system)) execute.unit out))
+              ((once.executed_in_order system).in_order name)
+        ])
+
+  -- a unit is taken in, to be executed later
+  in_order-taken : (name : List ℕ) (unit : AleUnit) → InOrder name (received (logs system) ++ unit ∷ []) (executed (logs system))
+  in_order-taken name unit =
+      let queue : Queue = Inbound name in
+      subst (λ units. IsPrefix (in_queue queue units) (in_queue queue (received (logs system) ++ unit ∷ []))) (sym (same_executed_units unit))
+        (IsPrefix-trans (in_queue queue (executed_units (logs system))) (in_queue queue (received (logs system))) (in_queue queue (received (logs system) ++ unit ∷ []))
+          ((once.executed_in_order system).in_order name)
+          (IsPrefix-filter (stands_in queue) (received (logs system)) (received (logs system) ++ unit ∷ []) (unit ∷ [], refl)))
+
+  -- a unit with no inbound queue is taken in and executed
+  in_order-run : (name : List ℕ) (unit : AleUnit) → unit.inq ≡ [] → is_among unit.tid (received (logs system)) ≡ false
+      → InOrder name (received (logs system) ++ unit ∷ []) (executed (logs system) ++ unit.tid ∷ [])
+  in_order-run name unit direct new =
+      let queue : Queue = Inbound name in
+      let out : stands_in queue unit ≡ false = ap (has_name name) direct in
+      let units = received (logs system) ++ unit ∷ [] in
+      let named : unit_named unit.tid (received (logs system) ++ unit ∷ []) ≡ Some unit =
+        unit_named-Contains (received (logs system) ++ unit ∷ []) unit
+          (subst NoneTwice (sym (map-append (λ u. u.tid) (received (logs system)) (unit ∷ [])))
+            (NoneTwice-push (tids_of (received (logs system))) unit.tid (once.taken_once system) (sym (is_among-listed unit.tid (received (logs system))) ∙ new)))
+          (Contains-push (received (logs system)) unit) in
+      let all : filter_map (λ t. unit_named t (received (logs system) ++ unit ∷ [])) (executed (logs system) ++ unit.tid ∷ []) ≡ executed_units (logs system) ++ unit ∷ [] =
+        filter_map-Some (λ t. unit_named t (received (logs system) ++ unit ∷ [])) (executed (logs system)) unit.tid unit named ∙ ap (λ us. us ++ unit ∷ []) (same_executed_units unit) in
+      subst (λ us. IsPrefix (in_queue queue us) (in_queue queue (received (logs system) ++ unit ∷ []))) (sym all)
+        (subst (λ us. IsPrefix us (in_queue queue (received (logs system) ++ unit ∷ []))) (sym (filter-left_out (stands_in queue) (executed_units (logs system)) unit out))
+          (subst (λ us. IsPrefix (in_queue queue (executed_units (logs system))) us) (sym (filter-left_out (stands_in queue) (received (logs system)) unit out))
+            ((once.executed_in_order system).in_order name)))
+
+  in_order : (name : List ℕ) → InOrder name (received (logs system ++ next ∷ [])) (executed (logs system ++ next ∷ []))
+  in_order name =
+      elim (cases_Option (taken_by next)) [
+        | inl none ↦ subst (λ units. InOrder name units (executed (logs system ++ next ∷ []))) (sym (filter_map-None taken_by (logs system) next none))
+            (elim (cases_Option (executed_by next)) [
+              | inl nothing ↦ subst (InOrder name (received (logs system))) (sym (filter_map-None executed_by (logs system) next nothing)) ((once.executed_in_order system).in_order name)
+              | inr some ↦ subst (InOrder name (received (logs system))) (sym (filter_map-Some executed_by (logs system) next some.0 some.1))
+                  (elim (may.executes some.0 some.1) [
+                    | inl before ↦ in_order-executed name some.0 before.1
+                    | inr run ↦ absurd (none-some run.unit (sym none ∙ run.taken))
+                  ])
+            ])
+        | inr some ↦ subst (λ units. InOrder name units (executed (logs system ++ next ∷ []))) (sym (filter_map-Some taken_by (logs system) next some.0 some.1))
+            (elim (may.runs some.0 some.1) [
+              | inl nothing ↦ subst (InOrder name (received (logs system) ++ some.0 ∷ [])) (sym (filter_map-None executed_by (logs system) next nothing)) (in_order-taken name some.0)
+              | inr run ↦ subst (InOrder name (received (logs system) ++ some.0 ∷ [])) (sym (filter_map-Some executed_by (logs system) next some.0.tid run.0))
+                  (in_order-run name some.0 run.1 (may.takes some.0 some.1).new)
+            ])
+      ]
+
+  executed_in_order : ExecutedInOrder (logs system ++ next ∷ [])
+  executed_in_order = record { was_received = was_received; once = executed_once; in_order = in_order }
+
+-- what holds of each element that a record may add holds of all, where it holds of those before
+pub All-filter_map : {B : Type 0} (P : B → Type 0) (h : Record → Option B) (log : List Record) (next : Record) → All P (filter_map h log)
+    → ((x : B) → h next ≡ Some x → P x) → All P (filter_map h (log ++ next ∷ []))
+All-filter_map P h log next before here =
+    elim (cases_Option (h next)) [
+      | inl none ↦ subst (All P) (sym (filter_map-None h log next none)) before
+      | inr some ↦ subst (All P) (sym (filter_map-Some h log next some.0 some.1)) (All-push P (filter_map h log) some.0 before (here some.0 some.1))
+    ]
+
+-- The law stays where a record that may join joins one log, and the lists of committed units go on.
+pub Once-joins : (committed more : ℕ → List AleUnit) (logs after : ℕ → List Record) (system : ℕ) (next : Record)
+    → ((s : ℕ) → NoneTwice (tids_of (committed s))) → Once committed logs → MayJoin committed logs system next
+    → Joins logs after system next → ((s : ℕ) → IsPrefix (committed s) (more s)) → Once more after
+Once-joins committed more logs after system next numbered once may joins grows =
+    let still_taken : (s : ℕ) (tid : TidOf) → WasTaken committed logs s tid → WasTaken more after s tid =
+      λ s tid was. (was.0, was.1, IsPrefix-Contains (committed s) (more s) was.0 (grows s) was.2,
+        IsPrefix-Contains (received (logs was.0.receiver)) (received (after was.0.receiver)) was.0
+          (IsPrefix-filter_map taken_by (logs was.0.receiver) (after was.0.receiver) (Joins-grows logs after system next joins was.0.receiver)) was.3) in
+    let still_forgotten : (s : ℕ) (tid : TidOf) → WasForgotten committed logs s tid → WasForgotten more after s tid =
+      λ s tid was. (was.0, was.1, IsPrefix-Contains (committed s) (more s) was.0 (grows s) was.2,
+        IsPrefix-Contains (forgotten_in (logs was.0.receiver)) (forgotten_in (after was.0.receiver)) tid
+          (IsPrefix-filter_map forgotten_by (logs was.0.receiver) (after was.0.receiver) (Joins-grows logs after system next joins was.0.receiver)) was.3) in
+    let still_done : (tid : TidOf) → Contains (done_in (logs tid.system)) tid → Contains (done_in (after tid.system)) tid =
+      λ tid. IsPrefix-Contains (done_in (logs tid.system)) (done_in (after tid.system)) tid
+        (IsPrefix-filter_map done_by (logs tid.system) (after tid.system) (Joins-grows logs after system next joins tid.system)) in
+    let still_committed : (s : ℕ) (unit : AleUnit) → (unit.receiver ≡ s) × Contains (committed unit.sender) unit → (unit.receiver ≡ s) × Contains (more unit.sender) unit =
+      λ s unit is. (is.0, IsPrefix-Contains (committed unit.sender) (more unit.sender) unit (grows unit.sender) is.1) in
+    let in_order : (s : ℕ) (log : List Record) → TakenInOrder committed s log → TakenInOrder more s log =
+      λ s log is sender name. IsPrefix-trans (in_queue (Outbound sender s name) (received log)) (in_queue (Outbound sender s name) (committed sender)) (in_queue (Outbound sender s name) (more sender))
+        (is sender name) (IsPrefix-filter (stands_in (Outbound sender s name)) (committed sender) (more sender) (grows sender)) in
+    record {
+      taken_once = at_each logs after system next joins (λ _ log. TakenOnce log) once.taken_once (taken_once committed logs system next numbered once may);
+      taken_was_committed = at_each logs after system next joins (TakenWasCommitted more)
+        (λ s. All-weaker _ _ (still_committed s) (received (logs s)) (once.taken_was_committed s))
+        (All-weaker _ _ (still_committed system) (received (logs system ++ next ∷ [])) (taken_was_committed committed logs system next numbered once may));
+      taken_in_order = at_each logs after system next joins (TakenInOrder more)
+        (λ s. in_order s (logs s) (once.taken_in_order s))
+        (in_order system (logs system ++ next ∷ []) (taken_in_order committed logs system next numbered once may));
+      executed_in_order = at_each logs after system next joins (λ _ log. ExecutedInOrder log) once.executed_in_order (executed_in_order committed logs system next numbered once may);
+      done_was_taken = at_each logs after system next joins (λ s log. All (WasTaken more after s) (done_in log))
+        (λ s. All-weaker (WasTaken committed logs s) (WasTaken more after s) (still_taken s) (done_in (logs s)) (once.done_was_taken s))
+        (All-filter_map (WasTaken more after system) done_by (logs system) next
+          (All-weaker (WasTaken committed logs system) (WasTaken more after system) (still_taken system) (done_in (logs system)) (once.done_was_taken system))
+          (λ tid finishes. still_taken system tid (may.finishes tid finishes)));
+      forgotten_was_done = at_each logs after system next joins (λ _ log. All (λ tid. Contains (done_in (after tid.system)) tid) (forgotten_in log))
+        (λ s. All-weaker _ _ still_done (forgotten_in (logs s)) (once.forgotten_was_done s))
+        (All-filter_map (λ tid. Contains (done_in (after tid.system)) tid) forgotten_by (logs system) next
+          (All-weaker _ _ still_done (forgotten_in (logs system)) (once.forgotten_was_done system))
+          (λ tid forgets. still_done tid (may.forgets tid forgets)));
+      ended_was_forgotten = at_each logs after system next joins (λ s log. All (WasForgotten more after s) (ended_in log))
+        (λ s. All-weaker (WasForgotten committed logs s) (WasForgotten more after s) (still_forgotten s) (ended_in (logs s)) (once.ended_was_forgotten s))
+        (All-filter_map (WasForgotten more after system) ended_by (logs system) next
+          (All-weaker (WasForgotten committed logs system) (WasForgotten more after system) (still_forgotten system) (ended_in (logs system)) (once.ended_was_forgotten system))
+          (λ tid ends. still_forgotten system tid (may.ends tid ends)));
+    }

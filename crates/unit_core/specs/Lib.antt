@@ -1,0 +1,4 @@
+pub mod Filters
+pub mod Facts
+pub mod Queues
+pub mod Once
