@@ -1,5 +1,5 @@
 -- The systems of a world, and one more record in the log of one of them.
-use Rattle.std.specs.Prelude.{slice_get, slice_set, All, Contains}
+use Rattle.std.specs.Prelude.{slice_get, slice_set, slice_index_or, All, Contains}
 use Rattle.std.specs.List.{filter_map}
 use Rattle.std.proofs.Common.{◌≡◌, ◌≢◌, ℕ, zero, suc, ◌+◌, ◌-◌, ◌<◌, ◌≤◌, Bool, true, false, Option, Some, None, List, [], ◌∷◌, ◌++◌, length, map, inl, inr, ◌⊎◌, refl, sym, ap, subst, ◌∙◌, arith}
 use Rattle.std.proofs.lemmas.Bool.{cases_eq, cases_Bool}
@@ -32,8 +32,14 @@ slice_get-set_other (z ∷ zs) zero (suc j) y other = refl
 slice_get-set_other (z ∷ zs) (suc k) zero y other = refl
 slice_get-set_other (z ∷ zs) (suc k) (suc j) y other = slice_get-set_other zs k j y (λ same. other (ap suc same))
 
-less_one : (k : ℕ) → suc k - 1 ≡ k
+pub less_one : (k : ℕ) → suc k - 1 ≡ k
 less_one k = omega arith
+
+-- a place past the end
+pub get_past : {A : Type 0} (xs : List A) (k : ℕ) (d : A) → slice_get xs k ≡ None → slice_index_or xs k d ≡ d
+get_past [] k d none = refl
+get_past (x ∷ xs) zero d none = cc
+get_past (x ∷ xs) (suc k) d none = get_past xs k d none
 
 -- a system that is known has a place
 pub state_of-set : (systems : List SystemState) (system : ℕ) (state new : SystemState) → state_of systems system ≡ Some state

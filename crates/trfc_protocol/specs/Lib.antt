@@ -5,3 +5,5 @@ pub mod Offered
 pub mod Happens
 pub mod Safe
 pub mod Start
+pub mod ListedRules
+pub mod ListedRulesLemmas
