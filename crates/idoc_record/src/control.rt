@@ -9,7 +9,7 @@ use std::marker::Model;
 
 /// A control record EDI_DC40: 524 bytes with TABNAM `EDI_DC40`, a DOCNUM of digits or blank, and a DIRECT of `1`, `2`
 /// or blank. Contracts see the bytes.
-#[derive(Debug, Drop)]
+#[derive(Debug, PartialEq, Eq, Drop)]
 pub struct Control {
     bytes: [u8; 524],
 }

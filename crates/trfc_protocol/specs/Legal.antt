@@ -8,7 +8,7 @@ use Rattle.unit_core.specs.declared.ale_unit.AleUnit.{AleUnit}
 use Rattle.unit_core.specs.declared.records.Record.{Record}
 use Rattle.unit_core.specs.declared.records.Record.TheVariants.{Genesis, Commit, Dispatch, Mark, Done, Ended, Accept, Execute, Direct, Fail, Forget, Stop, Start, Retry, Put, App, Repost}
 use Rattle.unit_core.specs.Filters.{received, executed, done_in, ended_in, forgotten_in, is_marked}
-use Rattle.unit_core.specs.Queues.{is_listed, is_among, unit_named, is_outstanding, heads_outbound, heads_inbound}
+use Rattle.unit_core.specs.Queues.{is_listed, is_among, unit_named, is_outstanding, are_different, heads_outbound, heads_inbound}
 use Rattle.unit_core.specs.Once.{IsPrefix}
 use Rattle.trfc_protocol.specs.Meaning.{Meaning}
 
@@ -115,13 +115,16 @@ abbrev pub is_genesis : Record → Bool
 is_genesis (Genesis number text) = true
 is_genesis _ = false
 
--- the unit at place k of the units that a system commits: its id has the number after k, and it is for another system
+-- the unit at place k of the units that a system commits: its id has the number after k, it is for another system, and
+-- the names of its queues differ in each direction
 pub record IsUnitAt (systems system k : ℕ) (unit : AleUnit) : Type 0 where
   pub tid : unit.tid ≡ record { system = system; unit = k + 1 }
   pub sender : unit.sender ≡ system
   pub receiver_least : 1 ≤ unit.receiver
   pub receiver_most : unit.receiver ≤ systems
   pub other : unit.receiver ≡ system → ⊥
+  pub outbound_names : are_different unit.outq ≡ true
+  pub inbound_names : are_different unit.inq ≡ true
 
 -- the laws of the rules
 pub record IsLawful (rules : Meaning) : Type 0 where

@@ -4,13 +4,16 @@ use Rattle.std.specs.Cmp.Lexicographic.{pointwise}
 use Rattle.unit_core.specs.declared.ale_unit.AleUnit.{AleUnit}
 use Rattle.unit_core.specs.declared.records.Record.{Record}
 use Rattle.unit_core.specs.declared.records.Record.TheVariants.{Commit}
+use Rattle.unit_core.specs.Queues.{are_different}
 use Rattle.trfc_protocol.specs.Meaning.{Meaning}
 
--- whether this is unit k of a system: its id says so, the system sends it, and another one receives it
+-- whether this is unit k of a system: its id says so, the system sends it, another one receives it, and the names of its
+-- queues differ
 abbrev pub is_unit : ℕ → ℕ → ℕ → AleUnit → Bool
 is_unit systems system k unit =
     (unit.tid.system == system) && (unit.tid.unit == k) && (unit.sender == system)
     && nat_le 1 unit.receiver && nat_le unit.receiver systems && not (unit.receiver == system)
+    && are_different unit.outq && are_different unit.inq
 
 -- whether these are the units of a system from unit k on
 abbrev pub are_units : ℕ → ℕ → ℕ → List AleUnit → Bool

@@ -8,18 +8,23 @@ use Rattle.unit_core.specs.declared.ale_unit.AleUnit.{AleUnit}
 use Rattle.unit_core.specs.declared.records.Record.{Record}
 use Rattle.unit_core.specs.declared.records.Record.TheVariants.{Commit, Dispatch}
 use Rattle.unit_core.specs.Once.{IsPrefix}
+use Rattle.unit_core.specs.Queues.{are_different}
 use Rattle.trfc_protocol.specs.Legal.{IsUnitAt, IsLawful, is_commit, may_follow}
 use Rattle.trfc_protocol.specs.ListedRules.{is_unit, are_units, are_lists, are_listed, list_of, is_commit_record, commits_of, listed_meaning}
 
 is_unit-at : (systems system k : ℕ) (unit : AleUnit) → is_unit systems system (k + 1) unit ≡ true → IsUnitAt systems system k unit
 is_unit-at systems system k unit is =
+    let inbound = are_different unit.inq in
+    let outbound = are_different unit.outq in
     let other = not (unit.receiver == system) in
     let most = nat_le unit.receiver systems in
     let least = nat_le 1 unit.receiver in
     let from = unit.sender == system in
     let number = unit.tid.unit == (k + 1) in
     let home = unit.tid.system == system in
-    let a = and_parts (home && number && from && least && most) other is in
+    let n = and_parts (home && number && from && least && most && other && outbound) inbound is in
+    let m = and_parts (home && number && from && least && most && other) outbound n.0 in
+    let a = and_parts (home && number && from && least && most) other m.0 in
     let b = and_parts (home && number && from && least) most a.0 in
     let c = and_parts (home && number && from) least b.0 in
     let d = and_parts (home && number) from c.0 in
@@ -32,6 +37,8 @@ is_unit-at systems system k unit is =
       receiver_least = leb-true 1 unit.receiver c.1;
       receiver_most = leb-true unit.receiver systems b.1;
       other = eqb-false unit.receiver system (not-true (unit.receiver == system) a.1);
+      outbound_names = m.1;
+      inbound_names = n.1;
     }
 
 are_units-at : (systems system k : ℕ) (units : List AleUnit) → are_units systems system (k + 1) units ≡ true → (j : ℕ) (d : AleUnit) → j < length units

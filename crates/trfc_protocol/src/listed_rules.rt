@@ -4,7 +4,7 @@ ghost use Rattle.trfc_protocol.specs.ListedRules.{are_listed, is_unit, are_units
 use crate::Rules;
 use ale_base::{Fixed, Items, OutOfMemory, SystemNo};
 use std::alloc::Global;
-use unit_core::{AleUnit, Record};
+use unit_core::{AleUnit, Record, are_different};
 
 /// Rules that list each system's units beforehand: the k-th Commit of a system commits the k-th unit of its list, and is
 /// allowed while there is one. No other record of the application is allowed, and `IDOC_INBOUND_ASYNCHRONOUS` alone is
@@ -28,8 +28,8 @@ impl ListedRules {
     pub const FUNCTION: &'static [u8] = b"IDOC_INBOUND_ASYNCHRONOUS";
 
     /// The rules with these lists, the first of which is that of system 1. None exactly where they are not the units of
-    /// one to sixteen systems: unit k of a list has the id of its system and k, that system as sender and another one
-    /// of them as receiver, and a list has at most 65,536 units.
+    /// one to sixteen systems: unit k of a list has the id of its system and k, that system as sender, another one of
+    /// them as receiver, and names of queues that differ in each direction, and a list has at most 65,536 units.
     pub fn of(units: Items<Items<AleUnit>>) -> Option<ListedRules>
         ensures some { IsSome result ↔ IsTrue (are_listed units) }
         ensures units { IfSome result (λ rules. rules.units ≡ units) }
@@ -160,4 +160,6 @@ fn is_unit(systems: usize, system: usize, place: usize, unit: &AleUnit) -> bool
         && unit.receiver.get() >= 1
         && unit.receiver.get() as usize <= systems
         && unit.receiver.get() as usize != system
+        && are_different(unit.outq.as_slice())
+        && are_different(unit.inq.as_slice())
 }

@@ -6,7 +6,6 @@ use Rattle.std.proofs.lemmas.Bool.{cases_Bool, cond-true, cond-false, and_parts,
 use Rattle.std.proofs.lemmas.List.{append-nil, map-append}
 use Rattle.std.proofs.lemmas.List.Elements.{Contains-append_left, Contains-append_right, filter-append, filter_map-append}
 use Rattle.std.proofs.lemmas.Option.{same_Some}
-
 use Rattle.unit_core.specs.Once.{IsPrefix}
 
 -- ---- Contains
@@ -61,9 +60,9 @@ Contains-filter_back p [] x has = absurd (Contains-nil x has)
 Contains-filter_back p (y ∷ ys) x has =
     elim (cases_Bool (p y)) [
       | inl pass ↦ elim (Contains-cons y (filter p ys) x (rw pass at has)) [
-          | inl same ↦ (subst (λ z. Contains (y ∷ ys) z) same (Contains-here y ys), sym (ap p same) ∙ pass)
-          | inr behind ↦ let found = Contains-filter_back p ys x behind in (Contains-there y ys x found.0, found.1)
-        ]
+        | inl same ↦ (subst (λ z. Contains (y ∷ ys) z) same (Contains-here y ys), sym (ap p same) ∙ pass)
+        | inr behind ↦ let found = Contains-filter_back p ys x behind in (Contains-there y ys x found.0, found.1)
+      ]
       | inr miss ↦ let found = Contains-filter_back p ys x (rw miss at has) in (Contains-there y ys x found.0, found.1)
     ]
 

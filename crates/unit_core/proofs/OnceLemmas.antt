@@ -93,8 +93,8 @@ module _ (committed : ℕ → List AleUnit) (logs : ℕ → List Record) (system
         | inl none ↦ subst (λ units. NoneTwice (tids_of units)) (sym (filter_map-None taken_by (logs system) next none)) (once.taken_once system)
         | inr some ↦ subst (λ units. NoneTwice (tids_of units)) (sym (filter_map-Some taken_by (logs system) next some.0 some.1))
             (subst NoneTwice (sym (map-append (λ u. u.tid) (received (logs system)) (some.0 ∷ [])))
-              (NoneTwice-push (tids_of (received (logs system))) some.0.tid (once.taken_once system)
-                (sym (is_among-listed some.0.tid (received (logs system))) ∙ (may.takes some.0 some.1).new)))
+            (NoneTwice-push (tids_of (received (logs system))) some.0.tid (once.taken_once system)
+            (sym (is_among-listed some.0.tid (received (logs system))) ∙ (may.takes some.0 some.1).new)))
       ]
 
   -- ---- taken was committed
@@ -106,7 +106,7 @@ module _ (committed : ℕ → List AleUnit) (logs : ℕ → List Record) (system
         | inl none ↦ subst (All P) (sym (filter_map-None taken_by (logs system) next none)) (once.taken_was_committed system)
         | inr some ↦ let take = may.takes some.0 some.1 in
             subst (All P) (sym (filter_map-Some taken_by (logs system) next some.0 some.1))
-              (All-push P (received (logs system)) some.0 (once.taken_was_committed system) (take.receiver, take.was_committed))
+            (All-push P (received (logs system)) some.0 (once.taken_was_committed system) (take.receiver, take.was_committed))
       ]
 
   -- ---- taken in outbound order
@@ -116,29 +116,29 @@ module _ (committed : ℕ → List AleUnit) (logs : ℕ → List Record) (system
       → is_listed v.tid (done_in (logs sender)) ≡ true → is_among v.tid (in_queue (Outbound sender system name) (received (logs system))) ≡ true
   done_of_queue sender name v has stands listed =
       let was : WasTaken committed logs sender v.tid =
-        All-contains (WasTaken committed logs sender) (done_in (logs sender)) v.tid (once.done_was_taken sender) (Contains-is_listed v.tid (done_in (logs sender)) listed) in
+      All-contains (WasTaken committed logs sender) (done_in (logs sender)) v.tid (once.done_was_taken sender) (Contains-is_listed v.tid (done_in (logs sender)) listed) in
       let same : was.0 ≡ v = same_unit (committed sender) was.0 v (numbered sender) was.2 has was.1 in
       let to : v.receiver ≡ system = eqb-true v.receiver system (and_parts (v.sender == sender) (v.receiver == system) (and_parts ((v.sender == sender) && (v.receiver == system)) (has_name name v.outq) stands).0).1 in
       let here : Contains (received (logs system)) v =
-        subst (λ s. Contains (received (logs s)) v) to (subst (λ u. Contains (received (logs u.receiver)) u) same was.3) in
+      subst (λ s. Contains (received (logs s)) v) to (subst (λ u. Contains (received (logs u.receiver)) u) same was.3) in
       is_among-Contains v (in_queue (Outbound sender system name) (received (logs system)))
-        (Contains-filter (stands_in (Outbound sender system name)) (received (logs system)) v here stands)
+      (Contains-filter (stands_in (Outbound sender system name)) (received (logs system)) v here stands)
 
   taken_next : (sender : ℕ) (name : List ℕ) (unit : AleUnit) → MayTake committed logs system unit → stands_in (Outbound sender system name) unit ≡ true
       → IsPrefix (in_queue (Outbound sender system name) (received (logs system)) ++ unit ∷ []) (in_queue (Outbound sender system name) (committed sender))
   taken_next sender name unit take stands =
       let from : unit.sender ≡ sender = eqb-true unit.sender sender (and_parts (unit.sender == sender) (unit.receiver == system) (and_parts ((unit.sender == sender) && (unit.receiver == system)) (has_name name unit.outq) stands).0).0 in
       next_of_queue (done_in (logs sender)) (committed sender) (in_queue (Outbound sender system name) (received (logs system))) (Outbound sender system name) unit
-        (numbered sender) (once.taken_in_order system sender name)
-        (subst (λ s. Contains (committed s) unit) from take.was_committed)
-        (is_head-outbound (done_in (logs sender)) (committed sender) unit sender system name
-          (subst (λ s. heads_outbound (done_in (logs s)) (committed s) unit ≡ true) from take.heads) stands)
-        (done_of_queue sender name)
-        (false_from_ne_true (is_among unit.tid (in_queue (Outbound sender system name) (received (logs system)))) (λ among.
-          let found = Contains-is_among unit.tid (in_queue (Outbound sender system name) (received (logs system))) among in
-          let back = Contains-filter_back (stands_in (Outbound sender system name)) (received (logs system)) found.0 found.1 in
-          both_ways (is_among unit.tid (received (logs system))) take.new
-            (subst (λ t. is_among t (received (logs system)) ≡ true) found.2 (is_among-Contains found.0 (received (logs system)) back.0))))
+      (numbered sender) (once.taken_in_order system sender name)
+      (subst (λ s. Contains (committed s) unit) from take.was_committed)
+      (is_head-outbound (done_in (logs sender)) (committed sender) unit sender system name
+      (subst (λ s. heads_outbound (done_in (logs s)) (committed s) unit ≡ true) from take.heads) stands)
+      (done_of_queue sender name)
+      (false_from_ne_true (is_among unit.tid (in_queue (Outbound sender system name) (received (logs system)))) (λ among.
+      let found = Contains-is_among unit.tid (in_queue (Outbound sender system name) (received (logs system))) among in
+      let back = Contains-filter_back (stands_in (Outbound sender system name)) (received (logs system)) found.0 found.1 in
+      both_ways (is_among unit.tid (received (logs system))) take.new
+      (subst (λ t. is_among t (received (logs system)) ≡ true) found.2 (is_among-Contains found.0 (received (logs system)) back.0))))
 
   taken_in_order : TakenInOrder committed system (logs system ++ next ∷ [])
   taken_in_order sender name =
@@ -161,7 +161,7 @@ module _ (committed : ℕ → List AleUnit) (logs : ℕ → List Record) (system
   executed_was_received : All (λ tid. Contains (tids_of (received (logs system))) tid) (executed (logs system))
   executed_was_received =
       subst (λ log. All (λ tid. Contains (tids_of (received log)) tid) (executed log)) (take_all (length (logs system)) (logs system) (omega arith))
-        ((once.executed_in_order system).was_received (length (logs system)))
+      ((once.executed_in_order system).was_received (length (logs system)))
 
   -- the unit of an id that was executed is found among those received
   executed_is_found : (tid : TidOf) → Contains (executed (logs system)) tid → (unit : AleUnit) × (unit_named tid (received (logs system)) ≡ Some unit)
@@ -183,7 +183,7 @@ module _ (committed : ℕ → List AleUnit) (logs : ℕ → List Record) (system
             received_tids_grow tid (subst (Contains (tids_of (received (logs system)))) named.1 (Contains-map (λ u. u.tid) (received (logs system)) before.1.unit named.0))
         | inr run ↦ subst (Contains (tids_of (received (logs system ++ next ∷ [])))) run.its_tid
             (Contains-map (λ u. u.tid) (received (logs system ++ next ∷ [])) run.unit
-              (subst (λ units. Contains units run.unit) (sym (filter_map-Some taken_by (logs system) next run.unit run.taken)) (Contains-push (received (logs system)) run.unit)))
+            (subst (λ units. Contains units run.unit) (sym (filter_map-Some taken_by (logs system) next run.unit run.taken)) (Contains-push (received (logs system)) run.unit)))
       ]
 
   all_received : All (λ tid. Contains (tids_of (received (logs system ++ next ∷ []))) tid) (executed (logs system ++ next ∷ []))
@@ -208,9 +208,9 @@ module _ (committed : ℕ → List AleUnit) (logs : ℕ → List Record) (system
   new_not_executed : (tid : TidOf) → is_among tid (received (logs system)) ≡ false → is_listed tid (executed (logs system)) ≡ false
   new_not_executed tid new =
       false_from_ne_true (is_listed tid (executed (logs system))) (λ listed.
-        both_ways (is_among tid (received (logs system))) new
-          (is_among-listed tid (received (logs system)) ∙ is_listed-Contains tid (tids_of (received (logs system)))
-            (All-contains (λ t. Contains (tids_of (received (logs system))) t) (executed (logs system)) tid executed_was_received (Contains-is_listed tid (executed (logs system)) listed))))
+      both_ways (is_among tid (received (logs system))) new
+      (is_among-listed tid (received (logs system)) ∙ is_listed-Contains tid (tids_of (received (logs system)))
+      (All-contains (λ t. Contains (tids_of (received (logs system))) t) (executed (logs system)) tid executed_was_received (Contains-is_listed tid (executed (logs system)) listed))))
 
   not_executed : (tid : TidOf) → executed_by next ≡ Some tid → is_listed tid (executed (logs system)) ≡ false
   not_executed tid executes =
@@ -231,38 +231,38 @@ module _ (committed : ℕ → List AleUnit) (logs : ℕ → List Record) (system
   same_executed_units : (unit : AleUnit) → filter_map (λ tid. unit_named tid (received (logs system) ++ unit ∷ [])) (executed (logs system)) ≡ executed_units (logs system)
   same_executed_units unit =
       filter_map-agree (λ tid. unit_named tid (received (logs system) ++ unit ∷ [])) (λ tid. unit_named tid (received (logs system))) (executed (logs system))
-        (λ tid has. let found = executed_is_found tid has in
-          find-longer (λ u. is_tid u.tid tid) (received (logs system)) (unit ∷ []) found.0 found.1 ∙ sym found.1)
+      (λ tid has. let found = executed_is_found tid has in
+      find-longer (λ u. is_tid u.tid tid) (received (logs system)) (unit ∷ []) found.0 found.1 ∙ sym found.1)
 
   -- a unit of an inbound queue that was executed stands among the units executed of the queue
   executed_of_queue : (name : List ℕ) (v : AleUnit) → Contains (received (logs system)) v → stands_in (Inbound name) v ≡ true
       → is_listed v.tid (executed (logs system)) ≡ true → is_among v.tid (in_queue (Inbound name) (executed_units (logs system))) ≡ true
   executed_of_queue name v has stands listed =
       is_among-Contains v (in_queue (Inbound name) (executed_units (logs system)))
-        (Contains-filter (stands_in (Inbound name)) (executed_units (logs system)) v
-          (filter_map-Contains (λ tid. unit_named tid (received (logs system))) (executed (logs system)) v.tid v
-            (Contains-is_listed v.tid (executed (logs system)) listed) (unit_named-Contains (received (logs system)) v (once.taken_once system) has))
-          stands)
+      (Contains-filter (stands_in (Inbound name)) (executed_units (logs system)) v
+      (filter_map-Contains (λ tid. unit_named tid (received (logs system))) (executed (logs system)) v.tid v
+      (Contains-is_listed v.tid (executed (logs system)) listed) (unit_named-Contains (received (logs system)) v (once.taken_once system) has))
+      stands)
 
   not_among_executed : (name : List ℕ) (tid : TidOf) → is_listed tid (executed (logs system)) ≡ false → is_among tid (in_queue (Inbound name) (executed_units (logs system))) ≡ false
   not_among_executed name tid open_ =
       false_from_ne_true (is_among tid (in_queue (Inbound name) (executed_units (logs system)))) (λ among.
-        let found = Contains-is_among tid (in_queue (Inbound name) (executed_units (logs system))) among in
-        let back = Contains-filter_back (stands_in (Inbound name)) (executed_units (logs system)) found.0 found.1 in
-        let made = filter_map-Contains_back (λ t. unit_named t (received (logs system))) (executed (logs system)) found.0 back.0 in
-        let its : found.0.tid ≡ made.0 = (unit_named-Some made.0 (received (logs system)) found.0 made.2).1 in
-        both_ways (is_listed tid (executed (logs system))) open_
-          (is_listed-Contains tid (executed (logs system)) (subst (Contains (executed (logs system))) (sym its ∙ found.2) made.1)))
+      let found = Contains-is_among tid (in_queue (Inbound name) (executed_units (logs system))) among in
+      let back = Contains-filter_back (stands_in (Inbound name)) (executed_units (logs system)) found.0 found.1 in
+      let made = filter_map-Contains_back (λ t. unit_named t (received (logs system))) (executed (logs system)) found.0 back.0 in
+      let its : found.0.tid ≡ made.0 = (unit_named-Some made.0 (received (logs system)) found.0 made.2).1 in
+      both_ways (is_listed tid (executed (logs system))) open_
+      (is_listed-Contains tid (executed (logs system)) (subst (Contains (executed (logs system))) (sym its ∙ found.2) made.1)))
 
   executed_next : (name : List ℕ) (tid : TidOf) (execute : MayExecute (logs system) tid) → stands_in (Inbound name) execute.unit ≡ true
       → IsPrefix (in_queue (Inbound name) (executed_units (logs system)) ++ execute.unit ∷ []) (in_queue (Inbound name) (received (logs system)))
   executed_next name tid execute stands =
       let named = unit_named-Some tid (received (logs system)) execute.unit execute.named in
       next_of_queue (executed (logs system)) (received (logs system)) (in_queue (Inbound name) (executed_units (logs system))) (Inbound name) execute.unit
-        (once.taken_once system) ((once.executed_in_order system).in_order name) named.0
-        (is_head-inbound (executed (logs system)) (received (logs system)) execute.unit name execute.heads stands)
-        (executed_of_queue name)
-        (not_among_executed name execute.unit.tid (subst (λ t. is_listed t (executed (logs system)) ≡ false) (sym named.1) execute.open_))
+      (once.taken_once system) ((once.executed_in_order system).in_order name) named.0
+      (is_head-inbound (executed (logs system)) (received (logs system)) execute.unit name execute.heads stands)
+      (executed_of_queue name)
+      (not_among_executed name execute.unit.tid (subst (λ t. is_listed t (executed (logs system)) ≡ false) (sym named.1) execute.open_))
 
   abbrev InOrder : List ℕ → List AleUnit → List TidOf → Type 0
   InOrder name units tids = IsPrefix (in_queue (Inbound name) (filter_map (λ tid. unit_named tid units) tids)) (in_queue (Inbound name) units)
@@ -272,22 +272,22 @@ module _ (committed : ℕ → List AleUnit) (logs : ℕ → List Record) (system
   in_order-executed name tid execute =
       let queue : Queue = Inbound name in
       subst (λ units. IsPrefix (in_queue queue units) (in_queue queue (received (logs system))))
-        (sym (filter_map-Some (λ t. unit_named t (received (logs system))) (executed (logs system)) tid execute.unit execute.named))
-        (elim (cases_Bool (stands_in queue execute.unit)) [
-          | inl stands ↦ subst (λ units. IsPrefix units (in_queue queue (received (logs system)))) (sym (filter-kept (stands_in queue) (executed_units (logs system)) execute.unit stands))
-              (executed_next name tid execute stands)
-          | inr out ↦ subst (λ units. IsPrefix units (in_queue queue (received (logs system)))) (sym (filter-left_out (stands_in queue) (executed_units (logs system)) execute.unit out))
-              ((once.executed_in_order system).in_order name)
-        ])
+      (sym (filter_map-Some (λ t. unit_named t (received (logs system))) (executed (logs system)) tid execute.unit execute.named))
+      (elim (cases_Bool (stands_in queue execute.unit)) [
+        | inl stands ↦ subst (λ units. IsPrefix units (in_queue queue (received (logs system)))) (sym (filter-kept (stands_in queue) (executed_units (logs system)) execute.unit stands))
+            (executed_next name tid execute stands)
+        | inr out ↦ subst (λ units. IsPrefix units (in_queue queue (received (logs system)))) (sym (filter-left_out (stands_in queue) (executed_units (logs system)) execute.unit out))
+            ((once.executed_in_order system).in_order name)
+      ])
 
   -- a unit is taken in, to be executed later
   in_order-taken : (name : List ℕ) (unit : AleUnit) → InOrder name (received (logs system) ++ unit ∷ []) (executed (logs system))
   in_order-taken name unit =
       let queue : Queue = Inbound name in
       subst (λ units. IsPrefix (in_queue queue units) (in_queue queue (received (logs system) ++ unit ∷ []))) (sym (same_executed_units unit))
-        (IsPrefix-trans (in_queue queue (executed_units (logs system))) (in_queue queue (received (logs system))) (in_queue queue (received (logs system) ++ unit ∷ []))
-          ((once.executed_in_order system).in_order name)
-          (IsPrefix-filter (stands_in queue) (received (logs system)) (received (logs system) ++ unit ∷ []) (unit ∷ [], refl)))
+      (IsPrefix-trans (in_queue queue (executed_units (logs system))) (in_queue queue (received (logs system))) (in_queue queue (received (logs system) ++ unit ∷ []))
+      ((once.executed_in_order system).in_order name)
+      (IsPrefix-filter (stands_in queue) (received (logs system)) (received (logs system) ++ unit ∷ []) (unit ∷ [], refl)))
 
   -- a unit with no inbound queue is taken in and executed
   in_order-run : (name : List ℕ) (unit : AleUnit) → unit.inq ≡ [] → is_among unit.tid (received (logs system)) ≡ false
@@ -297,16 +297,16 @@ module _ (committed : ℕ → List AleUnit) (logs : ℕ → List Record) (system
       let out : stands_in queue unit ≡ false = ap (has_name name) direct in
       let units = received (logs system) ++ unit ∷ [] in
       let named : unit_named unit.tid (received (logs system) ++ unit ∷ []) ≡ Some unit =
-        unit_named-Contains (received (logs system) ++ unit ∷ []) unit
-          (subst NoneTwice (sym (map-append (λ u. u.tid) (received (logs system)) (unit ∷ [])))
-            (NoneTwice-push (tids_of (received (logs system))) unit.tid (once.taken_once system) (sym (is_among-listed unit.tid (received (logs system))) ∙ new)))
-          (Contains-push (received (logs system)) unit) in
+      unit_named-Contains (received (logs system) ++ unit ∷ []) unit
+      (subst NoneTwice (sym (map-append (λ u. u.tid) (received (logs system)) (unit ∷ [])))
+      (NoneTwice-push (tids_of (received (logs system))) unit.tid (once.taken_once system) (sym (is_among-listed unit.tid (received (logs system))) ∙ new)))
+      (Contains-push (received (logs system)) unit) in
       let all : filter_map (λ t. unit_named t (received (logs system) ++ unit ∷ [])) (executed (logs system) ++ unit.tid ∷ []) ≡ executed_units (logs system) ++ unit ∷ [] =
-        filter_map-Some (λ t. unit_named t (received (logs system) ++ unit ∷ [])) (executed (logs system)) unit.tid unit named ∙ ap (λ us. us ++ unit ∷ []) (same_executed_units unit) in
+      filter_map-Some (λ t. unit_named t (received (logs system) ++ unit ∷ [])) (executed (logs system)) unit.tid unit named ∙ ap (λ us. us ++ unit ∷ []) (same_executed_units unit) in
       subst (λ us. IsPrefix (in_queue queue us) (in_queue queue (received (logs system) ++ unit ∷ []))) (sym all)
-        (subst (λ us. IsPrefix us (in_queue queue (received (logs system) ++ unit ∷ []))) (sym (filter-left_out (stands_in queue) (executed_units (logs system)) unit out))
-          (subst (λ us. IsPrefix (in_queue queue (executed_units (logs system))) us) (sym (filter-left_out (stands_in queue) (received (logs system)) unit out))
-            ((once.executed_in_order system).in_order name)))
+      (subst (λ us. IsPrefix us (in_queue queue (received (logs system) ++ unit ∷ []))) (sym (filter-left_out (stands_in queue) (executed_units (logs system)) unit out))
+      (subst (λ us. IsPrefix (in_queue queue (executed_units (logs system))) us) (sym (filter-left_out (stands_in queue) (received (logs system)) unit out))
+      ((once.executed_in_order system).in_order name)))
 
   in_order : (name : List ℕ) → InOrder name (received (logs system ++ next ∷ [])) (executed (logs system ++ next ∷ []))
   in_order name =
@@ -346,43 +346,51 @@ pub Once-joins : (committed more : ℕ → List AleUnit) (logs after : ℕ → L
     → Joins logs after system next → ((s : ℕ) → IsPrefix (committed s) (more s)) → Once more after
 Once-joins committed more logs after system next numbered once may joins grows =
     let still_taken : (s : ℕ) (tid : TidOf) → WasTaken committed logs s tid → WasTaken more after s tid =
-      λ s tid was. (was.0, was.1, IsPrefix-Contains (committed s) (more s) was.0 (grows s) was.2,
-        IsPrefix-Contains (received (logs was.0.receiver)) (received (after was.0.receiver)) was.0
-          (IsPrefix-filter_map taken_by (logs was.0.receiver) (after was.0.receiver) (Joins-grows logs after system next joins was.0.receiver)) was.3) in
+    λ s tid was. (
+      was.0,
+      was.1,
+      IsPrefix-Contains (committed s) (more s) was.0 (grows s) was.2,
+      IsPrefix-Contains (received (logs was.0.receiver)) (received (after was.0.receiver)) was.0
+          (IsPrefix-filter_map taken_by (logs was.0.receiver) (after was.0.receiver) (Joins-grows logs after system next joins was.0.receiver)) was.3,
+    ) in
     let still_forgotten : (s : ℕ) (tid : TidOf) → WasForgotten committed logs s tid → WasForgotten more after s tid =
-      λ s tid was. (was.0, was.1, IsPrefix-Contains (committed s) (more s) was.0 (grows s) was.2,
-        IsPrefix-Contains (forgotten_in (logs was.0.receiver)) (forgotten_in (after was.0.receiver)) tid
-          (IsPrefix-filter_map forgotten_by (logs was.0.receiver) (after was.0.receiver) (Joins-grows logs after system next joins was.0.receiver)) was.3) in
+    λ s tid was. (
+      was.0,
+      was.1,
+      IsPrefix-Contains (committed s) (more s) was.0 (grows s) was.2,
+      IsPrefix-Contains (forgotten_in (logs was.0.receiver)) (forgotten_in (after was.0.receiver)) tid
+          (IsPrefix-filter_map forgotten_by (logs was.0.receiver) (after was.0.receiver) (Joins-grows logs after system next joins was.0.receiver)) was.3,
+    ) in
     let still_done : (tid : TidOf) → Contains (done_in (logs tid.system)) tid → Contains (done_in (after tid.system)) tid =
-      λ tid. IsPrefix-Contains (done_in (logs tid.system)) (done_in (after tid.system)) tid
-        (IsPrefix-filter_map done_by (logs tid.system) (after tid.system) (Joins-grows logs after system next joins tid.system)) in
+    λ tid. IsPrefix-Contains (done_in (logs tid.system)) (done_in (after tid.system)) tid
+    (IsPrefix-filter_map done_by (logs tid.system) (after tid.system) (Joins-grows logs after system next joins tid.system)) in
     let still_committed : (s : ℕ) (unit : AleUnit) → (unit.receiver ≡ s) × Contains (committed unit.sender) unit → (unit.receiver ≡ s) × Contains (more unit.sender) unit =
-      λ s unit is. (is.0, IsPrefix-Contains (committed unit.sender) (more unit.sender) unit (grows unit.sender) is.1) in
+    λ s unit is. (is.0, IsPrefix-Contains (committed unit.sender) (more unit.sender) unit (grows unit.sender) is.1) in
     let in_order : (s : ℕ) (log : List Record) → TakenInOrder committed s log → TakenInOrder more s log =
-      λ s log is sender name. IsPrefix-trans (in_queue (Outbound sender s name) (received log)) (in_queue (Outbound sender s name) (committed sender)) (in_queue (Outbound sender s name) (more sender))
-        (is sender name) (IsPrefix-filter (stands_in (Outbound sender s name)) (committed sender) (more sender) (grows sender)) in
+    λ s log is sender name. IsPrefix-trans (in_queue (Outbound sender s name) (received log)) (in_queue (Outbound sender s name) (committed sender)) (in_queue (Outbound sender s name) (more sender))
+    (is sender name) (IsPrefix-filter (stands_in (Outbound sender s name)) (committed sender) (more sender) (grows sender)) in
     record {
       taken_once = at_each logs after system next joins (λ _ log. TakenOnce log) once.taken_once (taken_once committed logs system next numbered once may);
       taken_was_committed = at_each logs after system next joins (TakenWasCommitted more)
-        (λ s. All-weaker _ _ (still_committed s) (received (logs s)) (once.taken_was_committed s))
-        (All-weaker _ _ (still_committed system) (received (logs system ++ next ∷ [])) (taken_was_committed committed logs system next numbered once may));
+          (λ s. All-weaker _ _ (still_committed s) (received (logs s)) (once.taken_was_committed s))
+          (All-weaker _ _ (still_committed system) (received (logs system ++ next ∷ [])) (taken_was_committed committed logs system next numbered once may));
       taken_in_order = at_each logs after system next joins (TakenInOrder more)
-        (λ s. in_order s (logs s) (once.taken_in_order s))
-        (in_order system (logs system ++ next ∷ []) (taken_in_order committed logs system next numbered once may));
+          (λ s. in_order s (logs s) (once.taken_in_order s))
+          (in_order system (logs system ++ next ∷ []) (taken_in_order committed logs system next numbered once may));
       executed_in_order = at_each logs after system next joins (λ _ log. ExecutedInOrder log) once.executed_in_order (executed_in_order committed logs system next numbered once may);
       done_was_taken = at_each logs after system next joins (λ s log. All (WasTaken more after s) (done_in log))
-        (λ s. All-weaker (WasTaken committed logs s) (WasTaken more after s) (still_taken s) (done_in (logs s)) (once.done_was_taken s))
-        (All-filter_map (WasTaken more after system) done_by (logs system) next
+          (λ s. All-weaker (WasTaken committed logs s) (WasTaken more after s) (still_taken s) (done_in (logs s)) (once.done_was_taken s))
+          (All-filter_map (WasTaken more after system) done_by (logs system) next
           (All-weaker (WasTaken committed logs system) (WasTaken more after system) (still_taken system) (done_in (logs system)) (once.done_was_taken system))
           (λ tid finishes. still_taken system tid (may.finishes tid finishes)));
       forgotten_was_done = at_each logs after system next joins (λ _ log. All (λ tid. Contains (done_in (after tid.system)) tid) (forgotten_in log))
-        (λ s. All-weaker _ _ still_done (forgotten_in (logs s)) (once.forgotten_was_done s))
-        (All-filter_map (λ tid. Contains (done_in (after tid.system)) tid) forgotten_by (logs system) next
+          (λ s. All-weaker _ _ still_done (forgotten_in (logs s)) (once.forgotten_was_done s))
+          (All-filter_map (λ tid. Contains (done_in (after tid.system)) tid) forgotten_by (logs system) next
           (All-weaker _ _ still_done (forgotten_in (logs system)) (once.forgotten_was_done system))
           (λ tid forgets. still_done tid (may.forgets tid forgets)));
       ended_was_forgotten = at_each logs after system next joins (λ s log. All (WasForgotten more after s) (ended_in log))
-        (λ s. All-weaker (WasForgotten committed logs s) (WasForgotten more after s) (still_forgotten s) (ended_in (logs s)) (once.ended_was_forgotten s))
-        (All-filter_map (WasForgotten more after system) ended_by (logs system) next
+          (λ s. All-weaker (WasForgotten committed logs s) (WasForgotten more after s) (still_forgotten s) (ended_in (logs s)) (once.ended_was_forgotten s))
+          (All-filter_map (WasForgotten more after system) ended_by (logs system) next
           (All-weaker (WasForgotten committed logs system) (WasForgotten more after system) (still_forgotten system) (ended_in (logs system)) (once.ended_was_forgotten system))
           (λ tid ends. still_forgotten system tid (may.ends tid ends)));
     }

@@ -35,14 +35,14 @@ next_behind open_ (p ∷ ps) (y ∷ ys) unit prefix none found closed new =
           absurd (both_ways (is_among unit.tid (p ∷ ps)) new (is_among-Contains unit (p ∷ ps) (subst (λ v. Contains (p ∷ ps) v) (parts.0 ∙ same) (Contains-here p ps))))
       | inr miss ↦
           IsPrefix-cons p y (ps ++ unit ∷ []) ys parts.0
-            (next_behind open_ ps ys unit parts.1 none.1
-              (sym (cond-false (open_ y) (Some y) (find open_ ys) miss) ∙ found)
-              (λ v has is_closed. elim (or_cases (is_tid p.tid v.tid) (is_among v.tid ps) (closed v (Contains-there y ys v has) is_closed)) [
-                | inl same ↦ absurd (both_ways (is_listed y.tid (tids_of ys)) none.0
-                    (sym (is_among-listed y.tid ys) ∙ subst (λ t. is_among t ys ≡ true) (sym (is_tid-true p.tid v.tid same) ∙ ap (λ u. u.tid) parts.0) (is_among-Contains v ys has)))
-                | inr among ↦ among
-              ])
-              (or_parts (is_tid p.tid unit.tid) (is_among unit.tid ps) new).1)
+          (next_behind open_ ps ys unit parts.1 none.1
+          (sym (cond-false (open_ y) (Some y) (find open_ ys) miss) ∙ found)
+          (λ v has is_closed. elim (or_cases (is_tid p.tid v.tid) (is_among v.tid ps) (closed v (Contains-there y ys v has) is_closed)) [
+            | inl same ↦ absurd (both_ways (is_listed y.tid (tids_of ys)) none.0
+                (sym (is_among-listed y.tid ys) ∙ subst (λ t. is_among t ys ≡ true) (sym (is_tid-true p.tid v.tid same) ∙ ap (λ u. u.tid) parts.0) (is_among-Contains v ys has)))
+            | inr among ↦ among
+          ])
+          (or_parts (is_tid p.tid unit.tid) (is_among unit.tid ps) new).1)
     ]
 
 -- ---- the head of a queue
@@ -54,7 +54,7 @@ has_tid-Some tid (Some unit) has = (unit, refl, is_tid-true unit.tid tid has)
 pub is_outstanding-fewer : (through more : List TidOf) (unit : AleUnit) → is_outstanding through unit ≡ false → is_outstanding (through ++ more) unit ≡ false
 is_outstanding-fewer through more unit closed =
     not_from_true (is_listed unit.tid (through ++ more))
-      (list_any-append (λ other. is_tid other unit.tid) through more ∙ or_left (is_listed unit.tid through) (is_listed unit.tid more) (not-false (is_listed unit.tid through) closed))
+    (list_any-append (λ other. is_tid other unit.tid) through more ∙ or_left (is_listed unit.tid through) (is_listed unit.tid more) (not-false (is_listed unit.tid through) closed))
 
 pub is_outstanding-more : (through more : List TidOf) (unit : AleUnit) → is_outstanding through unit ≡ true → is_listed unit.tid more ≡ false → is_outstanding (through ++ more) unit ≡ true
 is_outstanding-more through more unit open_ other =
@@ -69,26 +69,26 @@ is_head-keeps through more units behind tid queue other head =
     let passes = (find-Some (λ u. stands_in queue u && is_outstanding through u) units unit first.1).1 in
     let parts = and_parts (stands_in queue unit) (is_outstanding through unit) passes in
     let still : head_of (through ++ more) units queue ≡ Some unit =
-      find-narrower (λ u. stands_in queue u && is_outstanding through u) (λ u. stands_in queue u && is_outstanding (through ++ more) u) units unit first.1
-        (λ u out. elim (and_cases (stands_in queue u) (is_outstanding through u) out) [
-          | inl elsewhere ↦ and_left (stands_in queue u) (is_outstanding (through ++ more) u) elsewhere
-          | inr closed ↦ and_right (stands_in queue u) (is_outstanding (through ++ more) u) (is_outstanding-fewer through more u closed)
-        ])
-        (and_from (stands_in queue unit) (is_outstanding (through ++ more) unit) parts.0
-          (is_outstanding-more through more unit parts.1 (subst (λ t. is_listed t more ≡ false) (sym first.2) other))) in
+    find-narrower (λ u. stands_in queue u && is_outstanding through u) (λ u. stands_in queue u && is_outstanding (through ++ more) u) units unit first.1
+    (λ u out. elim (and_cases (stands_in queue u) (is_outstanding through u) out) [
+      | inl elsewhere ↦ and_left (stands_in queue u) (is_outstanding (through ++ more) u) elsewhere
+      | inr closed ↦ and_right (stands_in queue u) (is_outstanding (through ++ more) u) (is_outstanding-fewer through more u closed)
+    ])
+    (and_from (stands_in queue unit) (is_outstanding (through ++ more) unit) parts.0
+    (is_outstanding-more through more unit parts.1 (subst (λ t. is_listed t more ≡ false) (sym first.2) other))) in
     ap (has_tid tid) (find-longer (λ u. stands_in queue u && is_outstanding (through ++ more) u) units behind unit still) ∙ is_tid-from unit.tid tid first.2
 
 pub heads_outbound-keeps : (through more : List TidOf) (units behind : List AleUnit) (unit : AleUnit) → is_listed unit.tid more ≡ false
     → heads_outbound through units unit ≡ true → heads_outbound (through ++ more) (units ++ behind) unit ≡ true
 heads_outbound-keeps through more units behind unit other heads =
     list_all-weaker (λ name. is_head through units unit.tid (Outbound unit.sender unit.receiver name)) (λ name. is_head (through ++ more) (units ++ behind) unit.tid (Outbound unit.sender unit.receiver name)) unit.outq
-      (λ name. is_head-keeps through more units behind unit.tid (Outbound unit.sender unit.receiver name) other) heads
+    (λ name. is_head-keeps through more units behind unit.tid (Outbound unit.sender unit.receiver name) other) heads
 
 pub heads_inbound-keeps : (through more : List TidOf) (units behind : List AleUnit) (unit : AleUnit) → is_listed unit.tid more ≡ false
     → heads_inbound through units unit ≡ true → heads_inbound (through ++ more) (units ++ behind) unit ≡ true
 heads_inbound-keeps through more units behind unit other heads =
     list_all-weaker (λ name. is_head through units unit.tid (Inbound name)) (λ name. is_head (through ++ more) (units ++ behind) unit.tid (Inbound name)) unit.inq
-      (λ name. is_head-keeps through more units behind unit.tid (Inbound name) other) heads
+    (λ name. is_head-keeps through more units behind unit.tid (Inbound name) other) heads
 
 -- a name of a list, by the test
 has_name-Contains : (name : List ℕ) (names : List (List ℕ)) → has_name name names ≡ true → Contains names name
@@ -105,8 +105,8 @@ is_head-outbound through units unit sender destination name heads stands =
     let from : unit.sender ≡ sender = eqb-true unit.sender sender ends.0 in
     let to : unit.receiver ≡ destination = eqb-true unit.receiver destination ends.1 in
     subst (λ s. is_head through units unit.tid (Outbound s destination name) ≡ true) from
-      (subst (λ d. is_head through units unit.tid (Outbound unit.sender d name) ≡ true) to
-        (list_all-Contains (λ n. is_head through units unit.tid (Outbound unit.sender unit.receiver n)) unit.outq name heads (has_name-Contains name unit.outq parts.1)))
+    (subst (λ d. is_head through units unit.tid (Outbound unit.sender d name) ≡ true) to
+    (list_all-Contains (λ n. is_head through units unit.tid (Outbound unit.sender unit.receiver n)) unit.outq name heads (has_name-Contains name unit.outq parts.1)))
 
 pub is_head-inbound : (through : List TidOf) (units : List AleUnit) (unit : AleUnit) (name : List ℕ)
     → heads_inbound through units unit ≡ true → stands_in (Inbound name) unit ≡ true → is_head through units unit.tid (Inbound name) ≡ true
@@ -123,7 +123,7 @@ next_of_queue through units front queue unit none prefix has head closed new =
     let is_there = find-Some (λ u. stands_in queue u && is_outstanding through u) units first.0 first.1 in
     let same : first.0 ≡ unit = same_unit units first.0 unit none is_there.0 has first.2 in
     next_behind (is_outstanding through) front (in_queue queue units) unit prefix (NoneTwice-filter (stands_in queue) units none)
-      (find-filter (stands_in queue) (is_outstanding through) units ∙ first.1 ∙ ap Some same)
-      (λ v kept out. let back = Contains-filter_back (stands_in queue) units v kept in
-        closed v back.0 back.1 (not-false (is_listed v.tid through) out))
-      new
+    (find-filter (stands_in queue) (is_outstanding through) units ∙ first.1 ∙ ap Some same)
+    (λ v kept out. let back = Contains-filter_back (stands_in queue) units v kept in
+    closed v back.0 back.1 (not-false (is_listed v.tid through) out))
+    new

@@ -73,9 +73,10 @@ unit_named-Some tid units unit named =
 pub NoneTwice-push : (tids : List TidOf) (tid : TidOf) → NoneTwice tids → is_listed tid tids ≡ false → NoneTwice (tids ++ tid ∷ [])
 NoneTwice-push [] tid none new = (refl, tt)
 NoneTwice-push (t ∷ ts) tid none new =
-    let parts = or_parts (is_tid t tid) (is_listed tid ts) new in
-    (is_listed-append t ts (tid ∷ []) none.0 (is_listed-one t tid (λ same. both_ways (is_tid t tid) parts.0 (is_tid-from t tid (sym same)))),
-    NoneTwice-push ts tid none.1 parts.1)
+    let parts = or_parts (is_tid t tid) (is_listed tid ts) new in (
+      is_listed-append t ts (tid ∷ []) none.0 (is_listed-one t tid (λ same. both_ways (is_tid t tid) parts.0 (is_tid-from t tid (sym same)))),
+      NoneTwice-push ts tid none.1 parts.1,
+    )
 
 -- two units of a list in which no id stands twice are the same where their ids are
 pub same_unit : (units : List AleUnit) (a b : AleUnit) → NoneTwice (tids_of units) → Contains units a → Contains units b → a.tid ≡ b.tid → a ≡ b
@@ -83,13 +84,13 @@ same_unit [] a b none has_a has_b same = absurd (Contains-nil a has_a)
 same_unit (u ∷ us) a b none has_a has_b same =
     elim (Contains-cons u us a has_a) [
       | inl is_a ↦ elim (Contains-cons u us b has_b) [
-          | inl is_b ↦ sym is_a ∙ is_b
-          | inr behind ↦ absurd (twice u us b none.0 behind (ap (λ v. v.tid) is_a ∙ same))
-        ]
+        | inl is_b ↦ sym is_a ∙ is_b
+        | inr behind ↦ absurd (twice u us b none.0 behind (ap (λ v. v.tid) is_a ∙ same))
+      ]
       | inr behind_a ↦ elim (Contains-cons u us b has_b) [
-          | inl is_b ↦ absurd (twice u us a none.0 behind_a (ap (λ v. v.tid) is_b ∙ sym same))
-          | inr behind_b ↦ same_unit us a b none.1 behind_a behind_b same
-        ]
+        | inl is_b ↦ absurd (twice u us a none.0 behind_a (ap (λ v. v.tid) is_b ∙ sym same))
+        | inr behind_b ↦ same_unit us a b none.1 behind_a behind_b same
+      ]
     ]
   where
     twice : (u : AleUnit) (us : List AleUnit) (v : AleUnit) → is_listed u.tid (tids_of us) ≡ false → Contains us v → u.tid ≡ v.tid → ⊥
@@ -104,9 +105,9 @@ unit_named-Contains (u ∷ us) unit none has =
       | inl pass ↦ cond-true (is_tid u.tid unit.tid) (Some u) (unit_named unit.tid us) pass
           ∙ ap Some (same_unit (u ∷ us) u unit none (Contains-here u us) has (is_tid-true u.tid unit.tid pass))
       | inr miss ↦ elim (Contains-cons u us unit has) [
-          | inl same ↦ absurd (both_ways (is_tid u.tid unit.tid) miss (is_tid-from u.tid unit.tid (ap (λ v. v.tid) same)))
-          | inr behind ↦ cond-false (is_tid u.tid unit.tid) (Some u) (unit_named unit.tid us) miss ∙ unit_named-Contains us unit none.1 behind
-        ]
+        | inl same ↦ absurd (both_ways (is_tid u.tid unit.tid) miss (is_tid-from u.tid unit.tid (ap (λ v. v.tid) same)))
+        | inr behind ↦ cond-false (is_tid u.tid unit.tid) (Some u) (unit_named unit.tid us) miss ∙ unit_named-Contains us unit none.1 behind
+      ]
     ]
 
 -- what is kept of a list in which no id stands twice

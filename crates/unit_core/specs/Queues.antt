@@ -1,5 +1,5 @@
 -- Units in queues. SAP Library, queued RFC; that a unit may stand in several queues is this project's own.
-use Rattle.std.specs.Prelude.{ℕ, Bool, false, not, ◌==◌, ◌&&◌, Option, Some, None, List, map, filter, find, nat_eq}
+use Rattle.std.specs.Prelude.{ℕ, Bool, true, false, not, ◌==◌, ◌&&◌, Option, Some, None, List, [], ◌∷◌, map, filter, find, nat_eq}
 use Rattle.std.specs.List.{list_any, list_all}
 use Rattle.std.specs.Cmp.Lexicographic.{pointwise}
 use Rattle.ale_base.specs.Tid.{TidOf, is_tid}
@@ -30,6 +30,11 @@ is_outstanding through unit = not (is_listed unit.tid through)
 -- whether a name is among these
 abbrev pub has_name : List ℕ → List (List ℕ) → Bool
 has_name name names = list_any (λ other. pointwise nat_eq other name) names
+
+-- whether no name stands twice in a list
+abbrev pub are_different : List (List ℕ) → Bool
+are_different [] = true
+are_different (name ∷ names) = not (has_name name names) && are_different names
 
 -- whether a unit stands in a queue
 abbrev pub stands_in : Queue → AleUnit → Bool

@@ -15,6 +15,8 @@ mod records;
 pub use ale_unit::AleUnit;
 pub use filters::{done_in, ended_in, executed, forgotten_in, received};
 pub use marks::{is_marked, is_stopped};
-pub use queue::{Queue, heads_inbound, heads_outbound, is_among, is_listed, unit_named};
+pub use queue::{
+    Queue, are_different, heads_inbound, heads_outbound, is_among, is_listed, unit_named,
+};
 pub use raw_unit_doc::RawUnitDoc;
 pub use records::Record;

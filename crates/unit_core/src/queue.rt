@@ -1,6 +1,6 @@
 ghost use Rattle.std.specs.Prelude.{◌≡◌, Bool};
 ghost use Rattle.std.specs.Option.{option_copied};
-ghost use Rattle.unit_core.specs.Queues.{is_listed, is_among, unit_named, is_outstanding, has_name, stands_in, head_of, is_head, heads_outbound, heads_inbound};
+ghost use Rattle.unit_core.specs.Queues.{is_listed, is_among, unit_named, has_name, are_different, stands_in, head_of, is_head, heads_outbound, heads_inbound};
 
 use crate::AleUnit;
 use ale_base::{QueueName, SystemNo, Tid};
@@ -93,6 +93,18 @@ fn stands_in(queue: &Queue, unit: &AleUnit) -> bool
             && has_name(name, unit.outq.as_slice()),
         Queue::Inbound { name } => has_name(name, unit.inq.as_slice()),
     }
+}
+
+/// Whether no name stands twice in a list.
+pub fn are_different(names: &[QueueName]) -> bool
+    ensures { result ≡ are_different names.now }
+{
+    for (place, name) in names.iter().enumerate() {
+        if has_name(name, &names[place + 1..]) {
+            return false;
+        }
+    }
+    true
 }
 
 fn has_name(name: &QueueName, names: &[QueueName]) -> bool

@@ -3,7 +3,7 @@ use idoc_record::{Control, Data};
 use std::alloc::AllocError;
 
 /// A document as a unit carries it: its control record, and the data records of its segments in order.
-#[derive(Debug, Drop)]
+#[derive(Debug, PartialEq, Eq, Drop)]
 pub struct RawUnitDoc {
     /// The control record.
     pub control: Control,

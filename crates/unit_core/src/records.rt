@@ -2,7 +2,7 @@ use crate::{AleUnit, RawUnitDoc};
 use ale_base::{DocNum, FieldValue, Items, Mark, OutOfMemory, QueueName, Tid, Way};
 
 /// A record of a system's log.
-#[derive(Clone, Debug, Drop)]
+#[derive(Clone, Debug, PartialEq, Eq, Drop)]
 pub enum Record {
     /// The first record of a log: the number of the system, and the text of its model.
     Genesis {

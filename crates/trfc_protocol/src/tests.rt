@@ -1,0 +1,5 @@
+mod once;
+mod plain;
+mod protocol;
+mod scene;
+mod walk;

@@ -1,0 +1,206 @@
+//! Walks through the protocol by events that a small generator chooses. After each event the exactly-once law and the
+//! claims are looked at plainly.
+
+ghost use Rattle.std.specs.Prelude.{◌<◌, ◌≤◌};
+
+use super::plain::Logs;
+use super::scene::{commit, retry, revoke, system, tid, unit};
+use crate::{CoreAnswer, Event, HeldKind, ListedRules, ReplyTo, World, step};
+use ale_base::{Items, OutOfMemory, SystemNo, Tid, Way};
+use std::alloc::Global;
+use std::process::Abort;
+use std::test::Fail;
+use unit_core::{AleUnit, Record};
+
+/// Numbers that follow from a seed: Knuth's linear congruential generator of MMIX.
+#[derive(Drop)]
+struct Dice {
+    state: u64,
+}
+
+impl Dice {
+    /// A number below this one, which is not 0.
+    fn below(&mut self, bound: u64) -> u64
+        requires { 1 ≤ bound }
+        ensures { result < bound }
+    {
+        self.state = self
+            .state
+            .wrapping_mul(6_364_136_223_846_793_005)
+            .wrapping_add(1_442_695_040_888_963_407);
+        (self.state >> 33) % bound
+    }
+}
+
+/// The units of a system: to the other one and to system 3, in shared queues and in none, with a function that is
+/// offered or one that is not.
+fn units(rt: &(impl Abort + AllocGlobal), number: u8) -> Result<Items<AleUnit>, OutOfMemory> {
+    let other = if number == 1 { 2 } else { 1 };
+    let plans: [(u8, &[&[u8]], &[&[u8]], &[u8]); 8] = [
+        (other, &[b"X"], &[b"Q"], ListedRules::FUNCTION),
+        (other, &[b"X", b"Y"], &[b"Q"], ListedRules::FUNCTION),
+        (3, &[b"X"], &[], ListedRules::FUNCTION),
+        (3, &[b"Y"], &[b"Q", b"R"], ListedRules::FUNCTION),
+        (other, &[b"Y"], &[b"Q"], b"Z_OTHER"),
+        (other, &[], &[b"R"], ListedRules::FUNCTION),
+        (3, &[], &[], b"Z_OTHER"),
+        (other, &[], &[], ListedRules::FUNCTION),
+    ];
+    let mut units = Items::new(rt.alloc());
+    let mut place = 0u32;
+    for (receiver, outq, inq, function) in plans {
+        place = place.saturating_add(1);
+        units.push(unit(rt, tid(rt, number, place), receiver, outq, inq, function)?)?;
+    }
+    Ok(units)
+}
+
+/// An event, possible or not.
+fn event(rt: &(impl Abort + AllocGlobal), dice: &mut Dice, next_number: u64) -> Event {
+    let system = system(rt, dice.below(2) as u8 + 1);
+    let tid = tid(rt, system.get(), dice.below(8) as u32 + 1);
+    let number = next_number.saturating_sub(1 + dice.below(3));
+    match dice.below(18) {
+        0 | 15 => commit(rt.alloc(), system),
+        1 | 2 => Event::Claim { tid },
+        3 | 4 => Event::Arrive { tid },
+        5 => Event::Run { tid },
+        6 | 7 => Event::Finish { number },
+        8 => Event::Fail { number },
+        9 => answer(number, dice.below(3)),
+        10 => Event::LoseRequest { number },
+        11 => Event::LoseReply { number },
+        12 => Event::Confirm { tid },
+        13 => Event::Reply {
+            to: ReplyTo::Forgotten(tid),
+        },
+        14 => retry(
+            system,
+            if dice.below(2) == 0 {
+                Way::Outgoing
+            } else {
+                Way::Incoming
+            },
+            tid,
+        ),
+        _ if dice.below(8) == 0 => revoke(),
+        _ => answer(number, 0),
+    }
+}
+
+fn answer(number: u64, which: u64) -> Event {
+    let answer = match which {
+        0 => CoreAnswer::Done,
+        1 => CoreAnswer::SysFail,
+        _ => CoreAnswer::Busy,
+    };
+    Event::Reply {
+        to: ReplyTo::Claim(number, answer),
+    }
+}
+
+/// Whether the claims differ in number, no unit has two of one kind, and each is for a unit that its work may still end.
+fn claims_are_sound(world: &World<ListedRules>) -> bool {
+    for (place, held) in world.claims.as_slice().iter().enumerate() {
+        if held.number >= world.next_number || !is_due(world, held.kind, held.tid, held.system) {
+            return false;
+        }
+        for earlier in &world.claims.as_slice()[..place] {
+            if earlier.number == held.number
+                || (earlier.kind == held.kind && earlier.tid == held.tid)
+            {
+                return false;
+            }
+        }
+    }
+    true
+}
+
+/// Whether the unit of a claim is still to be sent, or to be executed.
+fn is_due(world: &World<ListedRules>, kind: HeldKind, tid: Tid, system: SystemNo) -> bool {
+    let log = world.log(system);
+    match kind {
+        HeldKind::Out => !log.contains(&Record::Done { tid }),
+        HeldKind::In => !log.contains(&Record::Execute { tid }),
+        HeldKind::Direct => !log.iter().any(|r| match r {
+            Record::Direct { unit } => unit.tid == tid,
+            _ => false,
+        }),
+    }
+}
+
+/// The logs of the three systems, and what they committed, as the law looks at them.
+fn is_once(
+    rt: &(impl Abort + AllocGlobal),
+    world: &World<ListedRules>,
+) -> Result<bool, OutOfMemory> {
+    let alloc = rt.alloc();
+    let mut logs = Vec::new(alloc);
+    let mut committed = Vec::new(alloc);
+    for state in &world.systems {
+        let commits = state.log.iter().filter(|r| is_commit(r)).count();
+        logs.push(state.log.clone()?)?;
+        let mut units = Items::new(alloc);
+        if let Some(list) = world.rules.units.get(committed.len()) {
+            for unit in list.as_slice().iter().take(commits) {
+                units.push(unit.clone()?)?;
+            }
+        }
+        committed.push(units)?;
+    }
+    let broken = Logs {
+        logs: logs.as_slice(),
+        committed: committed.as_slice(),
+    }
+    .broken(alloc)?;
+    Ok(broken.is_empty())
+}
+
+fn is_commit(record: &Record) -> bool {
+    match record {
+        Record::Commit { .. } => true,
+        _ => false,
+    }
+}
+
+/// A world of three systems after 300 events, at each of which the law and the claims are looked at.
+fn walk(
+    rt: &(impl Abort + AllocGlobal),
+    dice: &mut Dice,
+) -> Result<World<ListedRules>, OutOfMemory> {
+    let mut lists = Items::new(rt.alloc());
+    lists.push(units(rt, 1)?)?;
+    lists.push(units(rt, 2)?)?;
+    lists.push(Items::new(rt.alloc()))?;
+    let rules = ListedRules::of(lists).expect(rt, "units of three systems");
+    let mut world = World::start(rt.alloc(), rules)?;
+    for _ in 0..300 {
+        let next = event(rt, dice, world.next_number);
+        world = step(rt.alloc(), world, &next)?;
+        assert!(rt; is_once(rt, &world)?, "after {next:?}");
+        assert!(rt; claims_are_sound(&world), "after {next:?}");
+    }
+    Ok(world)
+}
+
+#[test]
+fn whatever_happens_each_unit_is_taken_and_executed_once(rt: HostRuntime) -> Result<(), Fail> {
+    let mut dice = Dice { state: 20_261_127 };
+    let mut executed = 0usize;
+    for _ in 0..20 {
+        let world = walk(&rt, &mut dice)?;
+        for state in &world.systems {
+            executed = executed.saturating_add(state.log.iter().filter(|r| is_executed(r)).count());
+        }
+    }
+    // The walks are no idle ones.
+    assert!(rt; executed >= 20, "{executed} executed");
+    Ok(())
+}
+
+fn is_executed(record: &Record) -> bool {
+    match record {
+        Record::Execute { .. } | Record::Direct { .. } => true,
+        _ => false,
+    }
+}
