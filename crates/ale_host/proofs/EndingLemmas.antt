@@ -10,6 +10,7 @@ use Rattle.ale_host.specs.Ending.{EndsPass, Ends}
 pub Ends-pass : (words : List (List ℕ)) (told : List ℕ → Told) (faults : Type 0) (end : Ending) → form_of words ≡ Some Pass
     → EndsPass (document_file words) (told (document_file words)) faults end → Ends words told faults end
 Ends-pass words told faults (ending.Passed documents) is_pass ends = (is_pass, ends)
+Ends-pass words told faults (ending.Refused n fault) is_pass ends = (is_pass, ends)
 Ends-pass words told faults (ending.LineNotBuilt n) is_pass ends = (is_pass, ends)
 Ends-pass words told faults (ending.Unread name why) is_pass ends = (is_pass, ends)
 Ends-pass words told faults ending.OutOfMemory is_pass ends = tt

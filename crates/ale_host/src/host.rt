@@ -20,10 +20,11 @@ const WRITE_FAULT: u8 = 6;
 
 /// Does what the words ask for, prints its text to `out`, and gives the exit status.
 ///
-/// The status is 0 where the command was carried out, 1 where the words have none of the three forms, 5 where the
-/// document file was not read, 6 where the sink did not take all of the text, 9 where memory ran out, and 13 where
-/// something is asked for that is not built yet. With each but 6 the text that was put is exactly that of the ending,
-/// and with 6 it is a part of it that begins at its front.
+/// The status is 0 where the command was carried out, 1 where the words have none of the three forms, 3 where a line of
+/// the document file is refused, 5 where that file was not read, 6 where the sink did not take all of the text, 9 where
+/// memory ran out, and 13 where something is asked for that is not built yet. With each but 6 the text that was put is
+/// exactly that of the ending, and with 6 it is a part of it that begins at its front. The bytes of a document file
+/// have one ending.
 pub fn aleflow<F: Files, K: Sink>(alloc: Global, words: &[String], files: &mut F, out: &mut K) -> u8
     ensures ended { result ≢ 6 → (ending : Ending)
         × Ends (map string_bytes words.now) (F.told files.old) (Rose (F.faults files.old) (F.faults files.new)) ending
@@ -34,6 +35,7 @@ pub fn aleflow<F: Files, K: Sink>(alloc: Global, words: &[String], files: &mut F
         × ((ending : Ending)
         × Ends (map string_bytes words.now) (F.told files.old) (Rose (F.faults files.old) (F.faults files.new)) ending
         × AppendsFront (K.contents out.old) (K.contents out.new) (text_of ending)) }
+    ensures one_ending { (bytes : List ℕ) (one other : Ending) → EndsFile bytes one → EndsFile bytes other → one ≡ other }
     ensures files_kept { (name : List ℕ) → F.told files.new name ≡ F.told files.old name }
     ensures files_counted { F.faults files.old ≤ F.faults files.new }
     ensures sink_counted { K.faults out.old ≤ K.faults out.new }
@@ -115,7 +117,8 @@ fn file_ending(alloc: Global, bytes: &[u8]) -> Result<Ending, OutOfMemory>
 {
     match read_documents(alloc, bytes) {
         Ok(documents) => Ok(Ending::Passed(documents)),
-        Err(ReadingEnd::Unread(number)) => Ok(Ending::LineNotBuilt(number)),
+        Err(ReadingEnd::NotBuilt(number)) => Ok(Ending::LineNotBuilt(number)),
+        Err(ReadingEnd::Refused(number, fault)) => Ok(Ending::Refused(number, fault)),
         Err(ReadingEnd::OutOfMemory) => Err(OutOfMemory),
     }
 }

@@ -8,6 +8,7 @@
 mod documents;
 mod ending;
 mod host;
+mod line_fault;
 mod lines;
 mod pass_text;
 mod reading;
@@ -16,6 +17,7 @@ mod words;
 pub use documents::Document;
 pub use ending::{Ending, NotRead};
 pub use host::{aleflow, out_of_memory};
+pub use line_fault::LineFault;
 
 #[cfg(test)]
 mod tests;
