@@ -9,6 +9,7 @@ use Rattle.ale_host.specs.declared.ending.Ending.TheVariants as ending
 use Rattle.ale_host.specs.Lines.{lines_of}
 use Rattle.ale_host.specs.DocumentFile.{AreDocuments, IsFirstUnread, IsNotBuilt, StopsAt, IsFirstNotBuilt, IsFirstRefused, HasFault, long, no_control, of_control, of_data}
 use Rattle.ale_host.specs.Ending.{EndsFile}
+use Rattle.ale_host.proofs.FaultLemmas.{control_once, data_once}
 use Rattle.ale_host.proofs.DocumentLemmas.{begins, goes_on, follows_from, same_documents}
 
 -- the first lines of documents are those of documents
@@ -51,24 +52,24 @@ module _ (lines : List (List ℕ)) (n m : ℕ) (read others : List Document) (li
       let same_line : line ≡ another = cc in
       (same, same_documents (take (m - 1) lines) read others before other.before, same_line)
 
--- a line has one first fault
+-- a line has one first fault behind these documents
 fault_once : (read : List Document) (line : List ℕ) (f g : LineFault) → HasFault read line f → HasFault read line g → f ≡ g
 fault_once read line _ _ (long over) (long more) = refl
 fault_once read line _ _ (long over) (no_control short other none) = absurd (omega arith)
-fault_once read line _ g (long over) (of_control its _ short kind is same) = absurd (omega arith)
-fault_once read line _ g (long over) (of_data its _ short other some is same) = absurd (omega arith)
+fault_once read line _ g (long over) (of_control _ short kind its) = absurd (omega arith)
+fault_once read line _ g (long over) (of_data _ short other some its) = absurd (omega arith)
 fault_once read line _ _ (no_control short other none) (long over) = absurd (omega arith)
 fault_once read line _ _ (no_control short other none) (no_control _ _ _) = refl
-fault_once read line _ g (no_control short other none) (of_control its _ _ kind is same) = absurd (other kind)
-fault_once read line _ g (no_control short other none) (of_data its _ _ _ some is same) = absurd (some none)
-fault_once read line f _ (of_control its _ short kind is same) (long over) = absurd (omega arith)
-fault_once read line f _ (of_control its _ short kind is same) (no_control _ other none) = absurd (other kind)
-fault_once read line f g (of_control its _ short kind is same) (of_control those _ _ _ are that) = cc
-fault_once read line f g (of_control its _ short kind is same) (of_data those _ _ other some are that) = absurd (other kind)
-fault_once read line f _ (of_data its _ short other some is same) (long over) = absurd (omega arith)
-fault_once read line f _ (of_data its _ short other some is same) (no_control _ _ none) = absurd (some none)
-fault_once read line f g (of_data its _ short other some is same) (of_control those _ _ kind are that) = absurd (other kind)
-fault_once read line f g (of_data its _ short other some is same) (of_data those _ _ _ _ are that) = cc
+fault_once read line _ g (no_control short other none) (of_control _ _ kind its) = absurd (other kind)
+fault_once read line _ g (no_control short other none) (of_data _ _ _ some its) = absurd (some none)
+fault_once read line f _ (of_control _ short kind its) (long over) = absurd (omega arith)
+fault_once read line f _ (of_control _ short kind its) (no_control _ other none) = absurd (other kind)
+fault_once read line f g (of_control _ short kind its) (of_control _ _ _ those) = control_once line f g its those
+fault_once read line f g (of_control _ short kind its) (of_data _ _ other some those) = absurd (other kind)
+fault_once read line f _ (of_data _ short other some its) (long over) = absurd (omega arith)
+fault_once read line f _ (of_data _ short other some its) (no_control _ _ none) = absurd (some none)
+fault_once read line f g (of_data _ short other some its) (of_control _ _ kind those) = absurd (other kind)
+fault_once read line f g (of_data _ short other some its) (of_data _ _ _ _ those) = data_once line f g its those
 
 refused_or_not : (lines : List (List ℕ)) (n m : ℕ) (fault : LineFault) → IsFirstRefused lines n fault → IsFirstNotBuilt lines m → ⊥
 refused_or_not lines n m fault refused other =

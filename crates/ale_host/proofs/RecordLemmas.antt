@@ -10,7 +10,7 @@ use Rattle.ale_base.specs.TrimmedLemmas.{trimmed-take-padded, padded-trimmed, le
 use Rattle.idoc_record.specs.declared.control_field.ControlField.TheVariants.{Tabnam}
 use Rattle.idoc_record.specs.Control.{IsControlLine, is_control_table, field_of}
 use Rattle.idoc_record.specs.Data.{Segment, IsDataLine, is_no_segment}
-use Rattle.ale_host.specs.DocumentFile.{FileRecord, control, segment, IsLineOf, is_blank, IsControlKind}
+use Rattle.ale_host.specs.DocumentFile.{FileRecord, control, segment, IsLineOf, is_blank, IsControlKind, control_text}
 
 -- a text begins with the byte that it is trimmed to begin with
 before_trimmed-front : (a b c : ℕ) (text more : List ℕ) → before_trimmed a text ≡ b ∷ c ∷ more → (a ≡ b) × (text ≡ c ∷ more)
@@ -51,6 +51,12 @@ control_kind line bytes is =
     let table : trimmed (take 10 (padded 524 text)) ≡ codes "EDI_DC40" =
     (bytes_decides (trimmed (take 10 (padded 524 text))) (codes "EDI_DC40")).0 (subst (λ (bs : List ℕ). is_control_table (field_of bs Tabnam) ≡ true) is.bytes is.kept.table) in
     sym (trimmed-take-trimmed 10 line) ∙ sym (trimmed-take-padded 10 524 text) ∙ table
+
+-- a control line names the table of control records
+pub control_table : (line : List ℕ) → IsControlKind line → is_control_table (control_text line Tabnam) ≡ true
+control_table line kind =
+    let text = trimmed line in
+    (bytes_decides (trimmed (take 10 (padded 524 text))) (codes "EDI_DC40")).1 (trimmed-take-padded 10 524 text ∙ trimmed-take-trimmed 10 line ∙ kind)
 
 -- and a data record is none
 pub data_kind : (line : List ℕ) (data_record : Segment) → IsDataLine line data_record → IsControlKind line → ⊥

@@ -1,16 +1,13 @@
 -- A line that is not built yet, or has a fault, is not read.
-use Rattle.std.proofs.Common.{◌≡◌, ℕ, false, ◌<◌, ◌≤◌, inl, inr, Some, None, Ok, Err, Result, List, [], ◌∷◌, ◌++◌, length, ap, subst, ◌∙◌, arith}
+use Rattle.std.proofs.Common.{◌≡◌, ℕ, false, ◌<◌, ◌≤◌, inl, inr, Some, None, List, [], ◌∷◌, ◌++◌, length, ap, subst, ◌∙◌, arith}
 use Rattle.std.specs.Prelude.{sum_by, Contains}
 use Rattle.idoc_record.specs.declared.fault.RecordFault.{RecordFault}
 use Rattle.idoc_record.specs.declared.fault.RecordFault.TheVariants as record_fault
-use Rattle.idoc_record.specs.Control.{control_read}
-use Rattle.idoc_record.specs.Data.{data_read}
-use Rattle.idoc_record.proofs.ControlLemmas.{control_read-line}
-use Rattle.idoc_record.proofs.DataLemmas.{data_read-line}
 use Rattle.ale_base.proofs.SnocLemmas.{last-injective, AllByRecursion-front}
 use Rattle.ale_host.specs.declared.documents.Document.{Document}
 use Rattle.ale_host.specs.declared.line_fault.LineFault.{LineFault}
 use Rattle.ale_host.specs.DocumentFile.{IsPlain, segment_count, is_blank, IsControlKind, IsFull, IsNotBuilt, blank, has_return, one_document_more, one_record_more, HasFault, long, no_control, of_control, of_data, AreDocuments, fault_of}
+use Rattle.ale_host.proofs.FaultLemmas.{no_control-fault, no_data-fault}
 use Rattle.ale_host.proofs.RecordLemmas.{control_kind, data_kind, no_control_is_blank, no_data_is_blank}
 use Rattle.ale_host.proofs.DocumentLemmas.{begins, goes_on, follows_from, same_documents}
 
@@ -43,9 +40,6 @@ unread-not_built read line (one_record_more other full) lines are_read documents
           not_full front document read (same_documents lines (front ++ document ∷ []) read are_before are_read) room within full
     ]
 
-two_results : {T : Type 0} (r : Result T RecordFault) (x : T) (fault : RecordFault) → r ≡ Ok x → r ≡ Err fault → ⊥
-two_results r x fault ok err = absurd (cc)
-
 -- want of memory is no fault of a line
 pub not_in_memory : (its : RecordFault) (fault : LineFault) → fault_of its ≡ Some fault → its ≡ record_fault.OutOfMemory → ⊥
 not_in_memory its fault some same = let none : None ≡ Some fault = subst (λ f. fault_of f ≡ Some fault) same some in absurd (cc)
@@ -64,15 +58,15 @@ unread-fault read line _ (no_control short other none) lines are_read documents 
       | goes_on front document new are_before is_data room within same ↦
           not_empty front read document (same_documents lines (front ++ document ∷ []) read are_before are_read) none
     ]
-unread-fault read line fault (of_control its _ short kind is_fault same_fault) lines are_read documents are =
+unread-fault read line fault (of_control _ short kind its) lines are_read documents are =
     elim (follows_from lines line documents are) [
-      | begins bytes before are_before is_control room same ↦ two_results (control_read line) bytes its (control_read-line line bytes is_control) is_fault
+      | begins bytes before are_before is_control room same ↦ no_control-fault line fault bytes its is_control
       | goes_on front document new are_before is_data room within same ↦ data_kind line new is_data kind
     ]
-unread-fault read line fault (of_data its _ short other some is_fault same_fault) lines are_read documents are =
+unread-fault read line fault (of_data _ short other some its) lines are_read documents are =
     elim (follows_from lines line documents are) [
       | begins bytes before are_before is_control room same ↦ other (control_kind line bytes is_control)
-      | goes_on front document new are_before is_data room within same ↦ two_results (data_read line) new its (data_read-line line new is_data) is_fault
+      | goes_on front document new are_before is_data room within same ↦ no_data-fault line fault new its is_data
     ]
 
 -- a line is built where none of the causes holds

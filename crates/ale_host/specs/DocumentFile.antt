@@ -1,11 +1,14 @@
 -- Which documents a file holds.
-use Rattle.std.specs.Prelude.{◌≡◌, ◌≢◌, ℕ, ◌-◌, ◌<◌, ◌≤◌, ◌==◌, List, [], ◌∷◌, ◌++◌, length, map, take, slice_get, sum_by, Contains, ◌⊎◌, Bool, IsTrue, codes, Option, Some, None, Err}
+use Rattle.std.specs.Prelude.{◌≡◌, ◌≢◌, ℕ, ◌-◌, ◌<◌, ◌≤◌, ◌==◌, List, [], ◌∷◌, ◌++◌, length, map, take, slice_get, sum_by, Contains, ◌⊎◌, Bool, true, false, IsTrue, codes, Option, Some, None}
 use Rattle.std.specs.List.{AllZip, AllByRecursion, list_all, flat_map}
-use Rattle.ale_base.specs.Blanks.{trimmed}
+use Rattle.ale_base.specs.Blanks.{trimmed, padded}
+use Rattle.idoc_record.specs.declared.control_field.ControlField.{ControlField}
+use Rattle.idoc_record.specs.declared.control_field.ControlField.TheVariants.{Docnum, Direct}
 use Rattle.idoc_record.specs.declared.fault.RecordFault.{RecordFault}
 use Rattle.idoc_record.specs.declared.fault.RecordFault.TheVariants as record_fault
-use Rattle.idoc_record.specs.Data.{Segment, IsDataLine, data_read}
-use Rattle.idoc_record.specs.Control.{IsControlLine, control_read}
+use Rattle.idoc_record.specs.Parts.{text_at}
+use Rattle.idoc_record.specs.Data.{Segment, IsDataLine, segnam, is_no_segment}
+use Rattle.idoc_record.specs.Control.{IsControlLine, field_of, is_number, is_direction}
 use Rattle.ale_host.specs.declared.documents.Document.{Document}
 use Rattle.ale_host.specs.declared.line_fault.LineFault.{LineFault}
 use Rattle.ale_host.specs.declared.line_fault.LineFault.TheVariants.{LineTooLong, NoControl, TooLong, WrongTable, BadNumber}
@@ -113,14 +116,33 @@ fault_of record_fault.WrongTable = Some WrongTable
 fault_of (record_fault.BadNumber field) = Some (BadNumber field)
 fault_of record_fault.OutOfMemory = None
 
+-- the text of a field of a control line, without the blanks at its end
+abbrev pub control_text : List ℕ → ControlField → List ℕ
+control_text line field = field_of (padded 524 (trimmed line)) field
+
+-- the name of the segment of a data line
+abbrev pub segment_name : List ℕ → List ℕ
+segment_name line = text_at segnam (padded 1063 (trimmed line))
+
+-- the first fault of a control line within 4,096 bytes
+pub data HasControlFault (line : List ℕ) : LineFault → Type 0 where
+  over_524 : 524 < length (trimmed line) → HasControlFault line (TooLong (length (trimmed line)))
+  no_number : length (trimmed line) ≤ 524 → is_number (control_text line Docnum) ≡ false → HasControlFault line (BadNumber Docnum)
+  no_direction : length (trimmed line) ≤ 524 → is_number (control_text line Docnum) ≡ true
+      → is_direction (control_text line Direct) ≡ false → HasControlFault line (BadNumber Direct)
+
+-- the first fault of a data line within 4,096 bytes, behind a control line
+pub data HasDataFault (line : List ℕ) : LineFault → Type 0 where
+  over_1063 : 1063 < length (trimmed line) → HasDataFault line (TooLong (length (trimmed line)))
+  no_segment : length (trimmed line) ≤ 1063 → is_no_segment (segment_name line) ≡ true → HasDataFault line WrongTable
+
 -- behind these documents this is the first fault of the line
 pub data HasFault (read : List Document) (line : List ℕ) : LineFault → Type 0 where
   long : 4096 < length line → HasFault read line LineTooLong
   no_control : length line ≤ 4096 → (IsControlKind line → ⊥) → read ≡ [] → HasFault read line NoControl
-  of_control : (its : RecordFault) (fault : LineFault) → length line ≤ 4096 → IsControlKind line
-      → control_read line ≡ Err its → fault_of its ≡ Some fault → HasFault read line fault
-  of_data : (its : RecordFault) (fault : LineFault) → length line ≤ 4096 → (IsControlKind line → ⊥) → read ≢ []
-      → data_read line ≡ Err its → fault_of its ≡ Some fault → HasFault read line fault
+  of_control : (fault : LineFault) → length line ≤ 4096 → IsControlKind line → HasControlFault line fault → HasFault read line fault
+  of_data : (fault : LineFault) → length line ≤ 4096 → (IsControlKind line → ⊥) → read ≢ [] → HasDataFault line fault
+      → HasFault read line fault
 
 -- behind these documents the line is built and has this fault
 pub record IsRefused (read : List Document) (line : List ℕ) (fault : LineFault) : Type 0 where

@@ -85,3 +85,9 @@ text_of (ending.LineNotBuilt n) = codes "not built: line " ++ (decimal n ++ code
 abbrev pub IsPrintable : Ending → Type 0
 IsPrintable (ending.Passed documents) = length documents ≤ 4096
 IsPrintable end = ⊤
+
+-- no fault of the files came in the call, by their count before and after it, unless the ending may be one of a fault
+abbrev pub IsQuiet : Ending → ℕ → ℕ → Type 0
+IsQuiet (ending.Unread name why) before after = ⊤
+IsQuiet ending.OutOfMemory before after = ⊤
+IsQuiet end before after = after ≡ before

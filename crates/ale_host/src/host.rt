@@ -3,7 +3,7 @@ ghost use Rattle.std.specs.Io.KnownBytes.{Appends};
 ghost use Rattle.ale_io.specs.Faults.{Rose};
 ghost use Rattle.ale_io.specs.Written.{AppendsFront};
 ghost use Rattle.ale_host.specs.declared.ending.Ending.{Ending};
-ghost use Rattle.ale_host.specs.Ending.{Ends, EndsPass, EndsFile, IsPrintable, status_of, text_of};
+ghost use Rattle.ale_host.specs.Ending.{Ends, EndsPass, EndsFile, IsPrintable, IsQuiet, status_of, text_of};
 
 use crate::ending::{Ending, NotRead, OUT_OF_MEMORY};
 use crate::reading::{ReadingEnd, read_documents};
@@ -38,6 +38,7 @@ pub fn aleflow<F: Files, K: Sink>(alloc: Global, words: &[String], files: &mut F
     ensures one_ending { (bytes : List ℕ) (one other : Ending) → EndsFile bytes one → EndsFile bytes other → one ≡ other }
     ensures files_kept { (name : List ℕ) → F.told files.new name ≡ F.told files.old name }
     ensures files_counted { F.faults files.old ≤ F.faults files.new }
+    ensures files_quiet { result ≢ 5 → result ≢ 6 → result ≢ 9 → F.faults files.new ≡ F.faults files.old }
     ensures sink_counted { K.faults out.old ≤ K.faults out.new }
 {
     let ending = ending_of(alloc, words, files);
@@ -81,6 +82,7 @@ fn ending_of<F: Files>(alloc: Global, words: &[String], files: &mut F) -> Ending
     ensures printable { IsPrintable result }
     ensures kept { (name : List ℕ) → F.told files.new name ≡ F.told files.old name }
     ensures counted { F.faults files.old ≤ F.faults files.new }
+    ensures quiet { IsQuiet result (F.faults files.old) (F.faults files.new) }
 {
     match form_of(words) {
         None => Ending::Usage,
@@ -99,6 +101,7 @@ fn pass<F: Files>(alloc: Global, name: &str, files: &mut F) -> Result<Ending, Ou
     ensures printable { IfOk result IsPrintable }
     ensures kept { (other : List ℕ) → F.told files.new other ≡ F.told files.old other }
     ensures counted { F.faults files.old ≤ F.faults files.new }
+    ensures quiet { IfOk result (λ ending. IsQuiet ending (F.faults files.old) (F.faults files.new)) }
 {
     let mut bytes = Vec::new(alloc);
     match files.read_file(name, FILE_LIMIT, &mut bytes) {

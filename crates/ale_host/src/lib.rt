@@ -1,8 +1,8 @@
 //! The top call: what the program does for its words, from the files that it reads to the text that it prints.
 //!
 //! Contract: a run has an ending whose cause stands in its words and files, or is a fault or want of memory, and it
-//! puts exactly the text of that ending. The definitions are in `specs/`: `Words`, `DocumentFile` (which documents a
-//! file holds), `PassText`, `Ending`.
+//! puts exactly the text of that ending; the bytes of a file have one. The definitions are in `specs/`: `Words`,
+//! `DocumentFile` (which documents a file holds, and why a line is not read), `PassText`, `Ending`.
 #![tactic(auto)]
 
 mod documents;

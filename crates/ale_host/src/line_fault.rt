@@ -21,7 +21,7 @@ pub enum LineFault {
 
 impl LineFault {
     /// The fault of a line whose record has this fault. None where memory ran out, which is no fault of the line.
-    pub fn of(fault: RecordFault) -> Option<LineFault>
+    pub(crate) fn of(fault: RecordFault) -> Option<LineFault>
         ensures { result ≡ fault_of fault }
     {
         match fault {

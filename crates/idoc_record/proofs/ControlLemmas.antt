@@ -1,12 +1,12 @@
 -- A control record in which one field is written.
-use Rattle.std.proofs.Common.{◌≡◌, ℕ, ◌+◌, ◌≤◌, true, false, nat_le, nat_lt, IsTrue, ◌⊎◌, inl, inr, Ok, List, length, refl, sym, ap, subst, ◌∙◌, arith}
-use Rattle.std.proofs.lemmas.Bool.{leb-true, le-ltb}
+use Rattle.std.proofs.Common.{◌≡◌, ℕ, ◌+◌, ◌≤◌, true, nat_le, IsTrue, ◌⊎◌, inl, inr, List, length, refl, sym, ap, subst, ◌∙◌}
+use Rattle.std.proofs.lemmas.Bool.{leb-true}
 use Rattle.ale_base.specs.Blanks.{trimmed}
 use Rattle.idoc_record.specs.declared.control_field.ControlField.{ControlField}
 use Rattle.idoc_record.specs.declared.control_field.ControlField.TheVariants.{Tabnam, Docnum, Direct}
 use Rattle.idoc_record.specs.ControlField.{span_of}
 use Rattle.idoc_record.specs.Parts.{with_text}
-use Rattle.idoc_record.specs.Control.{IsControl, IsControlLine, IsAllowed, control_of, control_read, field_of, is_control_table, is_number, is_direction}
+use Rattle.idoc_record.specs.Control.{IsControl, IsAllowed, field_of, is_control_table, is_number, is_direction}
 use Rattle.idoc_record.proofs.PartLemmas.{is_apart, length-with_text, text_at-same, part-apart}
 
 ends_within : (field : ControlField) → nat_le ((span_of field).offset + (span_of field).length) 524 ≡ true
@@ -46,16 +46,3 @@ module _ (field : ControlField) (text control : List ℕ) (is : IsControl contro
     number = field_of-written Docnum (λ t. IsTrue (is_number t)) (apart_from-Docnum field) (λ same. subst (λ f. IsAllowed f (trimmed text)) same allowed) is.number;
     direction = field_of-written Direct (λ t. IsTrue (is_direction t)) (apart_from-Direct field) (λ same. subst (λ f. IsAllowed f (trimmed text)) same allowed) is.direction;
   }
-
-control_of-kept : (bytes : List ℕ) → IsControl bytes → control_of bytes ≡ Ok bytes
-control_of-kept bytes is =
-    let table : is_control_table (field_of bytes Tabnam) ≡ true = is.table in
-    let number : is_number (field_of bytes Docnum) ≡ true = is.number in
-    let direction : is_direction (field_of bytes Direct) ≡ true = is.direction in
-    rw (table, number, direction) refl
-
--- a line that is a control record is read as it
-pub control_read-line : (line control : List ℕ) → IsControlLine line control → control_read line ≡ Ok control
-control_read-line line control is =
-    let fits : nat_lt 524 (length (trimmed line)) ≡ false = le-ltb 524 (length (trimmed line)) is.fits in
-    rw (fits, ← is.bytes) (control_of-kept control is.kept)

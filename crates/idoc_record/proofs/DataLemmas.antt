@@ -1,12 +1,11 @@
 -- The fields of a data record, read from a line that is shorter.
-use Rattle.std.proofs.Common.{◌≡◌, ℕ, ◌-◌, ◌≤◌, true, false, not, nat_lt, Result, Ok, List, length, take, drop, refl, sym, ap, subst, ◌∙◌, arith}
+use Rattle.std.proofs.Common.{◌≡◌, ℕ, ◌-◌, ◌≤◌, false, not, Result, Ok, List, length, take, drop, sym, ap, subst, ◌∙◌, arith}
 use Rattle.std.specs.Prelude.{min}
 use Rattle.std.proofs.lemmas.List.{length-take, take_min, take_rest}
 use Rattle.ale_base.specs.Blanks.{trimmed, padded}
 use Rattle.ale_base.specs.TrimmedLemmas.{trimmed-take-padded, trimmed-drop-padded, trimmed-trimmed, length-trimmed, length-padded}
 use Rattle.idoc_record.specs.Parts.{part, text_at}
-use Rattle.std.proofs.lemmas.Bool.{le-ltb, not-true}
-use Rattle.idoc_record.specs.Data.{Segment, segnam, sdata, is_no_segment, IsDataLine, data_read}
+use Rattle.idoc_record.specs.Data.{Segment, segnam, sdata, is_no_segment, IsDataLine}
 
 -- the name stands at the front
 pub text_at-segnam : (text : List ℕ) → text_at segnam (padded 1063 text) ≡ trimmed (take (min 30 (length text)) text)
@@ -40,10 +39,3 @@ IsDataLine-read line segment fits named is_segnam is_sdata = record {
 
 pub Ok-injective : {E : Type 0} (a b : Segment) → ◌≡◌ {A = Result Segment E} (Ok a) (Ok b) → a ≡ b
 Ok-injective a b same = cc
-
--- a line that is a data record is read as it
-pub data_read-line : (line : List ℕ) (segment : Segment) → IsDataLine line segment → data_read line ≡ Ok segment
-data_read-line line segment is =
-    let fits : nat_lt 1063 (length (trimmed line)) ≡ false = le-ltb 1063 (length (trimmed line)) is.fits in
-    let named : is_no_segment segment.segnam ≡ false = not-true (is_no_segment segment.segnam) is.kept.segnam in
-    rw (fits, ← is.segnam, ← is.sdata, named) refl

@@ -1,3 +1,6 @@
+ghost use Rattle.std.specs.Prelude.{◌≡◌};
+ghost use Rattle.worked_cases.specs.Expected.{all_fit};
+
 use crate::lines::FileText;
 
 /// What a case file says.
@@ -53,8 +56,12 @@ pub enum Relation {
 }
 
 impl Output {
+    ghost use Rattle.worked_cases.specs.Expected.{fits};
+
     /// Whether the text that was printed is as expected.
-    pub fn fits(&self, printed: &[u8]) -> bool {
+    pub fn fits(&self, printed: &[u8]) -> bool
+        ensures { result ≡ fits self.now.relation self.now.text.items printed.now }
+    {
         let text = self.text.as_slice();
         match self.relation {
             Relation::Whole => printed == text,
@@ -63,4 +70,25 @@ impl Output {
             Relation::Last => printed.ends_with(text),
         }
     }
+}
+
+impl Run {
+    ghost use Rattle.worked_cases.specs.Expected.{is_expected};
+
+    /// Whether a run that ended so is as expected.
+    pub fn is_expected(&self, status: u8, printed: &[u8]) -> bool
+        ensures { result ≡ is_expected self.now.status self.now.outputs.items status printed.now }
+    {
+        match self.status {
+            Some(wanted) => wanted == status && all_fit(self.outputs.as_slice(), printed),
+            None => false,
+        }
+    }
+}
+
+/// Whether the text that was printed is all that is expected of it.
+fn all_fit(outputs: &[Output], printed: &[u8]) -> bool
+    ensures { result ≡ all_fit outputs.now printed.now }
+{
+    outputs.iter().all(|output| output.fits(printed))
 }

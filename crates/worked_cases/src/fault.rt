@@ -60,7 +60,7 @@ pub enum LineEnd {
 
 impl LineEnd {
     /// The same, at the line of this number.
-    pub fn at(self, line: u32) -> CaseFault {
+    pub(crate) fn at(self, line: u32) -> CaseFault {
         match self {
             LineEnd::Broken(rule) => CaseFault::Malformed { line, rule },
             LineEnd::OutOfMemory => CaseFault::OutOfMemory,

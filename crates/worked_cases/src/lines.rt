@@ -24,7 +24,7 @@ pub struct Repeat {
 
 impl FileText {
     /// Adds what a line of the file's block stands for.
-    pub fn add(&mut self, alloc: Global, text: &[u8]) -> Result<(), LineEnd> {
+    pub(crate) fn add(&mut self, alloc: Global, text: &[u8]) -> Result<(), LineEnd> {
         match first_word(text) {
             (b"repeat", count) => self.begin_repeat(count),
             (b"end", b"") => self.end_repeat(alloc),

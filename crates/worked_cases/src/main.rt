@@ -1,7 +1,9 @@
 //! The acceptance program: it runs the case files of a folder through the top call, with files and a sink in memory, and
 //! prints a line a case: `ok NAME`, or what was expected and what was found.
 //!
-//! Nothing is proved of it but that it is safe and ends. The form of a case file is in `docs/reference/cases.md`.
+//! Contract: a run is as expected exactly where its status and its text are those that the case gives (`specs/`:
+//! `Expected`). Beyond that nothing is proved but that it is safe and ends. The form of a case file is in
+//! `docs/reference/cases.md`.
 #![tactic(auto)]
 
 mod case;
@@ -85,3 +87,6 @@ fn main(rt: HostRuntime) -> io::Result<ExitCode> {
         ExitCode::FAILURE
     })
 }
+
+#[cfg(test)]
+mod tests;

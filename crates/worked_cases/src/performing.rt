@@ -7,7 +7,10 @@ use std::alloc::{AllocError, Global};
 use std::mem;
 
 /// Runs a case through the top call, up to the first run that is not as expected.
-pub fn first_difference(alloc: Global, case: Case) -> Result<Option<Difference>, AllocError> {
+pub(crate) fn first_difference(
+    alloc: Global,
+    case: Case,
+) -> Result<Option<Difference>, AllocError> {
     let mut files = MapFiles {
         files: Items::new(alloc),
         calls: Calls::without_failures(alloc),
@@ -45,13 +48,7 @@ fn difference_of(alloc: Global, mut run: Run, files: &mut MapFiles) -> Option<Di
     };
     let status = aleflow(alloc, run.words.as_slice(), files, &mut out);
     let VecSink { bytes, calls: _ } = out;
-    let is_status = run.status == Some(status);
-    if is_status
-        && run
-            .outputs
-            .iter()
-            .all(|output| output.fits(bytes.as_slice()))
-    {
+    if run.is_expected(status, bytes.as_slice()) {
         return None;
     }
     Some(Difference {

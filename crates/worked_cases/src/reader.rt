@@ -6,7 +6,7 @@ use std::alloc::Global;
 use std::str;
 
 /// The case that the file of this name holds, or the first line that breaks a rule.
-pub fn read_case(alloc: Global, name: &str, bytes: &[u8]) -> Result<Case, CaseFault> {
+pub(crate) fn read_case(alloc: Global, name: &str, bytes: &[u8]) -> Result<Case, CaseFault> {
     if !name.ends_with(".case") {
         return Err(LineEnd::Broken(Rule::NotNamedCase).at(1));
     }
@@ -16,7 +16,8 @@ pub fn read_case(alloc: Global, name: &str, bytes: &[u8]) -> Result<Case, CaseFa
         steps: Vec::new(alloc),
     };
     let mut number: u32 = 0;
-    for line in bytes.split(|byte| *byte == b'\n') {
+    let lines = bytes.strip_suffix(b"\n").unwrap_or(bytes);
+    for line in lines.split(|byte| *byte == b'\n') {
         number = number.saturating_add(1);
         reader.read_line(line).map_err(|end| end.at(number))?;
     }

@@ -84,7 +84,7 @@ impl Kind {
 }
 
 /// A control record with these fields, in full width: `NAME=TEXT ..`.
-pub fn control_record(alloc: Global, fields: &[u8]) -> Result<Vec<u8>, LineEnd> {
+pub(crate) fn control_record(alloc: Global, fields: &[u8]) -> Result<Vec<u8>, LineEnd> {
     let mut record = vec![in alloc; b' '; Control::LEN]?;
     put_field(
         record.as_mut_slice(),
@@ -96,7 +96,7 @@ pub fn control_record(alloc: Global, fields: &[u8]) -> Result<Vec<u8>, LineEnd> 
 }
 
 /// A data record with this name and these fields, in full width: `SEGNAM NAME=TEXT ..`.
-pub fn data_record(alloc: Global, text: &[u8]) -> Result<Vec<u8>, LineEnd> {
+pub(crate) fn data_record(alloc: Global, text: &[u8]) -> Result<Vec<u8>, LineEnd> {
     let (segnam, fields) = first_word(text);
     let mut record = vec![in alloc; b' '; Data::LEN]?;
     put_field_text(

@@ -11,7 +11,7 @@ pub struct Tally {
 
 impl Tally {
     /// Counts a case.
-    pub fn count(&mut self, is_passed: bool) {
+    pub(crate) fn count(&mut self, is_passed: bool) {
         if is_passed {
             self.passed = self.passed.saturating_add(1);
         } else {
@@ -21,16 +21,26 @@ impl Tally {
 }
 
 /// Prints what was expected of a run, and what was found.
-pub fn print_difference(rt: &impl Print, name: &str, difference: &Difference) -> io::Result<()> {
+pub(crate) fn print_difference(
+    rt: &impl Print,
+    name: &str,
+    difference: &Difference,
+) -> io::Result<()> {
     print!(rt; "differs {name}: run")?;
     for word in &difference.run.words {
         print!(rt; " {word:?}")?;
     }
     println!(rt; "")?;
     if let Some(status) = difference.run.status {
-        println!(rt; "  expected status {status}, found {}", difference.status)?;
+        println!(rt;
+            "  expected status {status}, found status {}",
+            difference.status
+        )?;
     }
     for output in &difference.run.outputs {
+        if output.fits(difference.printed.as_slice()) {
+            continue;
+        }
         match output.relation {
             Relation::Whole => println!(rt; "  expected this text:")?,
             Relation::FrontOf => println!(rt; "  expected a front of this text:")?,

@@ -2,18 +2,18 @@ use crate::fault::{LineEnd, Rule};
 use std::str;
 
 /// The parts before and behind the first of these bytes.
-pub fn cut(text: &[u8], at: u8) -> Option<(&[u8], &[u8])> {
+pub(crate) fn cut(text: &[u8], at: u8) -> Option<(&[u8], &[u8])> {
     let place = text.iter().position(|byte| *byte == at)?;
     Some((&text[..place], &text[place + 1..]))
 }
 
 /// The first word of a line, and what stands behind the blank at its end.
-pub fn first_word(line: &[u8]) -> (&[u8], &[u8]) {
+pub(crate) fn first_word(line: &[u8]) -> (&[u8], &[u8]) {
     cut(line, b' ').unwrap_or((line, &[]))
 }
 
 /// The number that decimal digits spell.
-pub fn number_of(digits: &[u8]) -> Result<u32, LineEnd> {
+pub(crate) fn number_of(digits: &[u8]) -> Result<u32, LineEnd> {
     if !digits.iter().all(|byte| byte.is_ascii_digit()) {
         return Err(Rule::BadNumber.into());
     }
@@ -24,7 +24,7 @@ pub fn number_of(digits: &[u8]) -> Result<u32, LineEnd> {
 }
 
 /// Appends the bytes that a text stands for: those between braces by their names, and all others as they are.
-pub fn put_text(bytes: &mut Vec<u8>, text: &[u8]) -> Result<(), LineEnd> {
+pub(crate) fn put_text(bytes: &mut Vec<u8>, text: &[u8]) -> Result<(), LineEnd> {
     let (plain, braced) = cut(text, b'{').unwrap_or((text, &[]));
     bytes.extend_from_slice(plain)?;
     if plain.len() == text.len() {
@@ -57,7 +57,7 @@ fn put_braced(bytes: &mut Vec<u8>, inner: &[u8]) -> Result<(), LineEnd> {
 }
 
 /// Appends these bytes so many times.
-pub fn put_times(bytes: &mut Vec<u8>, part: &[u8], count: u32) -> Result<(), LineEnd> {
+pub(crate) fn put_times(bytes: &mut Vec<u8>, part: &[u8], count: u32) -> Result<(), LineEnd> {
     for _ in 0..count {
         bytes.extend_from_slice(part)?;
     }
