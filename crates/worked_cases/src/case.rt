@@ -6,7 +6,7 @@ use crate::lines::FileText;
 /// What a case file says.
 #[derive(Drop)]
 pub struct Case {
-    /// Files and runs, in order.
+    /// Files, runs and broken texts, in order.
     pub steps: Vec<Step>,
 }
 
@@ -17,6 +17,19 @@ pub enum Step {
     File(FileText),
     /// The program is run.
     Run(Run),
+    /// A text is no case.
+    Broken(Broken),
+}
+
+/// A text that breaks a rule of case files, and what is expected to be told of it.
+#[derive(Drop)]
+pub struct Broken {
+    /// The line that breaks the rule, from 1.
+    pub line: u32,
+    /// The rule, as it is printed.
+    pub rule: Vec<u8>,
+    /// The text.
+    pub text: Vec<u8>,
 }
 
 /// A run of the program, and what is expected of it.

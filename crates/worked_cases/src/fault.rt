@@ -9,13 +9,13 @@ pub enum Rule {
     NotNamedCase,
     #[error("a line of a case file ends in no blank: write {{blank}}")]
     BlankAtEnd,
-    #[error("an item is title, file, run, failing, status or prints")]
+    #[error("an item is title, file, run, failing, status, prints or broken")]
     NoSuchItem,
     #[error("a case has one title, before all other items")]
     OneTitle,
     #[error("a file is named by one word, and given once")]
     OneFile,
-    #[error("a case has a run")]
+    #[error("a case ends with a run or a broken text")]
     NoRun,
     #[error("this item belongs to a run: run, failing, status and prints stand in this order")]
     OutOfOrder,
@@ -25,7 +25,7 @@ pub enum Rule {
     NoSuchCall,
     #[error("prints stands alone, or before `a front of`, `first` or `last`")]
     NoSuchPrints,
-    #[error("lines that are indented belong to a file or to what is printed")]
+    #[error("lines that are indented belong to a file, to what is printed or to a broken text")]
     NoBlock,
     #[error("a line of a file is line, control, data, full control or full data, perhaps behind `unended` or `COUNT x`")]
     NoSuchLine,

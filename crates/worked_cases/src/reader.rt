@@ -1,4 +1,4 @@
-use crate::case::{Case, Output, Relation, Run, Step};
+use crate::case::{Broken, Case, Output, Relation, Run, Step};
 use crate::fault::{CaseFault, LineEnd, Rule};
 use crate::lines::FileText;
 use crate::text::{first_word, number_of, put_text};
@@ -46,19 +46,16 @@ impl Reader {
         }
     }
 
-    /// A line of a file, or of what is printed.
+    /// A line of a file, of what is printed, or of a broken text.
     fn read_block_line(&mut self, text: &[u8]) -> Result<(), LineEnd> {
         let alloc = self.alloc;
         match self.steps.last_mut() {
             Some(Step::File(file)) => file.add(alloc, text),
             Some(Step::Run(run)) => match run.outputs.last_mut() {
-                Some(output) => {
-                    put_text(&mut output.text, text)?;
-                    output.text.push(b'\n')?;
-                    Ok(())
-                }
+                Some(output) => put_line(&mut output.text, text),
                 None => Err(Rule::NoBlock.into()),
             },
+            Some(Step::Broken(broken)) => put_line(&mut broken.text, text),
             None => Err(Rule::NoBlock.into()),
         }
     }
@@ -72,6 +69,7 @@ impl Reader {
             b"failing" => self.read_failing(rest),
             b"status" => self.read_status(rest),
             b"prints" => self.read_prints(rest),
+            b"broken" => self.read_broken(rest),
             _ => Err(Rule::NoSuchItem.into()),
         }
     }
@@ -103,7 +101,7 @@ impl Reader {
     fn has_file(&self, name: &[u8]) -> bool {
         self.steps.iter().any(|step| match step {
             Step::File(file) => file.name.as_slice() == name,
-            Step::Run(_) => false,
+            Step::Run(_) | Step::Broken(_) => false,
         })
     }
 
@@ -180,6 +178,18 @@ impl Reader {
         Ok(())
     }
 
+    fn read_broken(&mut self, text: &[u8]) -> Result<(), LineEnd> {
+        self.end_step()?;
+        let (line, rule) = first_word(text);
+        let broken = Broken {
+            line: number_of(line)?,
+            rule: Vec::from_slice(self.alloc, rule)?,
+            text: Vec::new(self.alloc),
+        };
+        self.steps.push(Step::Broken(broken))?;
+        Ok(())
+    }
+
     /// Sees that the step that was read last lacks nothing, and that there is a title.
     fn end_step(&self) -> Result<(), LineEnd> {
         if !self.is_titled {
@@ -202,10 +212,17 @@ impl Reader {
             steps,
         } = self;
         match steps.last() {
-            Some(Step::Run(_)) => Ok(Case { steps }),
+            Some(Step::Run(_) | Step::Broken(_)) => Ok(Case { steps }),
             _ => Err(Rule::NoRun.into()),
         }
     }
+}
+
+/// Appends what a text stands for, and ends the line.
+fn put_line(bytes: &mut Vec<u8>, text: &[u8]) -> Result<(), LineEnd> {
+    put_text(bytes, text)?;
+    bytes.push(b'\n')?;
+    Ok(())
 }
 
 /// The words of a command line, between blanks. `""` is the empty word.

@@ -1,5 +1,5 @@
 use crate::case::Relation;
-use crate::difference::Difference;
+use crate::difference::{Difference, RunDifference};
 use std::{io, str};
 
 /// How many cases were as expected, and how many were not.
@@ -20,12 +20,26 @@ impl Tally {
     }
 }
 
-/// Prints what was expected of a run, and what was found.
+/// Prints what was expected, and what was found.
 pub(crate) fn print_difference(
     rt: &impl Print,
     name: &str,
     difference: &Difference,
 ) -> io::Result<()> {
+    match difference {
+        Difference::Run(run) => print_run(rt, name, run),
+        Difference::Broken(broken) => {
+            println!(rt;
+                "differs {name}: something else is told of this text at line {}:",
+                broken.line
+            )?;
+            print_text(rt, broken.text.as_slice())
+        }
+    }
+}
+
+/// Prints what was expected of a run, and what was found.
+fn print_run(rt: &impl Print, name: &str, difference: &RunDifference) -> io::Result<()> {
     print!(rt; "differs {name}: run")?;
     for word in &difference.run.words {
         print!(rt; " {word:?}")?;
