@@ -8,9 +8,9 @@ use Rattle.std.proofs.lemmas.List.Sums.{sum_by-append}
 use Rattle.idoc_record.specs.Control.{IsControlLine}
 use Rattle.idoc_record.specs.Data.{Segment, IsDataLine}
 use Rattle.ale_host.specs.declared.documents.Document.{Document}
-use Rattle.ale_host.specs.DocumentFile.{FileRecord, control, segment, records_of, IsLineOf, IsPlain, segment_count, begun, with_segment, HasRoom, AreDocuments}
+use Rattle.ale_host.specs.DocumentFile.{FileRecord, control, segment, records_of, IsLineOf, IsPlain, segment_count, begun, with_segment, AreDocuments}
 use Rattle.ale_base.proofs.SnocLemmas.{Snoc, none, some, snoc, AllByRecursion-snoc, AllByRecursion-front, AllZip-snoc, AllZip-front, AllZip-long}
-use Rattle.ale_host.proofs.RecordLemmas.{one_kind, same_records}
+use Rattle.ale_host.proofs.RecordLemmas.{same_records}
 
 -- the records with a document behind them
 records-begun : (documents : List Document) (bytes : List ℕ) → flat_map records_of (documents ++ begun bytes ∷ []) ≡ flat_map records_of documents ++ control bytes ∷ []
@@ -136,36 +136,3 @@ follows_by lines line _ (some front last) are = follows_last lines line front la
 
 pub follows_from : (lines : List (List ℕ)) (line : List ℕ) (documents : List Document) → AreDocuments (lines ++ line ∷ []) documents → FollowsFrom lines line documents
 follows_from lines line documents are = follows_by lines line documents (snoc documents) are
-
--- a line that is not plain is not read
-pub unread-not_plain : (line : List ℕ) → (IsPlain line → ⊥) → (lines : List (List ℕ)) (documents : List Document) → AreDocuments (lines ++ line ∷ []) documents → ⊥
-unread-not_plain line other lines documents are = other (AllByRecursion-front IsPlain lines line are.plain).1
-
--- a line that is no record is not read
-pub unread-no_record : (line : List ℕ) → ((bytes : List ℕ) → IsControlLine line bytes → ⊥) → ((new : Segment) → IsDataLine line new → ⊥)
-    → (lines : List (List ℕ)) (documents : List Document) → AreDocuments (lines ++ line ∷ []) documents → ⊥
-unread-no_record line no_control no_data lines documents are =
-    elim (follows_from lines line documents are) [
-      | begins bytes before are_before is room same ↦ no_control bytes is
-      | goes_on front document new are_before is room within same ↦ no_data new is
-    ]
-
--- a control record is not read behind 4,096 documents
-pub unread-full : (line bytes : List ℕ) (read : List Document) → IsControlLine line bytes → 4096 ≤ length read
-    → (lines : List (List ℕ)) → AreDocuments lines read → (documents : List Document) → AreDocuments (lines ++ line ∷ []) documents → ⊥
-unread-full line bytes read is_control full lines are_read documents are =
-    elim (follows_from lines line documents are) [
-      | begins others before are_before is room same ↦ let all : before ≡ read = same_documents lines before read are_before are_read in
-          absurd (omega (arith, ap length all))
-      | goes_on front document new are_before is room within same ↦ one_kind line bytes new is_control is
-    ]
-
--- a data record is not read where no document has room for it
-pub unread-no_room : (line : List ℕ) (new : Segment) (read : List Document) → IsDataLine line new → ((front : List Document) (document : Document) → HasRoom read front document → ⊥)
-    → (lines : List (List ℕ)) → AreDocuments lines read → (documents : List Document) → AreDocuments (lines ++ line ∷ []) documents → ⊥
-unread-no_room line new read is_data no_room lines are_read documents are =
-    elim (follows_from lines line documents are) [
-      | begins bytes before are_before is room same ↦ one_kind line bytes new is is_data
-      | goes_on front document other are_before is room within same ↦ let all : front ++ document ∷ [] ≡ read = same_documents lines (front ++ document ∷ []) read are_before are_read in
-          no_room front document (sym all, room, subst (λ (ds : List Document). sum_by segment_count ds < 1000000) all within)
-    ]

@@ -1,16 +1,16 @@
 -- A line is one record at most.
-use Rattle.std.proofs.Common.{◌≡◌, ℕ, true, inl, inr, List, [], ◌∷◌, length, take, refl, sym, ap, subst, ◌∙◌, arith}
+use Rattle.std.proofs.Common.{◌≡◌, ℕ, true, nat_eq, inl, inr, List, [], ◌∷◌, length, take, refl, sym, ap, subst, ◌∙◌, arith}
 use Rattle.std.specs.Prelude.{codes, not}
-use Rattle.std.proofs.lemmas.Bool.{false≢true}
+use Rattle.std.proofs.lemmas.Bool.{false≢true, and_parts}
 use Rattle.std.specs.List.{AllZip}
 use Rattle.std.specs.Cmp.Lexicographic.{bytes_decides}
 use Rattle.std.proofs.lemmas.Bool.Decides.{eqb_tells}
 use Rattle.ale_base.specs.Blanks.{before_trimmed, trimmed, padded}
-use Rattle.ale_base.specs.TrimmedLemmas.{trimmed-take-padded, length-trimmed}
+use Rattle.ale_base.specs.TrimmedLemmas.{trimmed-take-padded, padded-trimmed, length-trimmed}
 use Rattle.idoc_record.specs.declared.control_field.ControlField.TheVariants.{Tabnam}
 use Rattle.idoc_record.specs.Control.{IsControlLine, is_control_table, field_of}
 use Rattle.idoc_record.specs.Data.{Segment, IsDataLine, is_no_segment}
-use Rattle.ale_host.specs.DocumentFile.{FileRecord, control, segment, IsLineOf}
+use Rattle.ale_host.specs.DocumentFile.{FileRecord, control, segment, IsLineOf, is_blank, IsControlKind, control_text}
 
 -- a text begins with the byte that it is trimmed to begin with
 before_trimmed-front : (a b c : ℕ) (text more : List ℕ) → before_trimmed a text ≡ b ∷ c ∷ more → (a ≡ b) × (text ≡ c ∷ more)
@@ -39,15 +39,57 @@ names_no_segment (a ∷ b ∷ c ∷ d ∷ text) same =
     let fourth = before_trimmed-front d 95 68 (trimmed (take 6 text)) (codes "C40") third.1 in
     rw (first.0, second.0, third.0, fourth.0, before_trimmed-95 (trimmed (take 26 text))) refl
 
--- no line is a control record and a data record
-pub one_kind : (line bytes : List ℕ) (data_record : Segment) → IsControlLine line bytes → IsDataLine line data_record → ⊥
-one_kind line bytes data_record is_control is_data =
+-- the front of a line does not depend on the blanks at its end
+trimmed-take-trimmed : (n : ℕ) (line : List ℕ) → trimmed (take n (trimmed line)) ≡ trimmed (take n line)
+trimmed-take-trimmed n line =
+    sym (trimmed-take-padded n (length line) (trimmed line)) ∙ ap (λ bytes. trimmed (take n bytes)) (padded-trimmed line)
+
+-- a control record is a control line by its first ten bytes
+pub control_kind : (line bytes : List ℕ) → IsControlLine line bytes → IsControlKind line
+control_kind line bytes is =
     let text = trimmed line in
     let table : trimmed (take 10 (padded 524 text)) ≡ codes "EDI_DC40" =
-    (bytes_decides (trimmed (take 10 (padded 524 text))) (codes "EDI_DC40")).0 (subst (λ (bs : List ℕ). is_control_table (field_of bs Tabnam) ≡ true) is_control.bytes is_control.kept.table) in
+    (bytes_decides (trimmed (take 10 (padded 524 text))) (codes "EDI_DC40")).0 (subst (λ (bs : List ℕ). is_control_table (field_of bs Tabnam) ≡ true) is.bytes is.kept.table) in
+    sym (trimmed-take-trimmed 10 line) ∙ sym (trimmed-take-padded 10 524 text) ∙ table
+
+-- a control line names the table of control records
+pub control_table : (line : List ℕ) → IsControlKind line → is_control_table (control_text line Tabnam) ≡ true
+control_table line kind =
+    let text = trimmed line in
+    (bytes_decides (trimmed (take 10 (padded 524 text))) (codes "EDI_DC40")).1 (trimmed-take-padded 10 524 text ∙ trimmed-take-trimmed 10 line ∙ kind)
+
+-- and a data record is none
+pub data_kind : (line : List ℕ) (data_record : Segment) → IsDataLine line data_record → IsControlKind line → ⊥
+data_kind line data_record is kind =
+    let text = trimmed line in
     let named : is_no_segment data_record.segnam ≡ true =
-    ap is_no_segment (is_data.segnam ∙ trimmed-take-padded 30 1063 text) ∙ names_no_segment text (sym (trimmed-take-padded 10 524 text) ∙ table) in
-    let differs : not true ≡ true = rw named at is_data.kept.segnam in
+    ap is_no_segment (is.segnam ∙ trimmed-take-padded 30 1063 text) ∙ names_no_segment text (trimmed-take-trimmed 10 line ∙ kind) in
+    let differs : not true ≡ true = rw named at is.kept.segnam in
+    absurd (false≢true differs)
+
+-- no line is a control record and a data record
+pub one_kind : (line bytes : List ℕ) (data_record : Segment) → IsControlLine line bytes → IsDataLine line data_record → ⊥
+one_kind line bytes data_record is_control is_data = data_kind line data_record is_data (control_kind line bytes is_control)
+
+-- of a blank line nothing is left
+trimmed-is_blank : (line : List ℕ) → is_blank line ≡ true → trimmed line ≡ []
+trimmed-is_blank [] is = refl
+trimmed-is_blank (b ∷ bs) is =
+    let parts = and_parts (nat_eq b 32) (is_blank bs) is in
+    rw (trimmed-is_blank bs parts.1, parts.0) refl
+
+-- so it is no record
+pub no_control_is_blank : (line bytes : List ℕ) → is_blank line ≡ true → IsControlLine line bytes → ⊥
+no_control_is_blank line bytes blank is =
+    let none : trimmed (take 10 (trimmed line)) ≡ [] = ap (λ text. trimmed (take 10 text)) (trimmed-is_blank line blank) in
+    let some : [] ≡ codes "EDI_DC40" = sym none ∙ trimmed-take-trimmed 10 line ∙ control_kind line bytes is in
+    absurd (cc)
+
+pub no_data_is_blank : (line : List ℕ) (data_record : Segment) → is_blank line ≡ true → IsDataLine line data_record → ⊥
+no_data_is_blank line data_record blank is =
+    let none : trimmed (take 30 (trimmed line)) ≡ [] = ap (λ text. trimmed (take 30 text)) (trimmed-is_blank line blank) in
+    let named : data_record.segnam ≡ [] = is.segnam ∙ trimmed-take-padded 30 1063 (trimmed line) ∙ none in
+    let differs : not true ≡ true = rw named at is.kept.segnam in
     absurd (false≢true differs)
 
 -- a line is one record at most

@@ -1,9 +1,17 @@
 -- Which documents a file holds.
-use Rattle.std.specs.Prelude.{◌≡◌, ℕ, ◌-◌, ◌<◌, ◌≤◌, List, [], ◌∷◌, ◌++◌, length, map, take, sum_by, Contains}
-use Rattle.std.specs.List.{AllZip, AllByRecursion, flat_map}
-use Rattle.idoc_record.specs.Data.{Segment, IsDataLine}
-use Rattle.idoc_record.specs.Control.{IsControlLine}
+use Rattle.std.specs.Prelude.{◌≡◌, ◌≢◌, ℕ, ◌-◌, ◌<◌, ◌≤◌, ◌==◌, List, [], ◌∷◌, ◌++◌, length, map, take, slice_get, sum_by, Contains, ◌⊎◌, Bool, true, false, IsTrue, codes, Option, Some, None}
+use Rattle.std.specs.List.{AllZip, AllByRecursion, list_all, flat_map}
+use Rattle.ale_base.specs.Blanks.{trimmed, padded}
+use Rattle.idoc_record.specs.declared.control_field.ControlField.{ControlField}
+use Rattle.idoc_record.specs.declared.control_field.ControlField.TheVariants.{Docnum, Direct}
+use Rattle.idoc_record.specs.declared.fault.RecordFault.{RecordFault}
+use Rattle.idoc_record.specs.declared.fault.RecordFault.TheVariants as record_fault
+use Rattle.idoc_record.specs.Parts.{text_at}
+use Rattle.idoc_record.specs.Data.{Segment, IsDataLine, segnam, is_no_segment}
+use Rattle.idoc_record.specs.Control.{IsControlLine, field_of, is_number, is_direction}
 use Rattle.ale_host.specs.declared.documents.Document.{Document}
+use Rattle.ale_host.specs.declared.line_fault.LineFault.{LineFault}
+use Rattle.ale_host.specs.declared.line_fault.LineFault.TheVariants.{LineTooLong, NoControl, TooLong, WrongTable, BadNumber}
 
 -- a record of a document file
 pub data FileRecord : Type 0 where
@@ -36,17 +44,12 @@ begun bytes = record { control = bytes; segments = [] }
 abbrev pub with_segment : Document → Segment → Document
 with_segment document new = record document { segments = document.segments ++ new ∷ [] }
 
--- the last document has one more segment, for which it had room
+-- the last document has one more segment
 pub record AddsToLast (before after : List Document) (new : Segment) : Type 0 where
   pub front : List Document
   pub document : Document
   pub was : before ≡ front ++ document ∷ []
-  pub room : segment_count document < 10000
   pub becomes : after ≡ front ++ with_segment document new ∷ []
-
--- of the documents read, this is the last, and it has room for a segment
-abbrev pub HasRoom : List Document → List Document → Document → Type 0
-HasRoom read front document = (read ≡ front ++ document ∷ []) × (segment_count document < 10000) × (sum_by segment_count read < 1000000)
 
 -- the lines are, one for one, the records of the documents, and no limit is passed
 pub record AreDocuments (lines : List (List ℕ)) (documents : List Document) : Type 0 where
@@ -63,3 +66,105 @@ pub record IsFirstUnread (lines : List (List ℕ)) (n : ℕ) : Type 0 where
   pub most : n ≤ length lines
   pub before : (documents : List Document) × AreDocuments (take (n - 1) lines) documents
   pub unread : (documents : List Document) → AreDocuments (take n lines) documents → ⊥
+
+-- the line is a control record that begins one more document
+pub record BeginsDocument (before after : List Document) (line : List ℕ) : Type 0 where
+  pub control : List ℕ
+  pub is : IsControlLine line control
+  pub short : length line ≤ 4096
+  pub room : length before < 4096
+  pub becomes : after ≡ before ++ begun control ∷ []
+
+-- the line is a data record of one more segment of the last document
+pub record GoesOn (before after : List Document) (line : List ℕ) : Type 0 where
+  pub segment : Segment
+  pub is : IsDataLine line segment
+  pub short : length line ≤ 4096
+  pub adds : AddsToLast before after segment
+
+-- blanks alone, or no bytes
+abbrev pub is_blank : List ℕ → Bool
+is_blank line = list_all (λ b. b == 32) line
+
+-- the first ten bytes tell the kind of a line: where they are `EDI_DC40` and blanks it is a control line, and else a
+-- data line
+abbrev pub IsControlKind : List ℕ → Type 0
+IsControlKind line = trimmed (take 10 line) ≡ codes "EDI_DC40"
+
+-- the last of these documents has all the data records that a document may have
+pub record IsLastFull (read : List Document) : Type 0 where
+  pub front : List Document
+  pub document : Document
+  pub is_last : read ≡ front ++ document ∷ []
+  pub full : 10000 ≤ segment_count document
+
+-- no data record goes behind these documents: the last one, or all together, have all that they may have
+abbrev pub IsFull : List Document → Type 0
+IsFull read = IsLastFull read ⊎ (1000000 ≤ sum_by segment_count read)
+
+-- behind these documents this line is not built yet: it is blank, or has a CR, or by its kind it goes past a limit
+pub data IsNotBuilt (read : List Document) (line : List ℕ) : Type 0 where
+  blank : IsTrue (is_blank line) → IsNotBuilt read line
+  has_return : Contains line 13 → IsNotBuilt read line
+  one_document_more : IsControlKind line → 4096 ≤ length read → IsNotBuilt read line
+  one_record_more : (IsControlKind line → ⊥) → IsFull read → IsNotBuilt read line
+
+-- the fault of a line whose record has this fault; want of memory is none
+abbrev pub fault_of : RecordFault → Option LineFault
+fault_of (record_fault.TooLong n) = Some (TooLong n)
+fault_of record_fault.WrongTable = Some WrongTable
+fault_of (record_fault.BadNumber field) = Some (BadNumber field)
+fault_of record_fault.OutOfMemory = None
+
+-- the text of a field of a control line, without the blanks at its end
+abbrev pub control_text : List ℕ → ControlField → List ℕ
+control_text line field = field_of (padded 524 (trimmed line)) field
+
+-- the name of the segment of a data line
+abbrev pub segment_name : List ℕ → List ℕ
+segment_name line = text_at segnam (padded 1063 (trimmed line))
+
+-- the first fault of a control line within 4,096 bytes
+pub data HasControlFault (line : List ℕ) : LineFault → Type 0 where
+  over_524 : 524 < length (trimmed line) → HasControlFault line (TooLong (length (trimmed line)))
+  no_number : length (trimmed line) ≤ 524 → is_number (control_text line Docnum) ≡ false → HasControlFault line (BadNumber Docnum)
+  no_direction : length (trimmed line) ≤ 524 → is_number (control_text line Docnum) ≡ true
+      → is_direction (control_text line Direct) ≡ false → HasControlFault line (BadNumber Direct)
+
+-- the first fault of a data line within 4,096 bytes, behind a control line
+pub data HasDataFault (line : List ℕ) : LineFault → Type 0 where
+  over_1063 : 1063 < length (trimmed line) → HasDataFault line (TooLong (length (trimmed line)))
+  no_segment : length (trimmed line) ≤ 1063 → is_no_segment (segment_name line) ≡ true → HasDataFault line WrongTable
+
+-- behind these documents this is the first fault of the line
+pub data HasFault (read : List Document) (line : List ℕ) : LineFault → Type 0 where
+  long : 4096 < length line → HasFault read line LineTooLong
+  no_control : length line ≤ 4096 → (IsControlKind line → ⊥) → read ≡ [] → HasFault read line NoControl
+  of_control : (fault : LineFault) → length line ≤ 4096 → IsControlKind line → HasControlFault line fault → HasFault read line fault
+  of_data : (fault : LineFault) → length line ≤ 4096 → (IsControlKind line → ⊥) → read ≢ [] → HasDataFault line fault
+      → HasFault read line fault
+
+-- behind these documents the line is built and has this fault
+pub record IsRefused (read : List Document) (line : List ℕ) (fault : LineFault) : Type 0 where
+  pub built : IsNotBuilt read line → ⊥
+  pub why : HasFault read line fault
+
+-- line n is the first that is not read: it is this line, and behind these documents
+pub record StopsAt (lines : List (List ℕ)) (n : ℕ) (read : List Document) (line : List ℕ) : Type 0 where
+  pub first : IsFirstUnread lines n
+  pub before : AreDocuments (take (n - 1) lines) read
+  pub here : slice_get lines (n - 1) ≡ Some line
+
+-- line n is the first that is not read, and it is not built yet
+pub record IsFirstNotBuilt (lines : List (List ℕ)) (n : ℕ) : Type 0 where
+  pub read : List Document
+  pub line : List ℕ
+  pub stops : StopsAt lines n read line
+  pub why : IsNotBuilt read line
+
+-- line n is the first that is not read, and it has this fault
+pub record IsFirstRefused (lines : List (List ℕ)) (n : ℕ) (fault : LineFault) : Type 0 where
+  pub read : List Document
+  pub line : List ℕ
+  pub stops : StopsAt lines n read line
+  pub why : IsRefused read line fault

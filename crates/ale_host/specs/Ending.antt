@@ -8,7 +8,10 @@ use Rattle.ale_host.specs.declared.ending.NotRead.TheVariants.{Missing, TooLong,
 use Rattle.ale_host.specs.declared.ending.Ending.{Ending}
 use Rattle.ale_host.specs.declared.ending.Ending.TheVariants as ending
 use Rattle.ale_host.specs.Lines.{lines_of}
-use Rattle.ale_host.specs.DocumentFile.{AreDocuments, IsFirstUnread}
+use Rattle.idoc_record.specs.ControlField.{name_of}
+use Rattle.ale_host.specs.declared.line_fault.LineFault.{LineFault}
+use Rattle.ale_host.specs.declared.line_fault.LineFault.TheVariants as line_fault
+use Rattle.ale_host.specs.DocumentFile.{AreDocuments, IsFirstNotBuilt, IsFirstRefused}
 use Rattle.ale_host.specs.Words.{form_of, document_file}
 use Rattle.ale_host.specs.PassText.{pass_text}
 
@@ -25,7 +28,8 @@ EndsUnread told faults Failed = faults
 -- why `pass` over a file of these bytes ends so
 abbrev pub EndsFile : List ℕ → Ending → Type 0
 EndsFile bytes (ending.Passed documents) = AreDocuments (lines_of bytes) documents
-EndsFile bytes (ending.LineNotBuilt n) = IsFirstUnread (lines_of bytes) n
+EndsFile bytes (ending.Refused n fault) = IsFirstRefused (lines_of bytes) n fault
+EndsFile bytes (ending.LineNotBuilt n) = IsFirstNotBuilt (lines_of bytes) n
 EndsFile bytes _ = ⊥
 
 -- why `pass` over the file of this name ends so
@@ -45,6 +49,7 @@ Ends words told faults end = (form_of words ≡ Some Pass) × EndsPass (document
 abbrev pub status_of : Ending → ℕ
 status_of (ending.Passed documents) = 0
 status_of ending.Usage = 1
+status_of (ending.Refused n fault) = 3
 status_of (ending.Unread name why) = 5
 status_of ending.OutOfMemory = 9
 status_of ending.RunNotBuilt = 13
@@ -57,10 +62,19 @@ shown_reason Missing = codes "missing\n"
 shown_reason TooLong = codes "too long\n"
 shown_reason Failed = codes "fault\n"
 
+-- a fault of a line, as it is printed
+abbrev pub shown_fault : LineFault → List ℕ
+shown_fault line_fault.LineTooLong = codes "LineTooLong"
+shown_fault line_fault.NoControl = codes "NoControl"
+shown_fault (line_fault.TooLong n) = codes "TooLong " ++ decimal n
+shown_fault line_fault.WrongTable = codes "WrongTable"
+shown_fault (line_fault.BadNumber field) = codes "BadNumber " ++ name_of field
+
 -- what is printed at an ending
 abbrev pub text_of : Ending → List ℕ
 text_of (ending.Passed documents) = pass_text documents
 text_of ending.Usage = codes "usage: aleflow run MODEL DOCS SCRIPT WORKERS, pass DOCS, load N WORKERS\n"
+text_of (ending.Refused n fault) = codes "documents refused: " ++ (decimal n ++ (codes " " ++ (shown_fault fault ++ codes "\n")))
 text_of (ending.Unread name why) = codes "cannot read " ++ (name ++ (codes ": " ++ shown_reason why))
 text_of ending.OutOfMemory = codes "out of memory\n"
 text_of ending.RunNotBuilt = codes "not built: run\n"
@@ -71,3 +85,9 @@ text_of (ending.LineNotBuilt n) = codes "not built: line " ++ (decimal n ++ code
 abbrev pub IsPrintable : Ending → Type 0
 IsPrintable (ending.Passed documents) = length documents ≤ 4096
 IsPrintable end = ⊤
+
+-- no fault of the files came in the call, by their count before and after it, unless the ending may be one of a fault
+abbrev pub IsQuiet : Ending → ℕ → ℕ → Type 0
+IsQuiet (ending.Unread name why) before after = ⊤
+IsQuiet ending.OutOfMemory before after = ⊤
+IsQuiet end before after = after ≡ before

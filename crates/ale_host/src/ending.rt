@@ -1,9 +1,9 @@
 ghost use Rattle.std.specs.Prelude.{◌≡◌, ◌≢◌, ℕ, List, ◌++◌, codes, OnOk, IfOk};
 ghost use Rattle.std.specs.Fmt.{decimal};
-ghost use Rattle.ale_host.specs.Ending.{IsPrintable, status_of, text_of, shown_reason};
+ghost use Rattle.ale_host.specs.Ending.{IsPrintable, status_of, text_of, shown_reason, shown_fault};
 
-use crate::Document;
 use crate::pass_text::{pass_text, put};
+use crate::{Document, LineFault};
 use ale_base::{Items, OutOfMemory};
 use std::alloc::Global;
 
@@ -25,6 +25,8 @@ pub enum Ending {
     Passed(Items<Document>),
     /// The words have none of the three forms.
     Usage,
+    /// This line of the document file, counted from 1, is the first that is not read, and it has this fault.
+    Refused(usize, LineFault),
     /// The file of this name was not read.
     Unread(Items<u8>, NotRead),
     /// Memory ran out.
@@ -33,7 +35,7 @@ pub enum Ending {
     RunNotBuilt,
     /// The command `load` is not built yet.
     LoadNotBuilt,
-    /// This line of the document file, counted from 1, is the first that is not read.
+    /// This line of the document file, counted from 1, is the first that is not read, and it is not built yet.
     LineNotBuilt(usize),
 }
 
@@ -46,6 +48,7 @@ impl Ending {
         match self {
             Ending::Passed(_) => 0,
             Ending::Usage => 1,
+            Ending::Refused(..) => 3,
             Ending::Unread(..) => 5,
             Ending::OutOfMemory => 9,
             Ending::RunNotBuilt | Ending::LoadNotBuilt | Ending::LineNotBuilt(_) => 13,
@@ -60,6 +63,7 @@ impl Ending {
         match self {
             Ending::Passed(documents) => pass_text(alloc, documents.as_slice()),
             Ending::Usage => text_from(alloc, USAGE),
+            Ending::Refused(number, fault) => refused_text(alloc, *number, *fault),
             Ending::Unread(name, why) => unread_text(alloc, name.as_slice(), *why),
             Ending::OutOfMemory => text_from(alloc, OUT_OF_MEMORY),
             Ending::RunNotBuilt => text_from(alloc, b"not built: run\n"),
@@ -107,4 +111,33 @@ fn line_text(alloc: Global, number: usize) -> Result<Vec<u8>, OutOfMemory>
     put(&mut text, number.to_string(alloc)?.as_bytes())?;
     put(&mut text, b"\n")?;
     Ok(text)
+}
+
+fn refused_text(alloc: Global, number: usize, fault: LineFault) -> Result<Vec<u8>, OutOfMemory>
+    ensures { IfOk result (λ text. text.items ≡ codes "documents refused: " ++ (decimal number ++ (codes " " ++ (shown_fault fault ++ codes "\n")))) }
+{
+    let mut text = text_from(alloc, b"documents refused: ")?;
+    put(&mut text, number.to_string(alloc)?.as_bytes())?;
+    put(&mut text, b" ")?;
+    put_fault(alloc, &mut text, fault)?;
+    put(&mut text, b"\n")?;
+    Ok(text)
+}
+
+fn put_fault(alloc: Global, text: &mut Vec<u8>, fault: LineFault) -> Result<(), OutOfMemory>
+    ensures { OnOk result (text.new.items ≡ text.old.items ++ shown_fault fault) }
+{
+    match fault {
+        LineFault::LineTooLong => put(text, b"LineTooLong"),
+        LineFault::NoControl => put(text, b"NoControl"),
+        LineFault::TooLong(length) => {
+            put(text, b"TooLong ")?;
+            put(text, length.to_string(alloc)?.as_bytes())
+        }
+        LineFault::WrongTable => put(text, b"WrongTable"),
+        LineFault::BadNumber(field) => {
+            put(text, b"BadNumber ")?;
+            put(text, field.name().as_bytes())
+        }
+    }
 }

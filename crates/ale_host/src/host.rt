@@ -3,7 +3,7 @@ ghost use Rattle.std.specs.Io.KnownBytes.{Appends};
 ghost use Rattle.ale_io.specs.Faults.{Rose};
 ghost use Rattle.ale_io.specs.Written.{AppendsFront};
 ghost use Rattle.ale_host.specs.declared.ending.Ending.{Ending};
-ghost use Rattle.ale_host.specs.Ending.{Ends, EndsPass, EndsFile, IsPrintable, status_of, text_of};
+ghost use Rattle.ale_host.specs.Ending.{Ends, EndsPass, EndsFile, IsPrintable, IsQuiet, status_of, text_of};
 
 use crate::ending::{Ending, NotRead, OUT_OF_MEMORY};
 use crate::reading::{ReadingEnd, read_documents};
@@ -20,10 +20,11 @@ const WRITE_FAULT: u8 = 6;
 
 /// Does what the words ask for, prints its text to `out`, and gives the exit status.
 ///
-/// The status is 0 where the command was carried out, 1 where the words have none of the three forms, 5 where the
-/// document file was not read, 6 where the sink did not take all of the text, 9 where memory ran out, and 13 where
-/// something is asked for that is not built yet. With each but 6 the text that was put is exactly that of the ending,
-/// and with 6 it is a part of it that begins at its front.
+/// The status is 0 where the command was carried out, 1 where the words have none of the three forms, 3 where a line of
+/// the document file is refused, 5 where that file was not read, 6 where the sink did not take all of the text, 9 where
+/// memory ran out, and 13 where something is asked for that is not built yet. With each but 6 the text that was put is
+/// exactly that of the ending, and with 6 it is a part of it that begins at its front. The bytes of a document file
+/// have one ending.
 pub fn aleflow<F: Files, K: Sink>(alloc: Global, words: &[String], files: &mut F, out: &mut K) -> u8
     ensures ended { result ≢ 6 → (ending : Ending)
         × Ends (map string_bytes words.now) (F.told files.old) (Rose (F.faults files.old) (F.faults files.new)) ending
@@ -34,8 +35,10 @@ pub fn aleflow<F: Files, K: Sink>(alloc: Global, words: &[String], files: &mut F
         × ((ending : Ending)
         × Ends (map string_bytes words.now) (F.told files.old) (Rose (F.faults files.old) (F.faults files.new)) ending
         × AppendsFront (K.contents out.old) (K.contents out.new) (text_of ending)) }
+    ensures one_ending { (bytes : List ℕ) (one other : Ending) → EndsFile bytes one → EndsFile bytes other → one ≡ other }
     ensures files_kept { (name : List ℕ) → F.told files.new name ≡ F.told files.old name }
     ensures files_counted { F.faults files.old ≤ F.faults files.new }
+    ensures files_quiet { result ≢ 5 → result ≢ 6 → result ≢ 9 → F.faults files.new ≡ F.faults files.old }
     ensures sink_counted { K.faults out.old ≤ K.faults out.new }
 {
     let ending = ending_of(alloc, words, files);
@@ -79,6 +82,7 @@ fn ending_of<F: Files>(alloc: Global, words: &[String], files: &mut F) -> Ending
     ensures printable { IsPrintable result }
     ensures kept { (name : List ℕ) → F.told files.new name ≡ F.told files.old name }
     ensures counted { F.faults files.old ≤ F.faults files.new }
+    ensures quiet { IsQuiet result (F.faults files.old) (F.faults files.new) }
 {
     match form_of(words) {
         None => Ending::Usage,
@@ -97,6 +101,7 @@ fn pass<F: Files>(alloc: Global, name: &str, files: &mut F) -> Result<Ending, Ou
     ensures printable { IfOk result IsPrintable }
     ensures kept { (other : List ℕ) → F.told files.new other ≡ F.told files.old other }
     ensures counted { F.faults files.old ≤ F.faults files.new }
+    ensures quiet { IfOk result (λ ending. IsQuiet ending (F.faults files.old) (F.faults files.new)) }
 {
     let mut bytes = Vec::new(alloc);
     match files.read_file(name, FILE_LIMIT, &mut bytes) {
@@ -115,7 +120,8 @@ fn file_ending(alloc: Global, bytes: &[u8]) -> Result<Ending, OutOfMemory>
 {
     match read_documents(alloc, bytes) {
         Ok(documents) => Ok(Ending::Passed(documents)),
-        Err(ReadingEnd::Unread(number)) => Ok(Ending::LineNotBuilt(number)),
+        Err(ReadingEnd::NotBuilt(number)) => Ok(Ending::LineNotBuilt(number)),
+        Err(ReadingEnd::Refused(number, fault)) => Ok(Ending::Refused(number, fault)),
         Err(ReadingEnd::OutOfMemory) => Err(OutOfMemory),
     }
 }

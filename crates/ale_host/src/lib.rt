@@ -1,13 +1,14 @@
 //! The top call: what the program does for its words, from the files that it reads to the text that it prints.
 //!
 //! Contract: a run has an ending whose cause stands in its words and files, or is a fault or want of memory, and it
-//! puts exactly the text of that ending. The definitions are in `specs/`: `Words`, `DocumentFile` (which documents a
-//! file holds), `PassText`, `Ending`.
+//! puts exactly the text of that ending; the bytes of a file have one. The definitions are in `specs/`: `Words`,
+//! `DocumentFile` (which documents a file holds, and why a line is not read), `PassText`, `Ending`.
 #![tactic(auto)]
 
 mod documents;
 mod ending;
 mod host;
+mod line_fault;
 mod lines;
 mod pass_text;
 mod reading;
@@ -16,6 +17,7 @@ mod words;
 pub use documents::Document;
 pub use ending::{Ending, NotRead};
 pub use host::{aleflow, out_of_memory};
+pub use line_fault::LineFault;
 
 #[cfg(test)]
 mod tests;

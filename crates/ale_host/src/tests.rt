@@ -87,25 +87,47 @@ fn pass_prints_a_line_a_document(rt: HostRuntime) -> Result<(), Fail> {
 }
 
 #[test]
-fn words_of_no_form_get_the_usage_line(rt: HostRuntime) -> Result<(), Fail> {
-    let expected: [(&[&str], u8, &str); 18] = [
-        (&[], 1, USAGE),
+fn the_first_line_that_is_not_read_is_named(rt: HostRuntime) -> Result<(), Fail> {
+    let expected: [(&[u8], u8, &[u8]); 12] = [
+        (b"", 0, b""),
+        (b"EDI_DC40", 0, b"1 000000010001000000000001 - - - 0\n"),
+        (b"EDI_DC40\n   \n", 13, b"not built: line 2\n"),
+        (b"EDI_DC40\r\n", 13, b"not built: line 1\n"),
+        (b"Z1MAT\nEDI_DC40\n", 3, b"documents refused: 1 NoControl\n"),
+        (
+            b"EDI_DC40\nEDI_DD40\n",
+            3,
+            b"documents refused: 2 WrongTable\n",
+        ),
+        (
+            b"EDI_DC40     x\n",
+            3,
+            b"documents refused: 1 BadNumber DOCNUM\n",
+        ),
+        (b"EDI_DC40\n\nEDI_DD40\n", 13, b"not built: line 2\n"),
+        (
+            b"EDI_DC40\nEDI_DD40\n\n",
+            3,
+            b"documents refused: 2 WrongTable\n",
+        ),
+        (b"EDI_DC40\nEDI_DD40\r\n", 13, b"not built: line 2\n"),
+        (&[b'A'; 4_097], 3, b"documents refused: 1 LineTooLong\n"),
+        (&[b' '; 4_097], 13, b"not built: line 1\n"),
+    ];
+    for (docs, status, printed) in expected {
+        let ended = outcome_of(rt.alloc(), &["pass", "D"], docs, 0, 0)?;
+        assert_eq!(rt; ended.status, status, "{docs:?}");
+        assert_eq!(rt; ended.printed.as_slice(), printed);
+    }
+    Ok(())
+}
+
+#[test]
+fn each_command_is_told_by_its_words(rt: HostRuntime) -> Result<(), Fail> {
+    let expected: [(&[&str], u8, &str); 4] = [
         (&["--help"], 1, USAGE),
-        (&["pass"], 1, USAGE),
-        (&["pass", "D", "D"], 1, USAGE),
-        (&["PASS", "D"], 1, USAGE),
-        (&["run", "M", "D"], 1, USAGE),
-        (&["run", "M", "D", "S", "1"], 13, "not built: run\n"),
         (&["run", "M", "D", "S", "16"], 13, "not built: run\n"),
-        (&["run", "M", "D", "S", "17"], 1, USAGE),
-        (&["run", "M", "D", "S", "0"], 1, USAGE),
-        (&["run", "M", "D", "S", "04"], 1, USAGE),
-        (&["run", "M", "D", "S", "+4"], 1, USAGE),
-        (&["run", "M", "D", "S", ""], 1, USAGE),
         (&["load", "4096", "16"], 13, "not built: load\n"),
-        (&["load", "4097", "16"], 1, USAGE),
-        (&["load", "99999999999999999999", "16"], 1, USAGE),
-        (&["load", "1", "2", "3", "4", "5"], 1, USAGE),
         (&["pass", "NOPE"], 5, "cannot read NOPE: missing\n"),
     ];
     for (words, status, printed) in expected {
@@ -117,66 +139,12 @@ fn words_of_no_form_get_the_usage_line(rt: HostRuntime) -> Result<(), Fail> {
 }
 
 #[test]
-fn the_first_line_that_is_not_read_is_named(rt: HostRuntime) -> Result<(), Fail> {
-    let expected: [(&[u8], u8, &[u8]); 12] = [
-        (b"", 0, b""),
-        (b"EDI_DC40", 0, b"1 000000010001000000000001 - - - 0\n"),
-        (
-            b"EDI_DC40  \nZ1MAT",
-            0,
-            b"1 000000010001000000000001 - - - 1\n",
-        ),
-        (b"Z1MAT\nEDI_DC40\n", 13, b"not built: line 1\n"),
-        (b"EDI_DC40\n\nZ1MAT\n", 13, b"not built: line 2\n"),
-        (b"EDI_DC40\n   \n", 13, b"not built: line 2\n"),
-        (b"EDI_DC40\r\n", 13, b"not built: line 1\n"),
-        (b"EDI_DC40\nEDI_DD40\n", 13, b"not built: line 2\n"),
-        (b"EDI_DC40\n Z1MAT\nEDI_DC41\n", 13, b"not built: line 3\n"),
-        (b"EDI_DC40\nZ1MAT\rZ1PLT\n", 13, b"not built: line 2\n"),
-        (
-            b"EDI_DC40   x\n",
-            0,
-            b"1 000000010001000000000001 - - - 0\n",
-        ),
-        (b"EDI_DC40     x\n", 13, b"not built: line 1\n"),
-    ];
-    for (docs, status, printed) in expected {
-        let ended = outcome_of(rt.alloc(), &["pass", "D"], docs, 0, 0)?;
-        assert_eq!(rt; ended.status, status, "{docs:?}");
-        assert_eq!(rt; ended.printed.as_slice(), printed);
-    }
-    Ok(())
-}
-
-#[test]
-fn a_fault_is_told_as_such(rt: HostRuntime) -> Result<(), Fail> {
+fn want_of_memory_is_told_without_memory(rt: HostRuntime) {
     let alloc = rt.alloc();
-    let unread = outcome_of(alloc, &["pass", "D"], b"EDI_DC40\n", 1, 0)?;
-    assert_eq!(rt; unread.status, 5);
-    assert_eq!(rt;
-        unread.printed.as_slice(),
-        b"cannot read D: fault\n".as_slice()
-    );
-    let unwritten = outcome_of(alloc, &["--version"], b"", 0, 1)?;
-    assert_eq!(rt; unwritten.status, 6);
-    assert_eq!(rt;
-        unwritten.printed.as_slice(),
-        b"usage: aleflow run MODEL DOCS SCRIPT".as_slice()
-    );
-    let empty = outcome_of(alloc, &["pass", "D"], b"", 0, 1)?;
-    assert_eq!(rt; empty.status, 6);
-    assert_eq!(rt; empty.printed.as_slice(), b"".as_slice());
-    let unnamed = outcome_of(alloc, &["pass", ""], b"", 0, 0)?;
-    assert_eq!(rt; unnamed.status, 5);
-    assert_eq!(rt;
-        unnamed.printed.as_slice(),
-        b"cannot read : fault\n".as_slice()
-    );
     let mut out = VecSink {
         bytes: Vec::new(alloc),
         calls: Calls::without_failures(alloc),
     };
     assert_eq!(rt; out_of_memory(&mut out), 9);
     assert_eq!(rt; out.bytes.as_slice(), b"out of memory\n".as_slice());
-    Ok(())
 }

@@ -1,5 +1,5 @@
 -- The layout of the control record EDI_DC40, 524 bytes. Source: SAP Library, IDoc interface, control record.
-use Rattle.std.specs.Prelude.{ℕ}
+use Rattle.std.specs.Prelude.{ℕ, List, codes}
 use Rattle.idoc_record.specs.declared.span.Span.{Span}
 use Rattle.idoc_record.specs.declared.control_field.ControlField.{ControlField}
 use Rattle.idoc_record.specs.declared.control_field.ControlField.TheVariants.{Tabnam, Mandt, Docnum, Docrel, Status, Direct, Outmod, Exprss, Test, Idoctyp, Cimtyp, Mestyp, Mescod, Mesfct, Std, Stdvrs, Stdmes, Sndpor, Sndprt, Sndpfc, Sndprn, Sndsad, Sndlad, Rcvpor, Rcvprt, Rcvpfc, Rcvprn, Rcvsad, Rcvlad, Credat, Cretim, Refint, Refgrp, Refmes, Arckey, Serial}
@@ -46,3 +46,42 @@ span_of Refgrp = span 406 14
 span_of Refmes = span 420 14
 span_of Arckey = span 434 70
 span_of Serial = span 504 20
+
+-- the name of a field
+abbrev pub name_of : ControlField → List ℕ
+name_of Tabnam = codes "TABNAM"
+name_of Mandt = codes "MANDT"
+name_of Docnum = codes "DOCNUM"
+name_of Docrel = codes "DOCREL"
+name_of Status = codes "STATUS"
+name_of Direct = codes "DIRECT"
+name_of Outmod = codes "OUTMOD"
+name_of Exprss = codes "EXPRSS"
+name_of Test = codes "TEST"
+name_of Idoctyp = codes "IDOCTYP"
+name_of Cimtyp = codes "CIMTYP"
+name_of Mestyp = codes "MESTYP"
+name_of Mescod = codes "MESCOD"
+name_of Mesfct = codes "MESFCT"
+name_of Std = codes "STD"
+name_of Stdvrs = codes "STDVRS"
+name_of Stdmes = codes "STDMES"
+name_of Sndpor = codes "SNDPOR"
+name_of Sndprt = codes "SNDPRT"
+name_of Sndpfc = codes "SNDPFC"
+name_of Sndprn = codes "SNDPRN"
+name_of Sndsad = codes "SNDSAD"
+name_of Sndlad = codes "SNDLAD"
+name_of Rcvpor = codes "RCVPOR"
+name_of Rcvprt = codes "RCVPRT"
+name_of Rcvpfc = codes "RCVPFC"
+name_of Rcvprn = codes "RCVPRN"
+name_of Rcvsad = codes "RCVSAD"
+name_of Rcvlad = codes "RCVLAD"
+name_of Credat = codes "CREDAT"
+name_of Cretim = codes "CRETIM"
+name_of Refint = codes "REFINT"
+name_of Refgrp = codes "REFGRP"
+name_of Refmes = codes "REFMES"
+name_of Arckey = codes "ARCKEY"
+name_of Serial = codes "SERIAL"

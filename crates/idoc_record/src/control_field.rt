@@ -82,7 +82,91 @@ pub enum ControlField {
 
 impl ControlField {
     ghost use Rattle.std.specs.Prelude.{◌≡◌, ◌+◌, ◌≤◌};
-    ghost use Rattle.idoc_record.specs.ControlField.{span_of};
+    ghost use Rattle.idoc_record.specs.ControlField.{span_of, name_of};
+
+    /// All fields, in the order of the record.
+    pub const ALL: [ControlField; 36] = [
+        ControlField::Tabnam,
+        ControlField::Mandt,
+        ControlField::Docnum,
+        ControlField::Docrel,
+        ControlField::Status,
+        ControlField::Direct,
+        ControlField::Outmod,
+        ControlField::Exprss,
+        ControlField::Test,
+        ControlField::Idoctyp,
+        ControlField::Cimtyp,
+        ControlField::Mestyp,
+        ControlField::Mescod,
+        ControlField::Mesfct,
+        ControlField::Std,
+        ControlField::Stdvrs,
+        ControlField::Stdmes,
+        ControlField::Sndpor,
+        ControlField::Sndprt,
+        ControlField::Sndpfc,
+        ControlField::Sndprn,
+        ControlField::Sndsad,
+        ControlField::Sndlad,
+        ControlField::Rcvpor,
+        ControlField::Rcvprt,
+        ControlField::Rcvpfc,
+        ControlField::Rcvprn,
+        ControlField::Rcvsad,
+        ControlField::Rcvlad,
+        ControlField::Credat,
+        ControlField::Cretim,
+        ControlField::Refint,
+        ControlField::Refgrp,
+        ControlField::Refmes,
+        ControlField::Arckey,
+        ControlField::Serial,
+    ];
+
+    /// The name of the field, in upper case, as `DOCNUM`.
+    pub fn name(self) -> &'static str
+        ensures { result.now ≡ name_of self }
+    {
+        match self {
+            ControlField::Tabnam => "TABNAM",
+            ControlField::Mandt => "MANDT",
+            ControlField::Docnum => "DOCNUM",
+            ControlField::Docrel => "DOCREL",
+            ControlField::Status => "STATUS",
+            ControlField::Direct => "DIRECT",
+            ControlField::Outmod => "OUTMOD",
+            ControlField::Exprss => "EXPRSS",
+            ControlField::Test => "TEST",
+            ControlField::Idoctyp => "IDOCTYP",
+            ControlField::Cimtyp => "CIMTYP",
+            ControlField::Mestyp => "MESTYP",
+            ControlField::Mescod => "MESCOD",
+            ControlField::Mesfct => "MESFCT",
+            ControlField::Std => "STD",
+            ControlField::Stdvrs => "STDVRS",
+            ControlField::Stdmes => "STDMES",
+            ControlField::Sndpor => "SNDPOR",
+            ControlField::Sndprt => "SNDPRT",
+            ControlField::Sndpfc => "SNDPFC",
+            ControlField::Sndprn => "SNDPRN",
+            ControlField::Sndsad => "SNDSAD",
+            ControlField::Sndlad => "SNDLAD",
+            ControlField::Rcvpor => "RCVPOR",
+            ControlField::Rcvprt => "RCVPRT",
+            ControlField::Rcvpfc => "RCVPFC",
+            ControlField::Rcvprn => "RCVPRN",
+            ControlField::Rcvsad => "RCVSAD",
+            ControlField::Rcvlad => "RCVLAD",
+            ControlField::Credat => "CREDAT",
+            ControlField::Cretim => "CRETIM",
+            ControlField::Refint => "REFINT",
+            ControlField::Refgrp => "REFGRP",
+            ControlField::Refmes => "REFMES",
+            ControlField::Arckey => "ARCKEY",
+            ControlField::Serial => "SERIAL",
+        }
+    }
 
     /// Where the field stands in the record.
     pub fn span(self) -> Span

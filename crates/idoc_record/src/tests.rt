@@ -15,48 +15,50 @@ fn line_of(alloc: Global, texts: &[(usize, &[u8])]) -> Result<Vec<u8>, AllocErro
 #[test]
 fn the_fields_fill_the_control_record_without_a_gap(rt: HostRuntime) {
     let layout = [
-        (ControlField::Tabnam, 0, 10),
-        (ControlField::Mandt, 10, 3),
-        (ControlField::Docnum, 13, 16),
-        (ControlField::Docrel, 29, 4),
-        (ControlField::Status, 33, 2),
-        (ControlField::Direct, 35, 1),
-        (ControlField::Outmod, 36, 1),
-        (ControlField::Exprss, 37, 1),
-        (ControlField::Test, 38, 1),
-        (ControlField::Idoctyp, 39, 30),
-        (ControlField::Cimtyp, 69, 30),
-        (ControlField::Mestyp, 99, 30),
-        (ControlField::Mescod, 129, 3),
-        (ControlField::Mesfct, 132, 3),
-        (ControlField::Std, 135, 1),
-        (ControlField::Stdvrs, 136, 6),
-        (ControlField::Stdmes, 142, 6),
-        (ControlField::Sndpor, 148, 10),
-        (ControlField::Sndprt, 158, 2),
-        (ControlField::Sndpfc, 160, 2),
-        (ControlField::Sndprn, 162, 10),
-        (ControlField::Sndsad, 172, 21),
-        (ControlField::Sndlad, 193, 70),
-        (ControlField::Rcvpor, 263, 10),
-        (ControlField::Rcvprt, 273, 2),
-        (ControlField::Rcvpfc, 275, 2),
-        (ControlField::Rcvprn, 277, 10),
-        (ControlField::Rcvsad, 287, 21),
-        (ControlField::Rcvlad, 308, 70),
-        (ControlField::Credat, 378, 8),
-        (ControlField::Cretim, 386, 6),
-        (ControlField::Refint, 392, 14),
-        (ControlField::Refgrp, 406, 14),
-        (ControlField::Refmes, 420, 14),
-        (ControlField::Arckey, 434, 70),
-        (ControlField::Serial, 504, 20),
+        ("TABNAM", ControlField::Tabnam, 0, 10),
+        ("MANDT", ControlField::Mandt, 10, 3),
+        ("DOCNUM", ControlField::Docnum, 13, 16),
+        ("DOCREL", ControlField::Docrel, 29, 4),
+        ("STATUS", ControlField::Status, 33, 2),
+        ("DIRECT", ControlField::Direct, 35, 1),
+        ("OUTMOD", ControlField::Outmod, 36, 1),
+        ("EXPRSS", ControlField::Exprss, 37, 1),
+        ("TEST", ControlField::Test, 38, 1),
+        ("IDOCTYP", ControlField::Idoctyp, 39, 30),
+        ("CIMTYP", ControlField::Cimtyp, 69, 30),
+        ("MESTYP", ControlField::Mestyp, 99, 30),
+        ("MESCOD", ControlField::Mescod, 129, 3),
+        ("MESFCT", ControlField::Mesfct, 132, 3),
+        ("STD", ControlField::Std, 135, 1),
+        ("STDVRS", ControlField::Stdvrs, 136, 6),
+        ("STDMES", ControlField::Stdmes, 142, 6),
+        ("SNDPOR", ControlField::Sndpor, 148, 10),
+        ("SNDPRT", ControlField::Sndprt, 158, 2),
+        ("SNDPFC", ControlField::Sndpfc, 160, 2),
+        ("SNDPRN", ControlField::Sndprn, 162, 10),
+        ("SNDSAD", ControlField::Sndsad, 172, 21),
+        ("SNDLAD", ControlField::Sndlad, 193, 70),
+        ("RCVPOR", ControlField::Rcvpor, 263, 10),
+        ("RCVPRT", ControlField::Rcvprt, 273, 2),
+        ("RCVPFC", ControlField::Rcvpfc, 275, 2),
+        ("RCVPRN", ControlField::Rcvprn, 277, 10),
+        ("RCVSAD", ControlField::Rcvsad, 287, 21),
+        ("RCVLAD", ControlField::Rcvlad, 308, 70),
+        ("CREDAT", ControlField::Credat, 378, 8),
+        ("CRETIM", ControlField::Cretim, 386, 6),
+        ("REFINT", ControlField::Refint, 392, 14),
+        ("REFGRP", ControlField::Refgrp, 406, 14),
+        ("REFMES", ControlField::Refmes, 420, 14),
+        ("ARCKEY", ControlField::Arckey, 434, 70),
+        ("SERIAL", ControlField::Serial, 504, 20),
     ];
+    assert_eq!(rt; ControlField::ALL, layout.map(|(_, field, _, _)| field));
     let mut end = 0;
-    for (field, offset, length) in layout {
+    for (name, field, offset, length) in layout {
         let span = field.span();
-        assert_eq!(rt; span, Span { offset, length }, "{field:?}");
-        assert_eq!(rt; span.offset, end, "{field:?}");
+        assert_eq!(rt; field.name().as_bytes(), name.as_bytes());
+        assert_eq!(rt; span, Span { offset, length }, "{name}");
+        assert_eq!(rt; span.offset, end, "{name}");
         end = span.offset + span.length;
     }
     assert_eq!(rt; end, Control::LEN);

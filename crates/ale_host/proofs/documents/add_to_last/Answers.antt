@@ -1,38 +1,36 @@
+use Rattle.std.specs.Prelude.{Result, Ok, Err, OnErr}
 use Rattle.std.proofs.Common.{◌≡◌, ◌-◌, ◌+◌, [], ◌∷◌, ◌++◌, length, take, slice_set, sym, ap, ◌∙◌, arith}
 use Rattle.ale_host.specs.declared.documents.Document.{Document}
+use Rattle.ale_base.proofs.OnOkLemmas.{on_ok}
 use Rattle.ale_base.proofs.SnocLemmas.{set-last}
 use Rattle.ale_host.proofs.documents.add_to_last.Goals as goal
 
-pub returns-then-len-ge-MAX_SEGMENTS-clause-err : goal.returns-then-len-ge-MAX_SEGMENTS-clause-err
-returns-then-len-ge-MAX_SEGMENTS-clause-err c =
-    let documents = c.args.documents.now in
-    let last = c.at_mut-last.result.now in
-    let n = c.len-count.result - 1 in
-    let long : n + 1 ≡ length documents = omega (arith, c.len-count.ensures, c.if-count-eq0.false) in
-    let parts = set-last documents n last last long c.at_mut-last.ensures.value in
-    parts.1 ∙ sym parts.0
+-- what holds after an Err leads to what else holds after it
+on_err : {T E P Q : Type 0} (r : Result T E) → OnErr r P → (P → Q) → OnErr r Q
+on_err (Ok x) here leads = tt
+on_err (Err e) here leads = leads here
 
-pub returns-in-Ok-clause-added : goal.returns-in-Ok-clause-added
-returns-in-Ok-clause-added c =
+pub returns-clause-added : goal.returns-clause-added
+returns-clause-added c =
     let documents = c.args.documents.now in
-    let last = c.at_mut-last.result.now in
-    let n = c.len-count.result - 1 in
-    let long : n + 1 ≡ length documents = omega (arith, c.len-count.ensures, c.if-count-eq0.false) in
+    let last = c.at_mut.result.now in
+    let n = c.len-last.result - 1 in
+    let whole : n + 1 ≡ length documents = omega (arith, c.len-last.ensures, c.requires) in
     let changed : Document = record { control = last.control; segments = c.push.new.self } in
-    let parts = set-last documents n last changed long c.at_mut-last.ensures.value in
-    record {
+    let parts = set-last documents n last changed whole c.at_mut.ensures.value in
+    on_ok c.push.result c.push.ensures.ok (λ pushed. record {
       front = take n documents;
       document = last;
       was = parts.0;
-      room = omega (arith, c.len.ensures, c.if-len-ge-MAX_SEGMENTS.false);
-      becomes = parts.1 ∙ ap (λ segments. take n documents ++ record { control = last.control; segments = segments } ∷ []) c.in-Ok.ensures.ok;
-    }
+      becomes = parts.1 ∙ ap (λ segments. take n documents ++ record { control = last.control; segments = segments } ∷ []) pushed;
+    })
 
-pub returns-in-Err-clause-err : goal.returns-in-Err-clause-err
-returns-in-Err-clause-err c =
+pub returns-clause-err : goal.returns-clause-err
+returns-clause-err c =
     let documents = c.args.documents.now in
-    let last = c.at_mut-last.result.now in
-    let n = c.len-count.result - 1 in
-    let long : n + 1 ≡ length documents = omega (arith, c.len-count.ensures, c.if-count-eq0.false) in
-    let parts = set-last documents n last last long c.at_mut-last.ensures.value in
-    ap (λ segments. slice_set documents n (record { control = last.control; segments = segments })) c.in-Err.ensures.err ∙ parts.1 ∙ sym parts.0
+    let last = c.at_mut.result.now in
+    let n = c.len-last.result - 1 in
+    let whole : n + 1 ≡ length documents = omega (arith, c.len-last.ensures, c.requires) in
+    let parts = set-last documents n last last whole c.at_mut.ensures.value in
+    on_err c.push.result c.push.ensures.err (λ kept.
+    ap (λ segments. slice_set documents n (record { control = last.control; segments = segments })) kept ∙ parts.1 ∙ sym parts.0)

@@ -1,51 +1,54 @@
-use Rattle.std.proofs.Common.{◌≡◌, ◌<◌, List, [], ◌∷◌, ◌++◌, sym, subst}
-use Rattle.std.specs.Prelude.{sum_by}
+use Rattle.std.proofs.Common.{◌<◌, List, [], ◌∷◌, ◌++◌, sym, subst, ◌∙◌}
+use Rattle.std.specs.Prelude.{sum_by, Contains}
 use Rattle.ale_host.specs.declared.documents.Document.{Document}
-use Rattle.ale_host.specs.declared.documents.LineRefusal.TheVariants.{Unread}
-use Rattle.ale_host.specs.DocumentFile.{AreDocuments, segment_count}
-use Rattle.ale_base.proofs.OnOkLemmas.{on_ok, on_ok_both}
-use Rattle.ale_host.proofs.DocumentLemmas.{AreDocuments-begun, AreDocuments-with_segment, unread-full, unread-no_room, unread-no_record}
+use Rattle.ale_host.specs.DocumentFile.{AreDocuments, IsControlKind, one_document_more, segment_count}
+use Rattle.ale_base.proofs.OnOkLemmas.{on_ok}
+use Rattle.ale_host.proofs.DocumentLemmas.{AreDocuments-begun, AreDocuments-with_segment}
+use Rattle.ale_host.proofs.UnreadLemmas.{built_control, built_data, room_in_last, room_in_file}
 use Rattle.ale_host.proofs.documents.Documents.read_line.Goals as goal
 
-pub returns-in-Ok-clause-read : goal.returns-in-Ok-clause-read
-returns-in-Ok-clause-read c =
+pub returns-then-is_control-clause-read : goal.returns-then-is_control-clause-read
+returns-then-is_control-clause-read c =
     let line = c.args.line.now in
-    on_ok c.begin.result c.begin.ensures.begun (λ facts lines are.
-    subst (AreDocuments (lines ++ line ∷ [])) (sym facts.1)
-    (AreDocuments-begun lines c.args.self.now line c.in-Ok.control are (c.is_plain.ensures.0 c.if-not-is_plain.false) ((c.read_control.ensures.record c.in-Ok.control).0 c.in-Ok.is) facts.0))
+    let no_return : Contains line 13 → ⊥ = λ has. let is = c.has_return.ensures.1 has in absurd (cc) in
+    on_ok c.read_control_line.result c.read_control_line.ensures.begun (λ begins lines are.
+    subst (AreDocuments (lines ++ line ∷ [])) (sym begins.becomes)
+    (AreDocuments-begun lines c.args.self.now line begins.control are (record { short = begins.short; no_return = no_return }) begins.is begins.room))
 
-pub returns-in-Ok-clause-unread : goal.returns-in-Ok-clause-unread
-returns-in-Ok-clause-unread c = λ refused lines are documents more.
-    unread-full c.args.line.now c.in-Ok.control c.args.self.now ((c.read_control.ensures.record c.in-Ok.control).0 c.in-Ok.is) (c.begin.ensures.full refused) lines are documents more
+pub returns-then-is_control-clause-not_built : goal.returns-then-is_control-clause-not_built
+returns-then-is_control-clause-not_built c = λ is.
+    one_document_more (c.is_control.ensures.0 c.if-is_control.true) (c.read_control_line.ensures.not_built is)
 
-pub returns-in-Ok-read_data-clause-read : goal.returns-in-Ok-read_data-clause-read
-returns-in-Ok-read_data-clause-read c =
+pub returns-then-is_control-clause-refused : goal.returns-then-is_control-clause-refused
+returns-then-is_control-clause-refused c = λ fault is.
+    let no_return : Contains c.args.line.now 13 → ⊥ = λ has. let is = c.has_return.ensures.1 has in absurd (cc) in
+    let refused = c.read_control_line.ensures.refused fault is in
+    record {
+      built = built_control c.args.self.now c.args.line.now (sym c.is_blank.ensures ∙ c.if-is_blank.false) no_return (c.is_control.ensures.0 c.if-is_control.true) refused.0;
+      why = refused.1;
+    }
+
+pub returns-else-is_control-clause-read : goal.returns-else-is_control-clause-read
+returns-else-is_control-clause-read c =
     let line = c.args.line.now in
-    let segment = c.in-Ok-read_data.segment in
-    on_ok c.add.result (on_ok_both _ _ c.add.result c.add.ensures.added c.add.ensures.within) (λ facts lines are.
-    let adds = facts.0 in
+    let no_return : Contains line 13 → ⊥ = λ has. let is = c.has_return.ensures.1 has in absurd (cc) in
+    on_ok c.read_data_line.result c.read_data_line.ensures.added (λ goes lines are.
+    let on = goes.1 in
+    let adds = on.adds in
     subst (AreDocuments (lines ++ line ∷ [])) (sym adds.becomes)
-    (AreDocuments-with_segment lines adds.front adds.document line segment
+    (AreDocuments-with_segment lines adds.front adds.document line on.segment
     (subst (AreDocuments lines) adds.was are)
-    (c.is_plain.ensures.0 c.if-not-is_plain.false)
-    (c.read_data.ensures.found segment c.in-Ok-read_data.is)
-    adds.room
-    (subst (λ (ds : List Document). sum_by segment_count ds < 1000000) adds.was facts.1)))
+    (record { short = on.short; no_return = no_return })
+    on.is
+    (room_in_last c.args.self.now adds.front adds.document goes.0 adds.was)
+    (subst (λ (ds : List Document). sum_by segment_count ds < 1000000) adds.was (room_in_file c.args.self.now goes.0))))
 
-pub returns-in-Ok-read_data-clause-unread : goal.returns-in-Ok-read_data-clause-unread
-returns-in-Ok-read_data-clause-unread c = λ refused lines are documents more.
-    let segment = c.in-Ok-read_data.segment in
-    unread-no_room c.args.line.now segment c.args.self.now (c.read_data.ensures.found segment c.in-Ok-read_data.is) (c.add.ensures.full refused) lines are documents more
-
-pub returns-in-Err : goal.returns-in-Err
-returns-in-Err c = record {
-  read = tt;
-  unread = λ refused lines are documents more.
-      unread-no_record c.args.line.now
-      (λ bytes is. let found = (c.read_control.ensures.record bytes).1 is in absurd (cc))
-      (λ new is.
-      let unread : c.refusal_of.result ≡ Unread = cc in
-      let other = c.refusal_of.ensures unread in
-      let found = c.read_data.ensures.only new is (λ same. other (cc)) in absurd (cc))
-      lines documents more;
-}
+pub returns-else-is_control-clause-refused : goal.returns-else-is_control-clause-refused
+returns-else-is_control-clause-refused c = λ fault is.
+    let no_return : Contains c.args.line.now 13 → ⊥ = λ has. let is = c.has_return.ensures.1 has in absurd (cc) in
+    let other : IsControlKind c.args.line.now → ⊥ = λ kind. let is = c.is_control.ensures.1 kind in absurd (cc) in
+    let refused = c.read_data_line.ensures.refused fault is in
+    record {
+      built = built_data c.args.self.now c.args.line.now (sym c.is_blank.ensures ∙ c.if-is_blank.false) no_return other refused.0;
+      why = refused.1;
+    }

@@ -1,0 +1,106 @@
+use crate::fault::{LineEnd, Rule};
+use crate::records::{control_record, data_record};
+use crate::text::{first_word, number_of, put_text, put_times};
+use ale_base::trimmed;
+use std::alloc::Global;
+
+/// A file of a case.
+#[derive(Drop)]
+pub struct FileText {
+    /// Its name.
+    pub name: Vec<u8>,
+    /// What it holds so far.
+    pub bytes: Vec<u8>,
+    /// The repetition that was begun.
+    pub repeat: Option<Repeat>,
+}
+
+/// The bytes of a file from `start` on are to be repeated.
+#[derive(Clone, Copy, Debug)]
+pub struct Repeat {
+    count: u32,
+    start: usize,
+}
+
+impl FileText {
+    /// Adds what a line of the file's block stands for.
+    pub(crate) fn add(&mut self, alloc: Global, text: &[u8]) -> Result<(), LineEnd> {
+        match first_word(text) {
+            (b"repeat", count) => self.begin_repeat(count),
+            (b"end", b"") => self.end_repeat(alloc),
+            _ => self.add_line(alloc, text),
+        }
+    }
+
+    fn begin_repeat(&mut self, count: &[u8]) -> Result<(), LineEnd> {
+        if self.repeat.is_some() {
+            return Err(Rule::BadRepeat.into());
+        }
+        self.repeat = Some(Repeat {
+            count: number_of(count)?,
+            start: self.bytes.len(),
+        });
+        Ok(())
+    }
+
+    fn end_repeat(&mut self, alloc: Global) -> Result<(), LineEnd> {
+        let Some(Repeat { count, start }) = self.repeat.take() else {
+            return Err(Rule::BadRepeat.into());
+        };
+        let part: Vec<u8> = self.bytes.iter().skip(start).copied().collect(alloc)?;
+        self.bytes.truncate(start);
+        put_times(&mut self.bytes, part.as_slice(), count)
+    }
+
+    /// Adds a line, `COUNT x LINE` so many times.
+    fn add_line(&mut self, alloc: Global, text: &[u8]) -> Result<(), LineEnd> {
+        let (first, behind) = first_word(text);
+        let (count, line) = match behind.strip_prefix(b"x ") {
+            Some(line) => (number_of(first)?, line),
+            None => (1, text),
+        };
+        let mut bytes = Vec::new(alloc);
+        put_line(alloc, &mut bytes, line)?;
+        put_times(&mut self.bytes, bytes.as_slice(), count)
+    }
+}
+
+/// Appends a line, which ends in LF unless it is `unended`.
+fn put_line(alloc: Global, bytes: &mut Vec<u8>, text: &[u8]) -> Result<(), LineEnd> {
+    match text.strip_prefix(b"unended ") {
+        Some(text) => put_content(alloc, bytes, text),
+        None => {
+            put_content(alloc, bytes, text)?;
+            bytes.push(b'\n')?;
+            Ok(())
+        }
+    }
+}
+
+/// Appends what stands in a line.
+fn put_content(alloc: Global, bytes: &mut Vec<u8>, text: &[u8]) -> Result<(), LineEnd> {
+    match first_word(text) {
+        (b"line", text) => put_text(bytes, text),
+        (b"control", fields) => put_short(bytes, control_record(alloc, fields)?.as_slice()),
+        (b"data", fields) => put_short(bytes, data_record(alloc, fields)?.as_slice()),
+        (b"full", record) => put_full(alloc, bytes, record),
+        _ => Err(Rule::NoSuchLine.into()),
+    }
+}
+
+/// Appends a record without the blanks at its end.
+fn put_short(bytes: &mut Vec<u8>, record: &[u8]) -> Result<(), LineEnd> {
+    bytes.extend_from_slice(trimmed(record))?;
+    Ok(())
+}
+
+/// Appends a record in full width.
+fn put_full(alloc: Global, bytes: &mut Vec<u8>, text: &[u8]) -> Result<(), LineEnd> {
+    let record = match first_word(text) {
+        (b"control", fields) => control_record(alloc, fields)?,
+        (b"data", fields) => data_record(alloc, fields)?,
+        _ => return Err(Rule::NoSuchLine.into()),
+    };
+    bytes.extend_from_slice(record.as_slice())?;
+    Ok(())
+}
