@@ -1,11 +1,11 @@
 -- A journal that is ready for appends, and what opening one answers.
 use Rattle.std.specs.Prelude.{◌≡◌, ◌≢◌, ◌⊎◌, ℕ, ◌<◌, ◌≤◌, List, [], ◌∷◌, ◌++◌, length, Result, Ok, Err}
 use Rattle.ale_volumes.specs.declared.volume.Volume.{Volume}
-use Rattle.ale_volumes.specs.Volume.{settled}
+use Rattle.ale_volumes.specs.Volume.{IsImage, settled}
 use Rattle.byte_journal.specs.declared.journal.Journal.{Journal}
 use Rattle.byte_journal.specs.declared.fault.OpenFault.{OpenFault}
 use Rattle.byte_journal.specs.declared.fault.OpenFault.TheVariants.{Damaged, Volume as VolumeFault, OutOfMemory}
-use Rattle.byte_journal.specs.Log.{open_gate, most_bytes, records, AreBodies, Stands, DamagedAt}
+use Rattle.byte_journal.specs.Log.{open_gate, most_bytes, records, AreBodies, Stands, DamagedAt, ReadsAs}
 
 -- the bytes are the records of this log and a closed gate, behind which anything may lie
 pub record IsClosed (bytes : List ℕ) (log : List (List ℕ)) : Type 0 where
@@ -40,3 +40,11 @@ pub record LeavesOnlyLater {D : Type 0} (moment : D → ℕ) (images_since : D �
   pub not_before : moment old ≤ from
   pub not_after : from ≤ moment new
   pub each : (image : List ℕ) → images_since new n from image → P image
+
+-- The first sync failed, and volume n is as before; or from that sync on a crash leaves of it only what has P.
+abbrev pub LeavesOnlyFromSync : {D : Type 0} → (D → ℕ → Volume) → (D → ℕ) → (D → ℕ → ℕ → List ℕ → Type 0) → D → D → ℕ → Type 0 → (List ℕ → Type 0) → Type 0
+LeavesOnlyFromSync volume moment images_since old new n failed P = (failed × (volume new n ≡ volume old n)) ⊎ LeavesOnlyLater moment images_since old new n P
+
+-- while a volume is opened, a crash leaves what it left of it before, or what reads as it
+abbrev pub IsLeftByOpening : Volume → List ℕ → Type 0
+IsLeftByOpening volume image = IsImage volume image ⊎ ReadsAs volume.contents image

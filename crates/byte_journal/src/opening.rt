@@ -1,9 +1,9 @@
-ghost use Rattle.std.specs.Prelude.{◌≡◌, ◌≢◌, ◌⊎◌, ℕ, List, ◌<◌, IfOk, IsErrOf};
+ghost use Rattle.std.specs.Prelude.{◌≡◌, ◌≢◌, ℕ, List, ◌<◌, IfOk, IsErrOf};
 ghost use Rattle.ale_volumes.specs.Volume.{IsImage, settled};
 ghost use Rattle.ale_volumes.specs.Clock.{LeavesOnly, KeepsOthers};
 ghost use Rattle.ale_volumes.specs.Faults.{Rose, CountsOnly};
 ghost use Rattle.byte_journal.specs.Log.{Stands, ReadsAs, HasOneAnswer};
-ghost use Rattle.byte_journal.specs.Settled.{Answers, IsSettled, LeavesOnlyLater};
+ghost use Rattle.byte_journal.specs.Settled.{Answers, IsSettled, IsLeftByOpening, LeavesOnlyFromSync};
 
 use crate::close_gate::close_gate;
 use crate::read_durable::read_durable;
@@ -37,10 +37,9 @@ pub fn open<V: Volumes>(
 
     // A crash at any moment of the call leaves what was handed in, or what reads as it; and only that from the sync on.
     ensures any_moment { V.told → LeavesOnly V.moment V.images_since vols.old vols.new n
-        (λ image. IsImage (V.volume vols.old n) image ⊎ ReadsAs (V.volume vols.old n).contents image) }
-    ensures from_sync { V.told →
-        (IsErrOf result OpenFault.Volume × (V.volume vols.new n ≡ V.volume vols.old n))
-        ⊎ LeavesOnlyLater V.moment V.images_since vols.old vols.new n (ReadsAs (V.volume vols.old n).contents) }
+        (IsLeftByOpening (V.volume vols.old n)) }
+    ensures from_sync { V.told → LeavesOnlyFromSync V.volume V.moment V.images_since vols.old vols.new n
+        (IsErrOf result OpenFault.Volume) (ReadsAs (V.volume vols.old n).contents) }
     ensures others { V.told → KeepsOthers V.volume V.moment V.images_since vols.old vols.new n }
 
     ensures failed { IsErrOf result OpenFault.Volume → Rose (V.faults vols.old n) (V.faults vols.new n) }

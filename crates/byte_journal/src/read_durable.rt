@@ -1,8 +1,8 @@
-ghost use Rattle.std.specs.Prelude.{◌≡◌, ◌≢◌, ◌⊎◌, ℕ, List, ◌<◌, IfOk, OnOk, IsErrOf};
+ghost use Rattle.std.specs.Prelude.{◌≡◌, ◌≢◌, ℕ, List, ◌<◌, IfOk, OnOk, IsErrOf};
 ghost use Rattle.ale_volumes.specs.Volume.{IsImage, settled};
 ghost use Rattle.ale_volumes.specs.Clock.{LeavesOnly, KeepsOthers};
 ghost use Rattle.ale_volumes.specs.Faults.{Rose, CountsOnly};
-ghost use Rattle.byte_journal.specs.Settled.{LeavesOnlyLater};
+ghost use Rattle.byte_journal.specs.Settled.{LeavesOnlyFromSync};
 
 use crate::OpenFault;
 use ale_volumes::Volumes;
@@ -18,9 +18,8 @@ pub(crate) fn read_durable<V: Volumes>(
     ensures read { V.told → IfOk result (λ bytes. bytes.items ≡ (V.volume vols.old n).contents) }
     ensures durable { V.told → OnOk result (V.volume vols.new n ≡ settled (V.volume vols.old n).contents) }
     ensures any_moment { V.told → LeavesOnly V.moment V.images_since vols.old vols.new n (IsImage (V.volume vols.old n)) }
-    ensures from_sync { V.told →
-        (IsErrOf result OpenFault.Volume × (V.volume vols.new n ≡ V.volume vols.old n))
-        ⊎ LeavesOnlyLater V.moment V.images_since vols.old vols.new n (λ image. image ≡ (V.volume vols.old n).contents) }
+    ensures from_sync { V.told → LeavesOnlyFromSync V.volume V.moment V.images_since vols.old vols.new n
+        (IsErrOf result OpenFault.Volume) (λ image. image ≡ (V.volume vols.old n).contents) }
     ensures others { V.told → KeepsOthers V.volume V.moment V.images_since vols.old vols.new n }
     ensures undamaged { (place : ℕ) → result ≡ Err (OpenFault.Damaged place) → ⊥ }
     ensures failed { IsErrOf result OpenFault.Volume → Rose (V.faults vols.old n) (V.faults vols.new n) }

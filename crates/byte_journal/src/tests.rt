@@ -137,13 +137,13 @@ fn left(
     vols: &MemoryVolumes,
     moment: u64,
     count: u64,
-    length: usize,
+    back: usize,
 ) -> Result<Vec<u8>, Fail>
     requires { moment ≤ length vols.now.steps }
 {
     let survivors = Survivors {
         bytes: Items::from_vec(vec![in alloc; count]?),
-        length,
+        length: back,
         filler: b'O',
     };
     let image = vols.image(moment, VOLUME, &survivors)?;
