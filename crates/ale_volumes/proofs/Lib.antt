@@ -1,0 +1,5 @@
+pub mod SurvivorsLemmas
+mod KeptLemmas
+mod StepsLemmas
+pub mod ClockLemmas
+pub mod ImageLemmas

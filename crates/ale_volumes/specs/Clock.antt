@@ -1,0 +1,21 @@
+-- What a crash at any moment leaves. All volumes share one clock, which does not fall.
+use Rattle.std.specs.Prelude.{◌≡◌, ◌≢◌, ◌⊎◌, ◌↔◌, ℕ, ◌≤◌, List}
+use Rattle.ale_volumes.specs.declared.volume.Volume.{Volume}
+
+-- Time goes on: a crash since t may have left what it may have left before, or it leaves an image of now.
+pub record Elapses (before now : ℕ) (past since : ℕ → List ℕ → Type 0) (image_now : List ℕ → Type 0) : Type 0 where
+  pub later : before ≤ now
+  pub nothing_else : (t : ℕ) (image : List ℕ) → t ≤ before → since t image → past t image ⊎ image_now image
+  pub keeps : (t : ℕ) (image : List ℕ) → t ≤ before → past t image → since t image
+
+-- the other volumes are known as before, and a crash since any moment leaves of them what it left before
+pub record KeepsOthers {D : Type 0} (volume : D → ℕ → Volume) (moment : D → ℕ) (images_since : D → ℕ → ℕ → List ℕ → Type 0) (old new : D) (n : ℕ) : Type 0 where
+  pub known : (m : ℕ) → m ≢ n → volume new m ≡ volume old m
+  pub images : (m t : ℕ) (image : List ℕ) → m ≢ n → t ≤ moment old → images_since new m t image ↔ images_since old m t image
+
+-- A crash at any moment since old leaves of volume n what has P.
+pub record LeavesOnly {D : Type 0} (moment : D → ℕ) (images_since : D → ℕ → ℕ → List ℕ → Type 0) (old new : D) (n : ℕ) (P : List ℕ → Type 0) : Type 0 where
+  pub later : moment old ≤ moment new
+  pub each : (image : List ℕ) → images_since new n (moment old) image → P image
+  -- for a run that began earlier
+  pub before : (t : ℕ) (image : List ℕ) → t ≤ moment old → images_since new n t image → images_since old n t image ⊎ P image

@@ -1,0 +1,7 @@
+pub mod Faults
+pub mod Volume
+pub mod Clock
+pub mod Calls
+pub mod Memory
+pub mod MemoryLemmas
+pub mod Survivors

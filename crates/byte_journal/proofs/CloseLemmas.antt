@@ -1,0 +1,94 @@
+-- Closing the last gate of a journal.
+use Rattle.std.proofs.Common.{◌≡◌, ◌≢◌, ◌⊎◌, inl, inr, ℕ, ◌+◌, ◌<◌, ◌≤◌, max, List, [], ◌∷◌, ◌++◌, length, take, drop, get_or, sym, ◌∙◌, ap, arith, length-append, append_assoc, take-append-drop}
+use Rattle.std.proofs.lemmas.Bool.{cases_eq}
+use Rattle.std.proofs.lemmas.List.{take_at, get_or_at, nil_from_length, length-drop}
+use Rattle.ale_volumes.specs.Volume.{overwritten, Torn}
+use Rattle.byte_journal.specs.Log.{open_gate, records, BeginsWithLastGate, Stands}
+use Rattle.byte_journal.specs.Settled.{IsClosed}
+use Rattle.byte_journal.specs.Reading.{ReadsTo}
+
+-- bytes that stand for a log have its last gate, if there are any
+some_rest : (rest : List ℕ) → BeginsWithLastGate rest → 0 < length rest
+some_rest [] last = absurd last
+some_rest (gate ∷ rest) last = omega arith
+
+module _ (bytes : List ℕ) (log : List (List ℕ)) (gate : ℕ) (reads : ReadsTo bytes log gate) where
+  size : length bytes ≡ length (records log) + length reads.stands.rest
+  size = ap length reads.stands.whole ∙ length-append (records log) reads.stands.rest
+
+  pub gate_within : gate ≤ length bytes
+  gate_within = omega (arith, size, reads.place)
+
+  has_gate : 0 < length bytes → gate < length bytes
+  has_gate some = elim reads.stands.ends [
+    | inl none ↦ absurd (omega (arith, ap length none))
+    | inr last ↦ omega (arith, some_rest reads.stands.rest last, size, reads.place)
+  ]
+
+  -- a closed gate stands there
+  closed_by : (rest : List ℕ) → bytes ≡ records log ++ rest → gate < length bytes → get_or bytes gate 0 ≢ open_gate → IsClosed bytes log
+  closed_by [] whole within closed = absurd (omega (arith, ap length whole, length-append {A = ℕ} (records log) [], reads.place))
+  closed_by (first ∷ behind) whole within closed =
+      let here : get_or bytes gate 0 ≡ first = ap (λ (b : List ℕ). get_or b gate 0) whole ∙ get_or_at (records log) first behind 0 gate (sym reads.place) in
+      record {
+        gate = first;
+        behind = behind;
+        whole = whole;
+        closed = λ is. closed (here ∙ is);
+        bodies = reads.stands.bodies;
+        within = reads.stands.within;
+      }
+
+  pub is_closed : gate < length bytes → get_or bytes gate 0 ≢ open_gate → IsClosed bytes log
+  is_closed = closed_by reads.stands.rest reads.stands.whole
+
+  module _ (not_closed : (gate < length bytes) × (get_or bytes gate 0 ≢ open_gate) → ⊥) where
+    -- the last gate is the last byte
+    short_by : (rest : List ℕ) → bytes ≡ records log ++ rest → BeginsWithLastGate rest → length bytes ≡ gate + 1
+    short_by [] whole last = absurd last
+    short_by (first ∷ []) whole last = omega (arith, ap length whole, length-append (records log) (first ∷ []), reads.place)
+    short_by (first ∷ next ∷ rest) whole last =
+        let here : get_or bytes gate 0 ≡ first = ap (λ (b : List ℕ). get_or b gate 0) whole ∙ get_or_at (records log) first (next ∷ rest) 0 gate (sym reads.place) in
+        absurd (not_closed (omega (arith, ap length whole, length-append (records log) (first ∷ next ∷ rest), reads.place), λ is. last (sym here ∙ is)))
+
+    short : (length bytes ≡ 0) ⊎ (length bytes ≡ gate + 1)
+    short = elim reads.stands.ends [
+      | inl none ↦ inl (ap length none)
+      | inr last ↦ inr (short_by reads.stands.rest reads.stands.whole last)
+    ]
+
+    front : take gate bytes ≡ records log
+    front = ap (λ (l : List ℕ). take gate l) reads.stands.whole ∙ take_at (records log) reads.stands.rest gate (sym reads.place)
+
+    pub gate_closed : IsClosed (overwritten bytes gate (0 ∷ [])) log
+    gate_closed =
+        let rest = drop (gate + 1) bytes in
+        record {
+          gate = 0;
+          behind = rest;
+          whole = ap (λ (l : List ℕ). l ++ (0 ∷ []) ++ rest) front ∙ append_assoc (records log) (0 ∷ []) rest;
+          closed = λ is. absurd (omega (arith, is));
+          bodies = reads.stands.bodies;
+          within = reads.stands.within;
+        }
+
+    last_of : (rest : List ℕ) → length rest ≤ 1 → 0 < length rest → BeginsWithLastGate rest
+    last_of [] few some = absurd (omega arith)
+    last_of (gate ∷ []) few some = tt
+    last_of (gate ∷ next ∷ rest) few some = absurd (omega arith)
+
+    -- and a crash before that is durable leaves the same log
+    pub torn_close : (image : List ℕ) → Torn gate 1 bytes image → Stands image log
+    torn_close image torn =
+        let sizes : (length image ≡ length bytes) ⊎ (length image ≡ max (length bytes) (gate + 1)) = torn.size in
+        let rest = drop gate image in
+        record {
+          rest = rest;
+          whole = sym (take-append-drop gate image) ∙ ap (λ (l : List ℕ). l ++ rest) (torn.before ∙ front);
+          bodies = reads.stands.bodies;
+          ends = elim (cases_eq (length image) 0) [
+            | inl none ↦ inl (nil_from_length image none)
+            | inr some ↦ inr (last_of rest (omega (arith, length-drop gate image, sizes, short)) (omega (arith, length-drop gate image, sizes, short, some, has_gate, gate_within)))
+          ];
+          within = reads.stands.within;
+        }

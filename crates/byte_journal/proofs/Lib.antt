@@ -1,0 +1,7 @@
+mod LogLemmas
+mod WriteSynced
+mod AppendLemmas
+mod ReadLemmas
+mod CloseLemmas
+mod OneAnswer
+mod OpenLemmas

@@ -1,0 +1,29 @@
+use Rattle.std.proofs.Common.{inr, ℕ, List, subst}
+use Rattle.ale_volumes.specs.declared.volume.Volume.{Volume}
+use Rattle.ale_volumes.specs.Volume.{IsImage}
+use Rattle.ale_volumes.proofs.ClockLemmas.{started, goes_on, joined, weaker}
+use Rattle.ale_volumes.proofs.ImageLemmas.{settled-image, sync-image}
+use Rattle.byte_journal.proofs.read_durable.read_durable.Goals as goal
+
+pub returns-clause-any_moment : goal.returns-clause-any_moment
+returns-clause-any_moment g c = λ told.
+    let V = g.V.Volumes in
+    let old = c.args.vols.now in
+    let mid = c.sync.new.self in
+    let P : List ℕ → Type 0 = IsImage (V.volume old c.args.n) in
+    let kept = sync-image c.sync.result (V.volume old c.args.n) (V.volume mid c.args.n) (c.sync.ensures.durable told) (c.sync.ensures.err told) (g.met.V.Volumes.read_is_image told old c.args.n) in
+    let begun = started V.moment V.images_since old c.args.n P (λ image left. g.met.V.Volumes.only_now told old c.args.n image left) in
+    let synced = goes_on V.moment V.images_since old old mid c.args.n P _ begun (c.sync.ensures.time told) kept in
+    joined V.moment V.images_since old mid c.read_whole.new.vols c.args.n P synced (weaker V.moment V.images_since mid c.read_whole.new.vols c.args.n _ P kept (c.read_whole.ensures.any_moment told))
+
+pub returns-clause-from_sync : goal.returns-clause-from_sync
+returns-clause-from_sync g c = λ told.
+    let V = g.V.Volumes in
+    let mid = c.sync.new.self in
+    let only = c.read_whole.ensures.any_moment told in
+    inr (record {
+      from = V.moment mid;
+      not_before = (c.sync.ensures.time told).later;
+      not_after = only.later;
+      each = λ image left. settled-image (V.volume c.args.vols.now c.args.n).contents image (subst (λ (v : Volume). IsImage v image) (c.in_ok-sync.ensures.durable told) (only.each image left));
+    })

@@ -1,0 +1,50 @@
+-- A journal that is ready for appends, and what opening one answers.
+use Rattle.std.specs.Prelude.{◌≡◌, ◌≢◌, ◌⊎◌, ℕ, ◌<◌, ◌≤◌, List, [], ◌∷◌, ◌++◌, length, Result, Ok, Err}
+use Rattle.ale_volumes.specs.declared.volume.Volume.{Volume}
+use Rattle.ale_volumes.specs.Volume.{IsImage, settled}
+use Rattle.byte_journal.specs.declared.journal.Journal.{Journal}
+use Rattle.byte_journal.specs.declared.fault.OpenFault.{OpenFault}
+use Rattle.byte_journal.specs.declared.fault.OpenFault.TheVariants.{Damaged, Volume as VolumeFault, OutOfMemory}
+use Rattle.byte_journal.specs.Log.{open_gate, most_bytes, records, AreBodies, Stands, DamagedAt, ReadsAs}
+
+-- the bytes are the records of this log and a closed gate, behind which anything may lie
+pub record IsClosed (bytes : List ℕ) (log : List (List ℕ)) : Type 0 where
+  pub gate : ℕ
+  pub behind : List ℕ
+  pub whole : bytes ≡ records log ++ gate ∷ behind
+  pub closed : gate ≢ open_gate
+  pub bodies : AreBodies log
+  pub within : length (records log) < most_bytes
+
+-- The journal stands at the end of this log, whose last gate is closed, and all of it is on the disk for good.
+pub record IsSettled {D : Type 0} (volume : D → ℕ → Volume) (vols : D) (journal : Journal) (log : List (List ℕ)) : Type 0 where
+  pub closed : IsClosed (volume vols journal.volume).contents log
+  pub place : journal.gate ≡ length (records log)
+  pub durable : volume vols journal.volume ≡ settled (volume vols journal.volume).contents
+
+-- What opening these bytes answers: the log that they stand for, or the place where they are damaged. The volume may
+-- fail, and memory may run out.
+abbrev pub Answers : List ℕ → Result (Journal × List (List ℕ)) OpenFault → Type 0
+Answers bytes (Ok opened) = Stands bytes opened.1
+Answers bytes (Err (Damaged place)) = DamagedAt bytes place
+Answers bytes (Err VolumeFault) = Unit {0}
+Answers bytes (Err OutOfMemory) = Unit {0}
+
+-- the bytes stand for the log from before an append, or for that log and the new body
+abbrev pub IsBeforeOrAfter : List (List ℕ) → List ℕ → List ℕ → Type 0
+IsBeforeOrAfter log body bytes = Stands bytes log ⊎ Stands bytes (log ++ body ∷ [])
+
+-- from some moment between old and new on, a crash leaves of volume n only what has P
+pub record LeavesOnlyLater {D : Type 0} (moment : D → ℕ) (images_since : D → ℕ → ℕ → List ℕ → Type 0) (old new : D) (n : ℕ) (P : List ℕ → Type 0) : Type 0 where
+  pub from : ℕ
+  pub not_before : moment old ≤ from
+  pub not_after : from ≤ moment new
+  pub each : (image : List ℕ) → images_since new n from image → P image
+
+-- The first sync failed, and volume n is as before; or from that sync on a crash leaves of it only what has P.
+abbrev pub LeavesOnlyFromSync : {D : Type 0} → (D → ℕ → Volume) → (D → ℕ) → (D → ℕ → ℕ → List ℕ → Type 0) → D → D → ℕ → Type 0 → (List ℕ → Type 0) → Type 0
+LeavesOnlyFromSync volume moment images_since old new n failed P = (failed × (volume new n ≡ volume old n)) ⊎ LeavesOnlyLater moment images_since old new n P
+
+-- while a volume is opened, a crash leaves what it left of it before, or what reads as it
+abbrev pub IsLeftByOpening : Volume → List ℕ → Type 0
+IsLeftByOpening volume image = IsImage volume image ⊎ ReadsAs volume.contents image

@@ -1,0 +1,22 @@
+//! A journal over one volume: bodies of bytes, each of which is on the disk for good once it is acknowledged.
+//!
+//! Contract: `open` gives the log that the volume's bytes stand for, or the place of the damage, and `append` adds one
+//! body and nothing else; at any moment of either a crash leaves the log before the call or after it. The definitions
+//! are in `specs/`: `Log` (which log bytes stand for, and where they are damaged), `Settled` (a journal that is ready
+//! for appends).
+#![tactic(auto)]
+
+mod close_gate;
+mod fault;
+mod journal;
+mod opening;
+mod read_durable;
+mod read_log;
+mod write_synced;
+
+pub use fault::{AppendFault, OpenFault};
+pub use journal::Journal;
+pub use opening::open;
+
+#[cfg(test)]
+mod tests;
