@@ -3,3 +3,4 @@ pub mod Blanks
 pub mod Hexadecimal
 pub mod Tid
 pub mod QueueName
+pub mod Faults

@@ -1,4 +1,4 @@
-use crate::{DocNum, Fixed, Items, OutOfMemory, SystemNo, Tid, trimmed};
+use crate::{DocNum, Fixed, Items, NameFault, OutOfMemory, QueueName, SystemNo, Tid, trimmed};
 use std::test::Fail;
 
 #[test]
@@ -91,4 +91,27 @@ fn a_list_is_its_items(rt: HostRuntime) -> Result<(), Fail> {
     assert_eq!(rt; again.as_slice(), [DocNum(3), DocNum(5)].as_slice());
     assert_eq!(rt; OutOfMemory, OutOfMemory);
     Ok(())
+}
+
+#[test]
+fn a_name_of_a_queue_has_up_to_24_bytes_and_no_blank(rt: HostRuntime) {
+    let names: [(&[u8], Option<NameFault>); 8] = [
+        (b"", Some(NameFault::Empty)),
+        (b"!", None),
+        (b"M_M1~", None),
+        (b"ABCDEFGHIJKLMNOPQRSTUVWX", None),
+        (b"ABCDEFGHIJKLMNOPQRSTUVWXY", Some(NameFault::TooLong)),
+        (b"A B", Some(NameFault::BadByte(1))),
+        (b"\x7f", Some(NameFault::BadByte(0))),
+        (b"AB\x80\x00", Some(NameFault::BadByte(2))),
+    ];
+    for (bytes, fault) in names {
+        match QueueName::of(bytes) {
+            Ok(name) => {
+                assert!(rt; fault.is_none(), "{bytes:?}");
+                assert_eq!(rt; name.bytes(), bytes);
+            }
+            Err(found) => assert_eq!(rt; Some(found), fault),
+        }
+    }
 }

@@ -1,4 +1,3 @@
 pub mod Told
-pub mod Faults
 pub mod Written
 pub mod Folder

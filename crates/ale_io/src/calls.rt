@@ -1,5 +1,5 @@
 ghost use Rattle.std.specs.Prelude.{◌≡◌, ◌+◌, ◌-◌, ◌^◌, ◌≤◌, ◌↔◌, [], min, Contains, IsTrue, if◌then◌else◌};
-ghost use Rattle.ale_io.specs.Faults.{Rose};
+ghost use Rattle.ale_base.specs.Faults.{Rose};
 
 use ale_base::Items;
 use std::alloc::Global;

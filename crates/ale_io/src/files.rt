@@ -1,6 +1,6 @@
 ghost use Rattle.std.specs.Prelude.{◌≡◌, ℕ, List, [], ◌++◌, ◌<◌, ◌≤◌, length, OnOk, OnErr, IsErrOf};
 ghost use Rattle.ale_io.specs.Told.{Told, MayHold, MayLack};
-ghost use Rattle.ale_io.specs.Faults.{Rose};
+ghost use Rattle.ale_base.specs.Faults.{Rose};
 
 use crate::FileEnd;
 

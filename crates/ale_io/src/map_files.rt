@@ -37,7 +37,7 @@ impl MapFiles {
 impl Files for MapFiles {
     ghost use Rattle.std.specs.Prelude.{◌≡◌, ◌↔◌, ◌⊎◌, ℕ, List, [], ◌+◌, ◌-◌, ◌^◌, ◌++◌, ◌<◌, ◌≤◌, length, min, Contains, OnOk, OnErr, IsErrOf};
     ghost use Rattle.ale_io.specs.Told.{MayHold, MayLack};
-    ghost use Rattle.ale_io.specs.Faults.{Rose};
+    ghost use Rattle.ale_base.specs.Faults.{Rose};
     ghost use Rattle.ale_io.specs.Folder.{told_of};
 
     ghost told = { λ folder name. told_of folder.files name };

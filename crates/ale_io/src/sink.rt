@@ -1,6 +1,6 @@
 ghost use Rattle.std.specs.Prelude.{◌≡◌, ℕ, List, Option, ◌≤◌, OnOk, OnErr};
 ghost use Rattle.std.specs.Io.KnownBytes.{Appends};
-ghost use Rattle.ale_io.specs.Faults.{Rose};
+ghost use Rattle.ale_base.specs.Faults.{Rose};
 ghost use Rattle.ale_io.specs.Written.{AppendsFront};
 
 use thiserror::Error;

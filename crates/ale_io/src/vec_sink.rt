@@ -14,7 +14,7 @@ pub struct VecSink {
 impl Sink for VecSink {
     ghost use Rattle.std.specs.Prelude.{◌≡◌, ◌⊎◌, ◌+◌, ◌-◌, ◌/◌, ◌^◌, ◌++◌, ◌≤◌, length, take, min, Contains, Some, OnOk, OnErr, IsErr};
     ghost use Rattle.std.specs.Io.KnownBytes.{Appends};
-    ghost use Rattle.ale_io.specs.Faults.{Rose};
+    ghost use Rattle.ale_base.specs.Faults.{Rose};
     ghost use Rattle.ale_io.specs.Written.{AppendsFront};
 
     ghost contents = { λ sink. Some sink.bytes.items };

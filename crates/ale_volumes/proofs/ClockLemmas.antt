@@ -2,7 +2,8 @@
 use Rattle.std.proofs.Common.{inl, inr, ⊎_elim, ℕ, ◌≤◌, List, ◌∙◌, arith}
 use Rattle.ale_volumes.specs.declared.volume.Volume.{Volume}
 use Rattle.ale_volumes.specs.Clock.{Elapses, LeavesOnly, KeepsOthers}
-use Rattle.ale_volumes.specs.Faults.{Rose, CountsOnly}
+use Rattle.ale_base.specs.Faults.{Rose}
+use Rattle.ale_volumes.specs.Faults.{CountsOnly}
 
 module _ {D : Type 0} (moment : D → ℕ) (images_since : D → ℕ → ℕ → List ℕ → Type 0) where
   -- before the first call

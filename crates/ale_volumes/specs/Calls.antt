@@ -1,7 +1,8 @@
 -- Calls of which chosen ones fail.
 use Rattle.std.specs.Prelude.{◌≡◌, ◌⊎◌, ◌↔◌, ℕ, ◌+◌, ◌-◌, ◌^◌, Bool, false, min, List, slice_index, Contains, IsTrue}
 use Rattle.ale_volumes.specs.declared.device_calls.DeviceCalls.{DeviceCalls}
-use Rattle.ale_volumes.specs.Faults.{Rose, CountsOnly}
+use Rattle.ale_base.specs.Faults.{Rose}
+use Rattle.ale_volumes.specs.Faults.{CountsOnly}
 
 -- after so many calls the next one is to fail: it was chosen, or there is no number left for it
 abbrev pub NextFails : List ℕ → ℕ → Type 0

@@ -1,6 +1,7 @@
 ghost use Rattle.std.specs.Prelude.{◌≡◌, ◌+◌, ◌-◌, ◌^◌, ◌<◌, ◌↔◌, min, IsTrue, IsFalse, replicate, slice_index, slice_set};
 ghost use Rattle.ale_volumes.specs.Calls.{NextFails};
-ghost use Rattle.ale_volumes.specs.Faults.{Rose, CountsOnly};
+ghost use Rattle.ale_base.specs.Faults.{Rose};
+ghost use Rattle.ale_volumes.specs.Faults.{CountsOnly};
 
 use ale_base::Items;
 

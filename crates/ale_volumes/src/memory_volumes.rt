@@ -44,7 +44,8 @@ impl MemoryVolumes {
     ghost use Rattle.ale_volumes.specs.declared.step.Step.TheVariants.{Write, Sync};
     ghost use Rattle.ale_volumes.specs.Memory.{after_steps, AddsSync};
     ghost use Rattle.ale_volumes.specs.Calls.{Counts, NextFails};
-    ghost use Rattle.ale_volumes.specs.Faults.{Rose, CountsOnly};
+    ghost use Rattle.ale_base.specs.Faults.{Rose};
+    ghost use Rattle.ale_volumes.specs.Faults.{CountsOnly};
     ghost use Rattle.ale_volumes.specs.Survivors.{surviving};
     ghost use Rattle.ale_volumes.specs.Volume.{IsImage};
 
@@ -227,7 +228,8 @@ impl Volumes for MemoryVolumes {
     ghost use Rattle.ale_volumes.specs.Memory.{half_written};
     ghost use Rattle.ale_volumes.specs.Volume.{IsImage, settled, written, FailsToWrite};
     ghost use Rattle.ale_volumes.specs.Clock.{Elapses, KeepsOthers};
-    ghost use Rattle.ale_volumes.specs.Faults.{Rose, CountsOnly};
+    ghost use Rattle.ale_base.specs.Faults.{Rose};
+    ghost use Rattle.ale_volumes.specs.Faults.{CountsOnly};
     ghost use Rattle.ale_volumes.specs.Calls.{NextFails};
     ghost use Rattle.ale_volumes.specs.MemoryLemmas.{volume_now, moment_of, images_of, counts_now, only_now, after_steps-read};
 

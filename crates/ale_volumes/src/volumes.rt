@@ -10,7 +10,8 @@ pub trait Volumes {
     ghost use Rattle.ale_volumes.specs.declared.volume.Volume.{Volume};
     ghost use Rattle.ale_volumes.specs.Volume.{IsImage, settled, written, FailsToWrite};
     ghost use Rattle.ale_volumes.specs.Clock.{Elapses, KeepsOthers};
-    ghost use Rattle.ale_volumes.specs.Faults.{Rose, CountsOnly};
+    ghost use Rattle.ale_base.specs.Faults.{Rose};
+    ghost use Rattle.ale_volumes.specs.Faults.{CountsOnly};
 
     // Whether the implementation tells what its volumes hold. What is said of their bytes holds where it does.
     ghost told: { Type 0 };

@@ -28,7 +28,7 @@ impl<W: Write> StdSink<W> {
 impl<W: Write> Sink for StdSink<W> {
     ghost use Rattle.std.specs.Prelude.{◌≡◌, ◌≤◌, None, OnOk, OnErr};
     ghost use Rattle.std.specs.Io.KnownBytes.{Appends};
-    ghost use Rattle.ale_io.specs.Faults.{Rose};
+    ghost use Rattle.ale_base.specs.Faults.{Rose};
     ghost use Rattle.ale_io.specs.Written.{AppendsFront};
 
     ghost contents = { λ _. None };

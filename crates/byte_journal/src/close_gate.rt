@@ -1,7 +1,8 @@
 ghost use Rattle.std.specs.Prelude.{◌≡◌, ◌≢◌, ◌↔◌, ℕ, List, ◌<◌, length, slice_index, OnOk, IsErrOf, IsTrue};
 ghost use Rattle.ale_volumes.specs.Volume.{settled};
 ghost use Rattle.ale_volumes.specs.Clock.{LeavesOnly, KeepsOthers};
-ghost use Rattle.ale_volumes.specs.Faults.{Rose, CountsOnly};
+ghost use Rattle.ale_base.specs.Faults.{Rose};
+ghost use Rattle.ale_volumes.specs.Faults.{CountsOnly};
 ghost use Rattle.byte_journal.specs.Log.{Stands, open_gate};
 ghost use Rattle.byte_journal.specs.Reading.{ReadsTo};
 ghost use Rattle.byte_journal.specs.Settled.{IsClosed};

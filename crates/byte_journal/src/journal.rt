@@ -1,7 +1,8 @@
 ghost use Rattle.std.specs.Prelude.{◌≡◌, ◌≢◌, ℕ, List, [], ◌∷◌, ◌++◌, ◌+◌, ◌<◌, ◌↔◌, length, IfOk, OnOk, OnErr, IsErrOf};
 ghost use Rattle.byte_journal.specs.Log.{framed};
 ghost use Rattle.ale_volumes.specs.Clock.{LeavesOnly, KeepsOthers};
-ghost use Rattle.ale_volumes.specs.Faults.{Rose, CountsOnly};
+ghost use Rattle.ale_base.specs.Faults.{Rose};
+ghost use Rattle.ale_volumes.specs.Faults.{CountsOnly};
 
 use crate::AppendFault;
 use crate::write_synced::write_synced;

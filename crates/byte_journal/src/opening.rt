@@ -1,7 +1,8 @@
 ghost use Rattle.std.specs.Prelude.{◌≡◌, ◌≢◌, ℕ, List, ◌<◌, IfOk, IsErrOf};
 ghost use Rattle.ale_volumes.specs.Volume.{IsImage, settled};
 ghost use Rattle.ale_volumes.specs.Clock.{LeavesOnly, KeepsOthers};
-ghost use Rattle.ale_volumes.specs.Faults.{Rose, CountsOnly};
+ghost use Rattle.ale_base.specs.Faults.{Rose};
+ghost use Rattle.ale_volumes.specs.Faults.{CountsOnly};
 ghost use Rattle.byte_journal.specs.Log.{Stands, ReadsAs, HasOneAnswer};
 ghost use Rattle.byte_journal.specs.Settled.{Answers, IsSettled, IsLeftByOpening, LeavesOnlyFromSync};
 

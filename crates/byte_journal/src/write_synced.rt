@@ -1,7 +1,8 @@
 ghost use Rattle.std.specs.Prelude.{◌≡◌, ◌≢◌, ℕ, List, ◌<◌, ◌≤◌, length, OnOk, IsErrOf};
 ghost use Rattle.ale_volumes.specs.Volume.{settled, overwritten, Torn};
 ghost use Rattle.ale_volumes.specs.Clock.{LeavesOnly, KeepsOthers};
-ghost use Rattle.ale_volumes.specs.Faults.{Rose, CountsOnly};
+ghost use Rattle.ale_base.specs.Faults.{Rose};
+ghost use Rattle.ale_volumes.specs.Faults.{CountsOnly};
 
 use ale_volumes::{VolumeEnd, Volumes};
 

@@ -8,7 +8,7 @@ impl<R: Rules> World<R> {
     ghost use Rattle.std.specs.Prelude.{◌≡◌, ◌&&◌, not, OnOk, IfOk};
     ghost use Rattle.unit_core.specs.Filters.{done_in, forgotten_in};
     ghost use Rattle.unit_core.specs.Queues.{is_listed};
-    ghost use Rattle.trfc_protocol.specs.Worlds.{log_of, is_up, committed_unit, claim_of};
+    ghost use Rattle.trfc_protocol.specs.Worlds.{log_of, is_up, committed_unit, released, claim_of};
     ghost use Rattle.trfc_protocol.specs.Happens.{happens, writes, claims_outbound, arrives, claims_inbound, finishes, finishes_by, fails, replies, replied, loses, closes, confirms, ends};
     ghost use Rattle.trfc_protocol.specs.Legal.{may_follow};
     ghost use Rattle.trfc_protocol.specs.Safe.{Safe};
@@ -201,10 +201,7 @@ impl<R: Rules> World<R> {
         match answer {
             CoreAnswer::Done => self.reply_done(alloc, &held),
             CoreAnswer::SysFail => self.reply_sysfail(alloc, &held),
-            CoreAnswer::Busy => {
-                self.release(held.number);
-                Ok(())
-            }
+            CoreAnswer::Busy => self.reply_busy(&held),
         }
     }
 
@@ -241,6 +238,14 @@ impl<R: Rules> World<R> {
                 cause: Mark::Sysfail,
             },
         )
+    }
+
+    /// The unit's sender learns that a direct run of it is under way, and drops its claim alone.
+    fn reply_busy(&mut self, held: &Held) -> Result<(), OutOfMemory>
+        ensures { OnOk result (self.new ≡ released self.old held.now.number) }
+    {
+        self.release(held.number);
+        Ok(())
     }
 
     /// The request or the reply of a claim is lost, and its unit is marked.

@@ -20,3 +20,6 @@ pub use queue::{
 };
 pub use raw_unit_doc::RawUnitDoc;
 pub use records::Record;
+
+#[cfg(test)]
+mod tests;

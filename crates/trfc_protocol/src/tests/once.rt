@@ -57,55 +57,100 @@ fn log(rt: &(impl Abort + AllocGlobal), told: &[Told]) -> Result<Items<Record>, 
     Ok(log)
 }
 
-/// The clauses that the logs of a sender and a receiver break, where the sender committed the first three units.
-fn broken(
-    rt: &(impl Abort + AllocGlobal),
-    first: &[Told],
-    second: &[Told],
-) -> Result<Vec<Clause>, OutOfMemory> {
-    let mut logs = Vec::new(rt.alloc());
-    logs.push(log(rt, first)?)?;
-    logs.push(log(rt, second)?)?;
+/// The sender's first three units.
+fn committed(rt: &(impl Abort + AllocGlobal)) -> Result<Items<AleUnit>, OutOfMemory> {
     let mut units = Items::new(rt.alloc());
     for number in 1..4 {
         units.push(sent(rt, number)?)?;
     }
-    let mut committed = Vec::new(rt.alloc());
-    committed.push(units)?;
+    Ok(units)
+}
+
+/// Whether the logs of a sender and a receiver break this clause alone, or where there is none no clause.
+fn breaks(
+    rt: &(impl Abort + AllocGlobal),
+    clause: Option<Clause>,
+    first: &[Told],
+    second: &[Told],
+) -> Result<bool, OutOfMemory> {
+    let mut logs = Vec::new(rt.alloc());
+    logs.push(log(rt, first)?)?;
+    logs.push(log(rt, second)?)?;
+    let mut units = Vec::new(rt.alloc());
+    units.push(committed(rt)?)?;
     let logs = Logs {
         logs: logs.as_slice(),
-        committed: committed.as_slice(),
+        committed: units.as_slice(),
     };
-    logs.broken(rt.alloc())
+    let broken = logs.broken(rt.alloc())?;
+    Ok(match clause {
+        Some(clause) => broken.len() == 1 && broken.as_slice().contains(&clause),
+        None => broken.is_empty(),
+    })
 }
 
 #[test]
-fn each_clause_of_the_law_is_broken_alone(rt: HostRuntime) -> Result<(), Fail> {
-    use Told::{Accept, Direct, Done, Ended, Execute, Forget};
-    let rows: [(&[Clause], &[Told], &[Told]); 8] = [
-        (
-            &[],
-            &[Done(1), Ended(1)],
-            &[Accept(1), Direct(3), Accept(2), Execute(1), Forget(1)],
-        ),
-        (&[Clause::TakenOnce], &[], &[Accept(3), Accept(3)]),
-        (&[Clause::TakenWasCommitted], &[], &[Accept(4)]),
-        (&[Clause::TakenInOrder], &[], &[Accept(2)]),
-        (
-            &[Clause::ExecutedInOrder],
-            &[],
-            &[Accept(1), Accept(2), Execute(2)],
-        ),
-        (&[Clause::DoneWasTaken], &[Done(1)], &[]),
-        (&[Clause::ForgottenWasDone], &[], &[Accept(1), Forget(1)]),
-        (
-            &[Clause::EndedWasForgotten],
-            &[Done(1), Ended(1)],
-            &[Accept(1)],
-        ),
+fn logs_in_order_break_no_clause(rt: HostRuntime) -> Result<(), Fail> {
+    let first = [Told::Done(1), Told::Ended(1)];
+    let second = [
+        Told::Accept(1),
+        Told::Direct(3),
+        Told::Accept(2),
+        Told::Execute(1),
+        Told::Forget(1),
     ];
-    for (clauses, first, second) in rows {
-        assert_eq!(rt; broken(&rt, first, second)?.as_slice(), clauses);
-    }
+    assert!(rt; breaks(&rt, None, &first, &second)?);
+    Ok(())
+}
+
+#[test]
+fn each_clause_of_what_is_received_is_broken_alone(rt: HostRuntime) -> Result<(), Fail> {
+    assert!(rt;
+        breaks(
+            &rt,
+            Some(Clause::TakenOnce),
+            &[],
+            &[Told::Accept(3), Told::Accept(3)]
+        )?
+    );
+    assert!(rt;
+        breaks(
+            &rt,
+            Some(Clause::TakenWasCommitted),
+            &[],
+            &[Told::Accept(4)]
+        )?
+    );
+    assert!(rt; breaks(&rt, Some(Clause::TakenInOrder), &[], &[Told::Accept(2)])?);
+    assert!(rt;
+        breaks(
+            &rt,
+            Some(Clause::ExecutedInOrder),
+            &[],
+            &[Told::Accept(1), Told::Accept(2), Told::Execute(2)]
+        )?
+    );
+    Ok(())
+}
+
+#[test]
+fn each_clause_of_what_is_confirmed_is_broken_alone(rt: HostRuntime) -> Result<(), Fail> {
+    assert!(rt; breaks(&rt, Some(Clause::DoneWasTaken), &[Told::Done(1)], &[])?);
+    assert!(rt;
+        breaks(
+            &rt,
+            Some(Clause::ForgottenWasDone),
+            &[],
+            &[Told::Accept(1), Told::Forget(1)]
+        )?
+    );
+    assert!(rt;
+        breaks(
+            &rt,
+            Some(Clause::EndedWasForgotten),
+            &[Told::Done(1), Told::Ended(1)],
+            &[Told::Accept(1)]
+        )?
+    );
     Ok(())
 }

@@ -1,7 +1,9 @@
 //! Walks through the protocol by events that a small generator chooses. After each event the exactly-once law and the
 //! claims are looked at plainly.
 
-ghost use Rattle.std.specs.Prelude.{◌<◌, ◌≤◌};
+ghost use Rattle.std.specs.Prelude.{◌<◌, ◌≤◌, IfOk};
+ghost use Rattle.trfc_protocol.specs.ListedRules.{listed_meaning};
+ghost use Rattle.trfc_protocol.specs.Safe.{Safe};
 
 use super::plain::Logs;
 use super::scene::{commit, retry, revoke, system, tid, unit};
@@ -163,24 +165,52 @@ fn is_commit(record: &Record) -> bool {
     }
 }
 
-/// A world of three systems after 300 events, at each of which the law and the claims are looked at.
-fn walk(
-    rt: &(impl Abort + AllocGlobal),
-    dice: &mut Dice,
-) -> Result<World<ListedRules>, OutOfMemory> {
+/// A world of three systems.
+fn first_world(rt: &(impl Abort + AllocGlobal)) -> Result<World<ListedRules>, OutOfMemory>
+    ensures { IfOk result (λ world. Safe (listed_meaning world.rules.units) world) }
+{
     let mut lists = Items::new(rt.alloc());
     lists.push(units(rt, 1)?)?;
     lists.push(units(rt, 2)?)?;
     lists.push(Items::new(rt.alloc()))?;
     let rules = ListedRules::of(lists).expect(rt, "units of three systems");
-    let mut world = World::start(rt.alloc(), rules)?;
+    World::start(rt.alloc(), rules)
+}
+
+/// The world after one more event, at which the law and the claims are looked at.
+fn go_on(
+    rt: &(impl Abort + AllocGlobal),
+    dice: &mut Dice,
+    world: World<ListedRules>,
+) -> Result<World<ListedRules>, OutOfMemory>
+    requires { Safe (listed_meaning world.rules.units) world }
+    ensures { IfOk result (λ after. Safe (listed_meaning after.rules.units) after) }
+{
+    let next = event(rt, dice, world.next_number);
+    let after = step(rt.alloc(), world, &next)?;
+    assert!(rt; is_sound(rt, &after)?, "after {next:?}");
+    Ok(after)
+}
+
+/// Whether the law holds of the logs, and the claims are sound.
+fn is_sound(
+    rt: &(impl Abort + AllocGlobal),
+    world: &World<ListedRules>,
+) -> Result<bool, OutOfMemory> {
+    Ok(is_once(rt, world)? && claims_are_sound(world))
+}
+
+/// How many units are executed in a walk of 300 events.
+fn walk(rt: &(impl Abort + AllocGlobal), dice: &mut Dice) -> Result<usize, OutOfMemory> {
+    let mut world = first_world(rt)?;
     for _ in 0..300 {
-        let next = event(rt, dice, world.next_number);
-        world = step(rt.alloc(), world, &next)?;
-        assert!(rt; is_once(rt, &world)?, "after {next:?}");
-        assert!(rt; claims_are_sound(&world), "after {next:?}");
+        world = go_on(rt, dice, world)?;
     }
-    Ok(world)
+    let mut count = 0usize;
+    for state in &world.systems {
+        count = count.saturating_add(state.log.iter().filter(|r| is_executed(r)).count());
+    }
+    Ok(count)
 }
 
 #[test]
@@ -188,10 +218,7 @@ fn whatever_happens_each_unit_is_taken_and_executed_once(rt: HostRuntime) -> Res
     let mut dice = Dice { state: 20_261_127 };
     let mut executed = 0usize;
     for _ in 0..20 {
-        let world = walk(&rt, &mut dice)?;
-        for state in &world.systems {
-            executed = executed.saturating_add(state.log.iter().filter(|r| is_executed(r)).count());
-        }
+        executed = executed.saturating_add(walk(&rt, &mut dice)?);
     }
     // The walks are no idle ones.
     assert!(rt; executed >= 20, "{executed} executed");

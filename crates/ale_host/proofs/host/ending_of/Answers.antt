@@ -1,5 +1,5 @@
 use Rattle.std.proofs.Common.{◌≡◌, Some, map, string_bytes, sym, subst, ◌∙◌}
-use Rattle.ale_io.specs.Faults.{Rose}
+use Rattle.ale_base.specs.Faults.{Rose}
 use Rattle.ale_host.specs.declared.words.Form.TheVariants.{Pass}
 use Rattle.ale_host.specs.Words.{form_of, document_file}
 use Rattle.ale_host.specs.Ending.{EndsPass}

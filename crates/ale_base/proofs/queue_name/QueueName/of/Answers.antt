@@ -7,9 +7,10 @@ use Rattle.ale_base.proofs.queue_name.QueueName.of.Goals.{In-Some-of}
 named : (c : In-Some-of) → (c.in-Some-of.text ≡ c.args.bytes.now) × IsQueueName c.args.bytes.now
 named c =
     let graphic = c.in_default.ensures in
-    let some : 1 ≤ length c.args.bytes.now = search rules in
-    (c.in-Some-of.ensures.text ∙ trimmed-graphic c.args.bytes.now graphic,
-    record { least = some; most = c.if-bytes-gt-MAX_LEN.false; graphic = graphic })
+    let some : 1 ≤ length c.args.bytes.now = search rules in (
+      c.in-Some-of.ensures.text ∙ trimmed-graphic c.args.bytes.now graphic,
+      record { least = some; most = c.if-bytes-gt-MAX_LEN.false; graphic = graphic },
+    )
 
 pub invariant_of-result : goal.invariant_of-result
 invariant_of-result c =
