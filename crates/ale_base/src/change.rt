@@ -6,7 +6,7 @@ use std::alloc::AllocError;
 pub struct FieldValue {
     /// The name of the field.
     pub field: Items<u8>,
-    /// Its value, without blanks at the end.
+    /// Its value.
     pub value: Items<u8>,
 }
 

@@ -1,8 +1,9 @@
-//! The words that every other crate uses: numbers of systems and documents, transaction ids, texts of a fixed
-//! width, and lists.
+//! The words that every other crate uses: numbers of systems and documents, transaction ids, names of queues, texts
+//! of a fixed width, and lists.
 //!
 //! Contract: each value is seen as what it stands for, and each spelling is exact in both directions. The
-//! definitions are in `specs/`: `Blanks` (trimmed and padded texts), `Hexadecimal`, `Tid`.
+//! definitions are in `specs/`: `Blanks` (trimmed and padded texts), `Hexadecimal`, `Tid`, `QueueName`, `Faults`
+//! (a count of faults rose).
 #![tactic(auto)]
 
 mod blanks;

@@ -1,11 +1,10 @@
 -- A safe world stays safe at every event.
-use Rattle.std.specs.Prelude.{Contains, All, filter}
-use Rattle.std.specs.List.{cons_option, list_any}
-use Rattle.std.proofs.Common.{◌≡◌, ◌≢◌, ℕ, ◌+◌, ◌<◌, ◌≤◌, ◌==◌, Bool, true, false, not, cond, ◌&&◌, ◌||◌, Option, Some, None, List, [], ◌∷◌, ◌++◌, length, map, inl, inr, ◌⊎◌, refl, sym, ap, subst, ◌∙◌, arith}
-use Rattle.std.proofs.lemmas.Bool.{cases_Bool, cond_both, and_parts, and_from, or_cases, both_ways, not-true, not_from_false, eqb-true, eq-eqb}
+use Rattle.std.specs.Prelude.{Contains}
+use Rattle.std.proofs.Common.{◌≡◌, ◌≢◌, ℕ, ◌<◌, ◌≤◌, ◌==◌, Bool, true, false, not, cond, ◌&&◌, ◌||◌, Option, Some, None, List, [], ◌∷◌, inl, inr, refl, sym, ap, subst, ◌∙◌, arith}
+use Rattle.std.proofs.lemmas.Bool.{cond_both, and_parts, and_from, or_cases, both_ways, not-true, not_from_false, eqb-true, eq-eqb}
 use Rattle.std.proofs.lemmas.List.Elements.{All-contains, All-push}
 use Rattle.std.proofs.lemmas.Option.{same_Some, none-some}
-use Rattle.ale_base.specs.Tid.{TidOf, is_tid}
+use Rattle.ale_base.specs.Tid.{TidOf}
 use Rattle.ale_base.specs.declared.mark.Mark.{Mark as Cause}
 use Rattle.ale_base.specs.declared.mark.Mark.TheVariants.{Cpicerr, Sysfail}
 use Rattle.ale_base.specs.declared.way.Way.{Way}
@@ -13,12 +12,11 @@ use Rattle.ale_base.specs.declared.way.Way.TheVariants.{Outgoing, Incoming}
 use Rattle.unit_core.specs.declared.ale_unit.AleUnit.{AleUnit}
 use Rattle.unit_core.specs.declared.records.Record.{Record}
 use Rattle.unit_core.specs.declared.records.Record.TheVariants as log
-use Rattle.unit_core.specs.Filters.{taken_by, executed_by, done_by, ended_by, forgotten_by, received, executed, done_in, ended_in, forgotten_in, mark_after, is_marked}
+use Rattle.unit_core.specs.Filters.{taken_by, executed_by, done_by, received, executed, done_in, ended_in, forgotten_in, mark_after, is_marked}
 use Rattle.unit_core.specs.Queues.{is_listed, is_among, unit_named, heads_inbound, heads_outbound}
-use Rattle.unit_core.specs.Once.{Once}
 use Rattle.unit_core.proofs.MemberLemmas.{Contains-nil, Contains-filter_back}
 use Rattle.unit_core.proofs.TidLemmas.{is_tid-other, Contains-is_listed, is_among-Contains, Contains-is_among, unit_named-Some, same_unit}
-use Rattle.unit_core.proofs.OnceLemmas.{MayTake, MayExecute, MayJoin, WasTaken, WasForgotten}
+use Rattle.unit_core.proofs.OnceLemmas.{MayTake, MayExecute, MayJoin, WasTaken}
 use Rattle.trfc_protocol.specs.declared.world.World.{World}
 use Rattle.trfc_protocol.specs.declared.world.SystemState.{SystemState}
 use Rattle.trfc_protocol.specs.declared.held.Held.{Held}
@@ -33,15 +31,15 @@ use Rattle.trfc_protocol.specs.declared.event.CoreAnswer.{CoreAnswer}
 use Rattle.trfc_protocol.specs.declared.event.CoreAnswer.TheVariants as reply
 use Rattle.trfc_protocol.specs.declared.event.Action.TheVariants.{Append, Revoke}
 use Rattle.trfc_protocol.specs.Meaning.{Meaning}
-use Rattle.trfc_protocol.specs.Legal.{is_empty, is_offered, is_commit, is_operators, is_new, offers_received, may_follow, may_follow_others, is_free_outbound, is_free_inbound, IsLawful}
+use Rattle.trfc_protocol.specs.Legal.{is_empty, is_offered, is_commit, is_operators, is_new, offers_received, may_follow, is_free_outbound, is_free_inbound, IsLawful}
 use Rattle.trfc_protocol.specs.Worlds.{state_of, log_of, is_up, committed_by, committed_unit, offers_now, appended, claimed, released, is_claimed, claim_of}
-use Rattle.trfc_protocol.specs.Offered.{is_offered_outbound, is_offered_inbound, is_stopped_outbound, is_stopped_inbound, may_move, heads_at_sender, may_arrive, offers_received_now, answer_to}
+use Rattle.trfc_protocol.specs.Offered.{is_stopped_outbound, is_stopped_inbound, may_move, heads_at_sender, may_arrive, offers_received_now, answer_to}
 use Rattle.trfc_protocol.specs.Happens.{writes, claims_outbound, answered, arrives, claims_inbound, ends_run, finishes_by, finishes, fails_by, fails, closes, replied, replies_by, replies, loses_by, loses, confirms, ends, happens, run}
 use Rattle.trfc_protocol.specs.Safe.{still_holds, Stands, AreApart, Safe}
 use Rattle.trfc_protocol.proofs.WorldLemmas.{is_up-known, state_of-least, state_of-most, kept-appended, committed_by-known, offers_now-known}
 use Rattle.trfc_protocol.proofs.LegalLemmas.{may_follow-others, is_free-parts, IsPlain, IsPlain-commit, IsPlain-operators, MayJoin-plain, MayJoin-accept, MayJoin-direct, MayJoin-execute, MayJoin-done, MayJoin-forget, MayJoin-ended}
 use Rattle.trfc_protocol.proofs.ClaimLemmas.{All-from_Contains, not_claimed, claim_of-Some, without, AreApart-without, alone, AreApart-push}
-use Rattle.trfc_protocol.proofs.SafeLemmas.{Spares, IsRun, IsRun-holds, holds-IsRun, numbered, committed_unit-is, received-is, Safe-appended}
+use Rattle.trfc_protocol.proofs.SafeLemmas.{Spares, IsRun-holds, holds-IsRun, numbered, committed_unit-is, received-is, Safe-appended}
 
 -- the world is safe, by the same rules as before
 abbrev pub IsNext : {R : Type 0} → Meaning → World R → World R → Type 0

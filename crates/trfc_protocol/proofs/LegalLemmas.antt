@@ -2,7 +2,7 @@
 use Rattle.std.specs.Prelude.{Contains, is_some, slice_index_or}
 use Rattle.std.specs.List.{cons_option}
 use Rattle.std.proofs.lemmas.List.Elements.{filter_map-append}
-use Rattle.std.proofs.Common.{◌≡◌, ◌≢◌, ℕ, zero, suc, ◌+◌, ◌<◌, ◌≤◌, ◌==◌, Bool, true, false, not, cond, ◌&&◌, Option, Some, None, List, [], ◌∷◌, ◌++◌, length, map, fold, inl, inr, ◌⊎◌, refl, sym, ap, subst, ◌∙◌, arith, append_assoc}
+use Rattle.std.proofs.Common.{◌≡◌, ◌≢◌, ℕ, suc, ◌+◌, ◌<◌, Bool, true, false, not, cond, ◌&&◌, Option, Some, None, List, [], ◌∷◌, ◌++◌, length, inl, inr, refl, sym, ap, subst, ◌∙◌, arith, append_assoc}
 use Rattle.std.proofs.lemmas.Bool.{cases_Bool, and_parts, and_from, or_from, not-true, not_from_false}
 use Rattle.std.proofs.lemmas.List.{append-nil}
 use Rattle.std.proofs.lemmas.List.Sums.{fold-append}
@@ -13,16 +13,16 @@ use Rattle.ale_base.specs.declared.way.Way.{Way}
 use Rattle.ale_base.specs.declared.way.Way.TheVariants.{Outgoing, Incoming}
 use Rattle.unit_core.specs.declared.ale_unit.AleUnit.{AleUnit}
 use Rattle.unit_core.specs.declared.records.Record.{Record}
-use Rattle.unit_core.specs.declared.records.Record.TheVariants.{Genesis, Commit, Dispatch, Mark, Done, Ended, Accept, Execute, Direct, Fail, Forget, Stop, Start, Retry, Put, App, Repost}
-use Rattle.unit_core.specs.Filters.{taken_by, executed_by, done_by, ended_by, forgotten_by, received, executed, done_in, ended_in, forgotten_in, mark_after, mark_of, is_marked}
-use Rattle.unit_core.specs.Queues.{is_listed, is_among, is_outstanding, unit_named, tids_of, heads_outbound, heads_inbound}
-use Rattle.unit_core.specs.Once.{IsPrefix, NoneTwice, Once}
+use Rattle.unit_core.specs.declared.records.Record.TheVariants.{Commit, Dispatch, Done, Ended, Accept, Execute, Direct, Forget, Stop, Start, Retry, Put, App, Repost}
+use Rattle.unit_core.specs.Filters.{taken_by, executed_by, done_by, ended_by, forgotten_by, received, executed, done_in, mark_after, mark_of, is_marked}
+use Rattle.unit_core.specs.Queues.{is_listed, is_outstanding, unit_named, tids_of, heads_outbound, heads_inbound}
+use Rattle.unit_core.specs.Once.{IsPrefix, NoneTwice}
 use Rattle.unit_core.proofs.MemberLemmas.{find-longer}
 use Rattle.unit_core.proofs.TidLemmas.{is_tid-other, is_listed-one, is_listed-append, unit_named-Some}
 use Rattle.unit_core.proofs.QueueLemmas.{heads_outbound-keeps, heads_inbound-keeps}
-use Rattle.unit_core.proofs.OnceLemmas.{MayTake, MayExecute, MayRun, MayJoin, WasTaken, WasForgotten}
+use Rattle.unit_core.proofs.OnceLemmas.{MayTake, MayExecute, MayJoin, WasTaken, WasForgotten}
 use Rattle.trfc_protocol.specs.Meaning.{Meaning}
-use Rattle.trfc_protocol.specs.Legal.{is_empty, is_free, is_free_outbound, is_free_inbound, may_follow, may_follow_others, AllFollow, IsLegal, is_commit, is_operators, is_genesis, IsUnitAt, IsLawful}
+use Rattle.trfc_protocol.specs.Legal.{is_free, is_free_outbound, is_free_inbound, may_follow, may_follow_others, AllFollow, IsLegal, is_commit, is_operators, IsUnitAt, IsLawful}
 
 -- a legal log goes on by a record that may follow it
 AllFollow-push : (rules : Meaning) (system : ℕ) (before log : List Record) (next : Record) → AllFollow rules system before log

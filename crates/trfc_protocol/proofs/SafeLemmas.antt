@@ -1,24 +1,22 @@
 -- A safe world stays safe where a record joins the log of one system.
-use Rattle.std.specs.Prelude.{Contains, All, find}
+use Rattle.std.specs.Prelude.{Contains, All}
 use Rattle.std.specs.List.{cons_option}
-use Rattle.std.proofs.Common.{◌≡◌, ◌≢◌, ℕ, ◌+◌, ◌<◌, ◌≤◌, ◌==◌, Bool, true, false, not, ◌&&◌, Option, Some, None, List, [], ◌∷◌, ◌++◌, length, map, inl, inr, ◌⊎◌, refl, sym, ap, subst, ◌∙◌, arith}
-use Rattle.std.proofs.lemmas.Bool.{cases_Bool, cases_eq, and_parts, and_from, or_from, both_ways, not-true, not_from_false, eqb-true, eq-eqb, false_from_ne_true}
-use Rattle.std.proofs.lemmas.List.{append-nil}
+use Rattle.std.proofs.Common.{◌≡◌, ◌≢◌, ℕ, ◌<◌, ◌≤◌, ◌==◌, true, false, not, ◌&&◌, Option, Some, None, List, [], ◌∷◌, ◌++◌, inl, inr, ◌⊎◌, refl, sym, ap, subst, ◌∙◌}
+use Rattle.std.proofs.lemmas.Bool.{cases_eq, and_parts, and_from, or_from, not-true, not_from_false, eqb-true, eq-eqb}
 use Rattle.std.proofs.lemmas.List.Folds.{list_any-append}
 use Rattle.std.proofs.lemmas.List.Elements.{All-contains, filter_map-append}
-use Rattle.std.proofs.lemmas.Option.{same_Some, none-some}
 use Rattle.ale_base.specs.Tid.{TidOf, is_tid}
 use Rattle.ale_base.specs.declared.way.Way.TheVariants.{Outgoing, Incoming}
 use Rattle.unit_core.specs.declared.ale_unit.AleUnit.{AleUnit}
 use Rattle.unit_core.specs.declared.records.Record.{Record}
 use Rattle.unit_core.specs.declared.records.Record.TheVariants.{Genesis}
-use Rattle.unit_core.specs.Filters.{taken_by, executed_by, done_by, received, executed, done_in, mark_after}
+use Rattle.unit_core.specs.Filters.{taken_by, executed_by, done_by, received, done_in, mark_after}
 use Rattle.unit_core.specs.Queues.{is_listed, is_among, unit_named, tids_of, heads_outbound}
-use Rattle.unit_core.specs.Once.{IsPrefix, NoneTwice, Once}
+use Rattle.unit_core.specs.Once.{IsPrefix, NoneTwice}
 use Rattle.unit_core.proofs.MemberLemmas.{find-longer, IsPrefix-same, Contains-nil}
-use Rattle.unit_core.proofs.TidLemmas.{is_tid-other, is_listed-one, is_among-Contains, unit_named-Some, unit_named-Contains, same_unit}
+use Rattle.unit_core.proofs.TidLemmas.{is_tid-other, is_listed-one, unit_named-Some, unit_named-Contains}
 use Rattle.unit_core.proofs.QueueLemmas.{heads_outbound-keeps}
-use Rattle.unit_core.proofs.OnceLemmas.{Joins, MayJoin, at_each, Once-joins}
+use Rattle.unit_core.proofs.OnceLemmas.{MayJoin, at_each, Once-joins}
 use Rattle.trfc_protocol.specs.declared.world.World.{World}
 use Rattle.trfc_protocol.specs.declared.world.SystemState.{SystemState}
 use Rattle.trfc_protocol.specs.declared.held.Held.{Held}
@@ -26,11 +24,11 @@ use Rattle.trfc_protocol.specs.declared.held.HeldKind.{HeldKind}
 use Rattle.trfc_protocol.specs.declared.held.HeldKind.TheVariants.{Out, In, Direct}
 use Rattle.trfc_protocol.specs.Meaning.{Meaning}
 use Rattle.trfc_protocol.specs.Legal.{IsLegal, may_follow, is_empty, is_genesis, IsUnitAt, IsLawful, is_free_outbound, is_free_inbound}
-use Rattle.trfc_protocol.specs.Worlds.{state_of, log_of, is_up, committed_at, committed_by, committed_unit, offered_at, offers_now, with_record, appended}
+use Rattle.trfc_protocol.specs.Worlds.{state_of, log_of, committed_at, committed_by, committed_unit, offered_at, offers_now, with_record, appended}
 use Rattle.trfc_protocol.specs.Offered.{heads_at_sender}
 use Rattle.trfc_protocol.specs.Safe.{is_direct, still_holds, Stands, AreApart, Safe}
 use Rattle.trfc_protocol.proofs.WorldLemmas.{joins, is_up-appended, length-appended, state_of-appended, state_of-appended_other, All-appended, kept-appended, committed_by-known, offers_now-known}
-use Rattle.trfc_protocol.proofs.LegalLemmas.{IsLegal-push, committed-NoneTwice, committed-at, committed-grows, is_free-parts, is_free_outbound-keeps, is_free_inbound-keeps}
+use Rattle.trfc_protocol.proofs.LegalLemmas.{IsLegal-push, committed-NoneTwice, committed-at, committed-grows, is_free_outbound-keeps, is_free_inbound-keeps}
 use Rattle.trfc_protocol.proofs.ClaimLemmas.{All-from_Contains}
 
 -- a record is not that of a claim's unit

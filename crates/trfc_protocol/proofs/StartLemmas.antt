@@ -1,16 +1,14 @@
 -- The world at first is safe.
 use Rattle.std.specs.Prelude.{Contains, All, slice_get, map}
-use Rattle.std.specs.List.{range_with_len, filter_map}
-use Rattle.std.proofs.Common.{◌≡◌, ◌≢◌, ℕ, zero, suc, ◌+◌, ◌<◌, ◌≤◌, Bool, true, false, Option, Some, None, List, [], ◌∷◌, ◌++◌, length, take, inl, inr, ◌⊎◌, refl, sym, ap, subst, ◌∙◌, arith}
+use Rattle.std.specs.List.{range_with_len}
+use Rattle.std.proofs.Common.{◌≡◌, ◌≢◌, ℕ, zero, suc, ◌+◌, ◌<◌, ◌≤◌, Some, None, List, [], ◌∷◌, take, inl, inr, ◌⊎◌, refl, sym, ap, subst, ◌∙◌, arith}
 use Rattle.std.proofs.lemmas.Bool.{eq-eqb}
 use Rattle.std.proofs.lemmas.List.Elements.{All-nil, All-map}
 use Rattle.std.proofs.lemmas.List.FromFn.{length-map-range_with_len}
-use Rattle.std.proofs.lemmas.Option.{same_Some, none-some}
 use Rattle.ale_base.specs.Tid.{TidOf}
-use Rattle.unit_core.specs.declared.ale_unit.AleUnit.{AleUnit}
 use Rattle.unit_core.specs.declared.records.Record.{Record}
 use Rattle.unit_core.specs.declared.records.Record.TheVariants.{Genesis}
-use Rattle.unit_core.specs.declared.queue.Queue.TheVariants.{Outbound, Inbound}
+use Rattle.unit_core.specs.declared.queue.Queue.TheVariants.{Outbound}
 use Rattle.unit_core.specs.Filters.{received, executed, done_in, ended_in, forgotten_in}
 use Rattle.unit_core.specs.Queues.{in_queue, tids_of}
 use Rattle.unit_core.specs.Once.{TakenOnce, TakenWasCommitted, TakenInOrder, ExecutedInOrder, Once}

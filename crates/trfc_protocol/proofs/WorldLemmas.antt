@@ -1,23 +1,15 @@
 -- The systems of a world, and one more record in the log of one of them.
-use Rattle.std.specs.Prelude.{slice_get, slice_set, slice_index_or, All, Contains}
-use Rattle.std.specs.List.{filter_map}
-use Rattle.std.proofs.Common.{◌≡◌, ◌≢◌, ℕ, zero, suc, ◌+◌, ◌-◌, ◌<◌, ◌≤◌, Bool, true, false, Option, Some, None, List, [], ◌∷◌, ◌++◌, length, map, inl, inr, ◌⊎◌, refl, sym, ap, subst, ◌∙◌, arith}
-use Rattle.std.proofs.lemmas.Bool.{cases_eq, cases_Bool}
-use Rattle.std.proofs.lemmas.List.{length-set, append-nil}
+use Rattle.std.specs.Prelude.{slice_get, slice_set, slice_index_or, All}
+use Rattle.std.proofs.Common.{◌≡◌, ◌≢◌, ℕ, zero, suc, ◌-◌, ◌≤◌, true, Option, Some, None, List, [], ◌∷◌, ◌++◌, length, inl, inr, refl, sym, ap, subst, ◌∙◌, arith}
+use Rattle.std.proofs.lemmas.Bool.{cases_eq}
+use Rattle.std.proofs.lemmas.List.{length-set}
 use Rattle.std.proofs.lemmas.List.Elements.{All-set}
 use Rattle.std.proofs.lemmas.Option.{slice_get_within, get_or_from_slice_get}
-use Rattle.ale_base.specs.Tid.{TidOf}
-use Rattle.unit_core.specs.declared.ale_unit.AleUnit.{AleUnit}
 use Rattle.unit_core.specs.declared.records.Record.{Record}
-use Rattle.unit_core.specs.Queues.{tids_of, is_listed}
-use Rattle.unit_core.specs.Once.{IsPrefix, NoneTwice}
-use Rattle.unit_core.proofs.MemberLemmas.{IsPrefix-same}
 use Rattle.unit_core.proofs.OnceLemmas.{Joins}
 use Rattle.trfc_protocol.specs.declared.world.World.{World}
 use Rattle.trfc_protocol.specs.declared.world.SystemState.{SystemState}
-use Rattle.trfc_protocol.specs.declared.held.Held.{Held}
 use Rattle.trfc_protocol.specs.Meaning.{Meaning}
-use Rattle.trfc_protocol.specs.Legal.{IsLegal, may_follow, is_commit, is_genesis, IsLawful}
 use Rattle.trfc_protocol.specs.Worlds.{state_of, log_or_none, up_or_not, log_of, is_up, committed_at, committed_by, offered_at, offers_now, with_record, appended_at, appended}
 
 slice_get-set : {A : Type 0} (xs : List A) (k : ℕ) (x y : A) → slice_get xs k ≡ Some x → slice_get (slice_set xs k y) k ≡ Some y

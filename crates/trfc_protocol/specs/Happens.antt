@@ -1,13 +1,12 @@
 -- What may happen next, and what becomes of the world. An event whose condition fails leaves it.
-use Rattle.std.specs.Prelude.{ℕ, Bool, true, false, not, ◌&&◌, Option, Some, None, List, [], ◌∷◌, if◌then◌else◌}
+use Rattle.std.specs.Prelude.{ℕ, Bool, not, ◌&&◌, Option, Some, None, List, [], ◌∷◌, if◌then◌else◌}
 use Rattle.ale_base.specs.Tid.{TidOf}
-use Rattle.ale_base.specs.declared.mark.Mark.{Mark as Cause}
 use Rattle.ale_base.specs.declared.mark.Mark.TheVariants.{Cpicerr, Sysfail}
 use Rattle.unit_core.specs.declared.ale_unit.AleUnit.{AleUnit}
 use Rattle.unit_core.specs.declared.records.Record.{Record}
 use Rattle.unit_core.specs.declared.records.Record.TheVariants as log
 use Rattle.unit_core.specs.Filters.{received, done_in, ended_in, forgotten_in}
-use Rattle.unit_core.specs.Queues.{is_listed, is_among, unit_named}
+use Rattle.unit_core.specs.Queues.{is_listed, is_among}
 use Rattle.trfc_protocol.specs.declared.world.World.{World}
 use Rattle.trfc_protocol.specs.declared.held.Held.{Held}
 use Rattle.trfc_protocol.specs.declared.held.HeldKind.{HeldKind}

@@ -1,7 +1,7 @@
 -- Which record may follow a log. Those of the application (Commit, Dispatch, Put, App, Repost) are left to the rules; the
 -- protocol decides all others.
-use Rattle.std.specs.Prelude.{◌≡◌, ℕ, ◌+◌, ◌<◌, ◌≤◌, ⊤, Bool, true, false, not, ◌==◌, ◌&&◌, nat_le, IsTrue, Option, Some, None, List, [], ◌∷◌, ◌++◌, length, slice_index_or, if◌then◌else◌}
-use Rattle.ale_base.specs.Tid.{TidOf, is_tid}
+use Rattle.std.specs.Prelude.{◌≡◌, ℕ, ◌+◌, ◌<◌, ◌≤◌, ⊤, Bool, true, false, not, ◌==◌, ◌&&◌, nat_le, Option, Some, None, List, [], ◌∷◌, ◌++◌, length, slice_index_or}
+use Rattle.ale_base.specs.Tid.{TidOf}
 use Rattle.ale_base.specs.declared.way.Way.{Way}
 use Rattle.ale_base.specs.declared.way.Way.TheVariants.{Outgoing, Incoming}
 use Rattle.unit_core.specs.declared.ale_unit.AleUnit.{AleUnit}

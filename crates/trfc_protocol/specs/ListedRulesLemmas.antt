@@ -1,12 +1,11 @@
 -- The laws hold of rules that list the units.
 use Rattle.std.specs.Prelude.{take, slice_index_or, IsTrue}
-use Rattle.std.proofs.Common.{◌≡◌, ◌≢◌, ℕ, zero, suc, ◌+◌, ◌-◌, ◌<◌, ◌≤◌, ◌==◌, Bool, true, false, not, ◌&&◌, nat_lt, nat_le, List, [], ◌∷◌, ◌++◌, length, refl, sym, ap, subst, ◌∙◌, arith, add_assoc, cond}
-use Rattle.std.proofs.lemmas.Bool.{and_parts, eqb-true, leb-true, not-true, eqb-false, cases_Bool}
-use Rattle.std.proofs.lemmas.List.{length-take, append-nil}
-use Rattle.ale_base.specs.Tid.{TidOf}
+use Rattle.std.proofs.Common.{◌≡◌, ℕ, zero, suc, ◌+◌, ◌<◌, ◌≤◌, ◌==◌, true, false, not, ◌&&◌, nat_le, List, [], ◌∷◌, ◌++◌, length, refl, sym, ap, subst, ◌∙◌, arith, add_assoc, cond}
+use Rattle.std.proofs.lemmas.Bool.{and_parts, eqb-true, leb-true, not-true, eqb-false}
+use Rattle.std.proofs.lemmas.List.{length-take}
 use Rattle.unit_core.specs.declared.ale_unit.AleUnit.{AleUnit}
 use Rattle.unit_core.specs.declared.records.Record.{Record}
-use Rattle.unit_core.specs.declared.records.Record.TheVariants.{Commit, Dispatch}
+use Rattle.unit_core.specs.declared.records.Record.TheVariants.{Commit}
 use Rattle.unit_core.specs.Once.{IsPrefix}
 use Rattle.unit_core.specs.Queues.{are_different}
 use Rattle.trfc_protocol.specs.Legal.{IsUnitAt, IsLawful, is_commit, may_follow}

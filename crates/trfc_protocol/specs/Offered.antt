@@ -1,5 +1,5 @@
 -- Which unit is offered, and how its receiver answers its arrival.
-use Rattle.std.specs.Prelude.{ℕ, Bool, true, false, not, ◌&&◌, ◌||◌, Option, Some, None, List, if◌then◌else◌}
+use Rattle.std.specs.Prelude.{ℕ, Bool, false, not, ◌&&◌, ◌||◌, Option, Some, None, List, if◌then◌else◌}
 use Rattle.std.specs.List.{list_any}
 use Rattle.ale_base.specs.Tid.{TidOf}
 use Rattle.ale_base.specs.declared.way.Way.TheVariants.{Outgoing, Incoming}

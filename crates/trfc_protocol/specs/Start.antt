@@ -1,5 +1,5 @@
 -- The world at first.
-use Rattle.std.specs.Prelude.{ℕ, ◌+◌, true, None, List, [], ◌∷◌, map}
+use Rattle.std.specs.Prelude.{ℕ, true, None, [], ◌∷◌, map}
 use Rattle.std.specs.List.{range_with_len}
 use Rattle.unit_core.specs.declared.records.Record.TheVariants.{Genesis}
 use Rattle.trfc_protocol.specs.declared.world.World.{World}

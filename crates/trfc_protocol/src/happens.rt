@@ -13,8 +13,8 @@ impl<R: Rules> World<R> {
     ghost use Rattle.trfc_protocol.specs.Legal.{may_follow};
     ghost use Rattle.trfc_protocol.specs.Safe.{Safe};
 
-    /// Lets an event happen.
-    pub fn happen(&mut self, alloc: Global, event: &Event) -> Result<(), OutOfMemory>
+    /// Lets an event happen. After `OutOfMemory` a part of it may have happened, so the world is given up.
+    pub(crate) fn happen(&mut self, alloc: Global, event: &Event) -> Result<(), OutOfMemory>
         requires { Safe (R.meaning self.old.rules) self.old }
         ensures { OnOk result (self.new ≡ happens (R.meaning self.old.rules) self.old event.now) }
     {

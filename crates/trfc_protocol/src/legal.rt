@@ -216,18 +216,18 @@ fn is_open_at<R: Rules>(
 }
 
 /// Whether the record commits units.
-pub fn is_commit(record: &Record) -> bool
-    ensures { result ≡ is_commit record.now }
+pub fn is_commit(entry: &Record) -> bool
+    ensures { result ≡ is_commit entry.now }
 {
-    matches!(record, Record::Commit { .. } | Record::Dispatch)
+    matches!(entry, Record::Commit { .. } | Record::Dispatch)
 }
 
 /// Whether the record is one of an operator or of the application.
-pub fn is_operators(record: &Record) -> bool
-    ensures { result ≡ is_operators record.now }
+pub fn is_operators(entry: &Record) -> bool
+    ensures { result ≡ is_operators entry.now }
 {
     matches!(
-        record,
+        entry,
         Record::Stop { .. }
             | Record::Start { .. }
             | Record::Retry { .. }

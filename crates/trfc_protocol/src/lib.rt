@@ -2,9 +2,9 @@
 //! workers, and what each event makes of them.
 //!
 //! Contract: from a world that is safe every list of events gives a world that is safe, so each unit is taken and
-//! executed once, and in the order of its queues, whatever is lost or repeated; and each step is exactly that of the
-//! definition. The definitions are in `specs/`: `Meaning` and `Legal` (the rules of a landscape, and which record may
-//! follow a log), `Worlds`, `Offered`, `Happens` (the events), `Safe`.
+//! executed at most once, and in the order of its queues, whatever is lost or repeated; and each step is exactly that
+//! of the definition. The definitions are in `specs/`: `Meaning` and `Legal` (the rules of a landscape, and which record
+//! may follow a log), `Worlds`, `Offered`, `Happens` (the events), `Safe`.
 #![tactic(auto)]
 
 mod answer;

@@ -116,10 +116,10 @@ fn commits_of(log: &[Record]) -> usize
     count
 }
 
-fn is_commit_record(record: &Record) -> bool
-    ensures { result ≡ is_commit_record record.now }
+fn is_commit_record(entry: &Record) -> bool
+    ensures { result ≡ is_commit_record entry.now }
 {
-    matches!(record, Record::Commit { .. })
+    matches!(entry, Record::Commit { .. })
 }
 
 /// Whether these are the units of the systems from the first on.

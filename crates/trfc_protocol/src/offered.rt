@@ -11,7 +11,7 @@ use unit_core::{
 };
 
 impl<R: Rules> World<R> {
-    ghost use Rattle.std.specs.Prelude.{◌≡◌, IfOk};
+    ghost use Rattle.std.specs.Prelude.{true, ◌≡◌, IfOk};
     ghost use Rattle.trfc_protocol.specs.Worlds.{log_of, state_of, offers_now, committed_by, committed_unit};
     ghost use Rattle.trfc_protocol.specs.Offered.{is_offered_outbound, is_offered_inbound, heads_at_sender, may_arrive, answer_to, offers_received_now};
     ghost use Rattle.trfc_protocol.specs.Safe.{Safe};
@@ -143,12 +143,13 @@ impl<R: Rules> World<R> {
         Ok(is_among(unit.tid, units.as_slice()) || self.heads_at_sender(alloc, unit)?)
     }
 
-    /// How the receiver answers the arrival of a committed unit that it has not forgotten: the first of these that
-    /// applies. `Down` where it is down, `Known` where it received the unit, `Busy` where a direct run of it is claimed,
-    /// `SysFail` where it has no inbound queue and its function is not offered, `Run` where it has no inbound queue, and
-    /// `New` otherwise.
+    /// How the receiver answers the arrival of a unit that may arrive, so of one that it has not forgotten: the first of
+    /// these that applies. `Down` where it is down, `Known` where it received the unit, `Busy` where a direct run of it
+    /// is claimed, `SysFail` where it has no inbound queue and its function is not offered, `Run` where it has no inbound
+    /// queue, and `New` otherwise.
     pub fn answer_to(&self, alloc: Global, unit: &AleUnit) -> Result<Answer, OutOfMemory>
-        requires { Safe (R.meaning self.now.rules) self.now }
+        requires safe { Safe (R.meaning self.now.rules) self.now }
+        requires arrives { may_arrive (R.meaning self.now.rules) self.now unit.now ≡ true }
         ensures { IfOk result (λ answer. answer ≡ answer_to (R.meaning self.now.rules) self.now unit.now) }
     {
         let receiver = unit.receiver;

@@ -31,6 +31,7 @@ pub fn run_events<R: Rules>(
 ) -> Result<World<R>, OutOfMemory>
     requires { Safe (R.meaning world.rules) world }
     ensures happens { IfOk result (λ after. after ≡ run R.meaning world events.now) }
+    ensures rules { IfOk result (λ after. after.rules ≡ world.rules) }
     ensures safe { IfOk result (λ after. Safe (R.meaning after.rules) after) }
 {
     let mut world = world;

@@ -87,7 +87,7 @@ impl<R> World<R> {
     }
 
     /// Appends a record to the log of a system.
-    pub fn append(&mut self, system: SystemNo, next: Record) -> Result<(), OutOfMemory>
+    pub(crate) fn append(&mut self, system: SystemNo, next: Record) -> Result<(), OutOfMemory>
         ensures { OnOk result (self.new ≡ appended self.old system next) }
     {
         let at = system.get() as usize - 1;
@@ -98,7 +98,12 @@ impl<R> World<R> {
     }
 
     /// Makes a claim, under the next number. There is no number left where that is the greatest.
-    pub fn claim(&mut self, tid: Tid, system: SystemNo, kind: HeldKind) -> Result<(), OutOfMemory>
+    pub(crate) fn claim(
+        &mut self,
+        tid: Tid,
+        system: SystemNo,
+        kind: HeldKind,
+    ) -> Result<(), OutOfMemory>
         ensures { OnOk result (self.new ≡ claimed self.old tid system kind) }
     {
         let number = self.next_number;
@@ -116,7 +121,7 @@ impl<R> World<R> {
     }
 
     /// Drops the claim of this number.
-    pub fn release(&mut self, number: u64)
+    pub(crate) fn release(&mut self, number: u64)
         ensures { self.new ≡ released self.old number }
     {
         self.claims.retain(|held| held.number != number);

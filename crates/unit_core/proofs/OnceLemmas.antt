@@ -1,21 +1,21 @@
 -- The exactly-once law stays where one record joins the log of one system.
-use Rattle.std.specs.Prelude.{find, filter, Contains, All}
-use Rattle.std.specs.List.{list_any, filter_map}
-use Rattle.std.proofs.Common.{◌≡◌, ◌≢◌, ℕ, ◌<◌, ◌≤◌, ◌==◌, ◌&&◌, Bool, true, false, not, Option, Some, None, List, [], ◌∷◌, ◌++◌, length, map, take, inl, inr, ◌⊎◌, refl, sym, ap, subst, ◌∙◌, arith}
-use Rattle.std.proofs.lemmas.Bool.{cases_Bool, cases_eq, cases_lt, and_parts, and_right, and_left, both_ways, not-true, false_from_ne_true, eqb-true}
-use Rattle.std.proofs.lemmas.List.{append-nil, map-append, take-append-le, take_all, length-append}
-use Rattle.std.proofs.lemmas.List.Elements.{All-push, All-weaker, All-contains, Contains-append_left, Contains-push, All-from_recursion}
-use Rattle.std.proofs.lemmas.Option.{same_Some, none-some}
+use Rattle.std.specs.Prelude.{Contains, All}
+use Rattle.std.specs.List.{filter_map}
+use Rattle.std.proofs.Common.{◌≡◌, ◌≢◌, ℕ, ◌==◌, ◌&&◌, true, false, Option, Some, None, List, [], ◌∷◌, ◌++◌, length, take, inl, inr, ◌⊎◌, refl, sym, ap, subst, ◌∙◌, arith}
+use Rattle.std.proofs.lemmas.Bool.{cases_Bool, cases_eq, cases_lt, and_parts, both_ways, false_from_ne_true, eqb-true}
+use Rattle.std.proofs.lemmas.List.{map-append, take-append-le, take_all, length-append}
+use Rattle.std.proofs.lemmas.List.Elements.{All-push, All-weaker, All-contains, Contains-push}
+use Rattle.std.proofs.lemmas.Option.{none-some}
 use Rattle.ale_base.specs.Tid.{TidOf, is_tid}
 use Rattle.unit_core.specs.declared.ale_unit.AleUnit.{AleUnit}
 use Rattle.unit_core.specs.declared.records.Record.{Record}
 use Rattle.unit_core.specs.declared.queue.Queue.{Queue}
 use Rattle.unit_core.specs.declared.queue.Queue.TheVariants.{Outbound, Inbound}
 use Rattle.unit_core.specs.Filters.{taken_by, executed_by, done_by, ended_by, forgotten_by, received, executed, done_in, ended_in, forgotten_in}
-use Rattle.unit_core.specs.Queues.{is_listed, is_among, is_outstanding, unit_named, tids_of, has_name, stands_in, in_queue, heads_outbound, heads_inbound}
-use Rattle.unit_core.specs.Once.{IsPrefix, NoneTwice, TakenOnce, TakenWasCommitted, TakenInOrder, executed_units, ExecutedInOrder, DoneWasTaken, ForgottenWasDone, EndedWasForgotten, Once}
-use Rattle.unit_core.proofs.MemberLemmas.{Contains-map, Contains-map_back, Contains-filter, Contains-filter_back, IsPrefix-same, IsPrefix-append, IsPrefix-trans, IsPrefix-filter, IsPrefix-Contains, IsPrefix-filter_map, filter_map-None, filter_map-Some, filter-kept, filter-left_out, filter_map-agree, filter_map-Contains, filter_map-Contains_back, find-longer}
-use Rattle.unit_core.proofs.TidLemmas.{is_tid-same, is_listed-Contains, Contains-is_listed, is_among-listed, is_among-Contains, Contains-is_among, unit_named-Some, unit_named-Contains, NoneTwice-push, same_unit}
+use Rattle.unit_core.specs.Queues.{is_listed, is_among, unit_named, tids_of, has_name, stands_in, in_queue, heads_outbound, heads_inbound}
+use Rattle.unit_core.specs.Once.{IsPrefix, NoneTwice, TakenOnce, TakenWasCommitted, TakenInOrder, executed_units, ExecutedInOrder, Once}
+use Rattle.unit_core.proofs.MemberLemmas.{Contains-map, Contains-map_back, Contains-filter, Contains-filter_back, IsPrefix-same, IsPrefix-trans, IsPrefix-filter, IsPrefix-Contains, IsPrefix-filter_map, filter_map-None, filter_map-Some, filter-kept, filter-left_out, filter_map-agree, filter_map-Contains, filter_map-Contains_back, find-longer}
+use Rattle.unit_core.proofs.TidLemmas.{is_listed-Contains, Contains-is_listed, is_among-listed, is_among-Contains, Contains-is_among, unit_named-Some, unit_named-Contains, NoneTwice-push, same_unit}
 use Rattle.unit_core.proofs.QueueLemmas.{is_head-outbound, is_head-inbound, next_of_queue}
 
 -- one record joined the log of one system

@@ -1,15 +1,13 @@
 -- Ids in lists, and units by their ids.
-use Rattle.std.specs.Prelude.{find, filter, Contains, All, slice_index_or}
-use Rattle.std.specs.List.{list_any, AllByRecursion}
-use Rattle.std.proofs.Common.{◌≡◌, ◌≢◌, ℕ, zero, suc, ◌+◌, ◌<◌, ◌≤◌, ◌==◌, Bool, true, false, not, ◌&&◌, ◌||◌, Option, Some, None, List, [], ◌∷◌, ◌++◌, length, map, inl, inr, ◌⊎◌, refl, sym, ap, subst, ◌∙◌, arith}
-use Rattle.std.proofs.lemmas.Bool.{cases_Bool, and_parts, and_from, or_cases, or_parts, or_from, both_ways, eqb-true, eq-eqb, false_from_ne_true, cond-true, cond-false}
+use Rattle.std.specs.Prelude.{filter, Contains}
+use Rattle.std.proofs.Common.{◌≡◌, ◌≢◌, ◌==◌, Bool, true, false, ◌||◌, Some, List, [], ◌∷◌, ◌++◌, inl, inr, refl, sym, ap, subst, ◌∙◌}
+use Rattle.std.proofs.lemmas.Bool.{cases_Bool, and_parts, and_from, or_parts, or_from, both_ways, eqb-true, eq-eqb, false_from_ne_true, cond-true, cond-false}
 use Rattle.std.proofs.lemmas.List.Folds.{list_any-append}
-use Rattle.std.proofs.lemmas.Option.{same_Some}
 use Rattle.ale_base.specs.Tid.{TidOf, is_tid}
 use Rattle.unit_core.specs.declared.ale_unit.AleUnit.{AleUnit}
 use Rattle.unit_core.specs.Queues.{is_listed, is_among, unit_named, tids_of}
-use Rattle.unit_core.specs.Once.{NoneTwice, IsPrefix}
-use Rattle.unit_core.proofs.MemberLemmas.{Contains-here, Contains-there, Contains-cons, Contains-nil, list_any-Contains, list_any-found, find-Some}
+use Rattle.unit_core.specs.Once.{NoneTwice}
+use Rattle.unit_core.proofs.MemberLemmas.{Contains-here, Contains-cons, Contains-nil, list_any-Contains, list_any-found, find-Some}
 
 pub is_tid-same : (a : TidOf) → is_tid a a ≡ true
 is_tid-same a = and_from (a.system == a.system) (a.unit == a.unit) (eq-eqb a.system a.system refl) (eq-eqb a.unit a.unit refl)

@@ -72,10 +72,10 @@ fn tids_told(alloc: Global, log: &[Record], fact: Fact) -> Result<Vec<Tid>, OutO
 }
 
 /// The id of which a record tells this.
-fn told_by(record: &Record, fact: Fact) -> Option<Tid>
-    ensures { result ≡ told_by fact record.now }
+fn told_by(entry: &Record, fact: Fact) -> Option<Tid>
+    ensures { result ≡ told_by fact entry.now }
 {
-    match (fact, record) {
+    match (fact, entry) {
         (Fact::Executed, Record::Execute { tid }) => Some(*tid),
         (Fact::Executed, Record::Direct { unit }) => Some(unit.tid),
         (Fact::Done, Record::Done { tid }) => Some(*tid),
@@ -86,10 +86,10 @@ fn told_by(record: &Record, fact: Fact) -> Option<Tid>
 }
 
 /// The unit that a record takes in.
-fn taken_by(record: &Record) -> Option<&AleUnit>
-    ensures { option_copied result ≡ taken_by record.now }
+fn taken_by(entry: &Record) -> Option<&AleUnit>
+    ensures { option_copied result ≡ taken_by entry.now }
 {
-    match record {
+    match entry {
         Record::Accept { unit } | Record::Direct { unit } => Some(unit),
         _ => None,
     }

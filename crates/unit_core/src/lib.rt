@@ -1,7 +1,7 @@
 //! Units of work, the records of a system's log, and what a log says of its units.
 //!
 //! Contract: the lists of the units received and of the transaction ids executed, done, ended and forgotten are exactly
-//! those of the log. The definitions are in `specs/`: `Filters` (these lists, and the marks), `Queues` (a unit in a
+//! those of the log. The definitions are in `specs/`: `Filters` (these lists, the marks, and stopped queues), `Queues` (a unit in a
 //! queue, and at its head), `Once` (each unit once, and in the order of its queues).
 #![tactic(auto)]
 

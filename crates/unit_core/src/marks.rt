@@ -23,10 +23,10 @@ fn mark_of(way: Way, tid: Tid, log: &[Record]) -> Option<Mark>
 }
 
 /// The mark after one more record.
-fn mark_after(way: Way, tid: Tid, before: Option<Mark>, record: &Record) -> Option<Mark>
-    ensures { result ≡ mark_after way tid before record.now }
+fn mark_after(way: Way, tid: Tid, before: Option<Mark>, entry: &Record) -> Option<Mark>
+    ensures { result ≡ mark_after way tid before entry.now }
 {
-    match (way, record) {
+    match (way, entry) {
         (Way::Outgoing, Record::Mark { tid: other, cause }) if *other == tid => Some(*cause),
         (
             Way::Outgoing,
@@ -60,10 +60,10 @@ pub fn is_stopped(way: Way, destination: u8, name: QueueName, log: &[Record]) ->
 }
 
 /// Whether the queue is stopped after one more record.
-fn stopped_after(way: Way, destination: u8, name: QueueName, before: bool, record: &Record) -> bool
-    ensures { result ≡ stopped_after way destination name before record.now }
+fn stopped_after(way: Way, destination: u8, name: QueueName, before: bool, entry: &Record) -> bool
+    ensures { result ≡ stopped_after way destination name before entry.now }
 {
-    match record {
+    match entry {
         Record::Stop {
             way: w,
             destination: d,

@@ -1,6 +1,7 @@
 //! The exactly-once law computed plainly, by scans of the logs.
 
-use ale_base::{Items, OutOfMemory, QueueName, SystemNo, Tid};
+use crate::{HeldKind, ListedRules};
+use ale_base::{Items, OutOfMemory, QueueName, SystemNo, Tid, Way};
 use std::alloc::Global;
 use unit_core::{AleUnit, Record};
 
@@ -164,6 +165,45 @@ impl Logs<'_> {
         true
     }
 
+    /// Whether the unit of a claim may still be sent, or executed.
+    pub fn is_due(&self, kind: HeldKind, system: SystemNo, tid: Tid) -> bool {
+        let log = self.log_of(system);
+        let unit = match self.committed_unit(tid.system(), tid) {
+            Some(unit) => unit,
+            None => return false,
+        };
+        match kind {
+            HeldKind::Out => {
+                unit.sender == system
+                    && !is_marked(log, Way::Outgoing, tid)
+                    && self.is_next_to_send(unit)
+            }
+            HeldKind::In => !is_marked(log, Way::Incoming, tid) && is_next_to_execute(log, unit),
+            HeldKind::Direct => {
+                unit.receiver == system
+                    && unit.inq.is_empty()
+                    && unit.function.trimmed() == ListedRules::FUNCTION
+                    && !log.iter().any(|r| taken(r) == Some(unit))
+                    && self.is_next_to_send(unit)
+            }
+        }
+    }
+
+    /// Whether a unit is not done, and all before it in its outbound queues are.
+    fn is_next_to_send(&self, unit: &AleUnit) -> bool {
+        let log = self.log_of(unit.sender);
+        for other in self.committed_by(unit.sender) {
+            let is_done = log.contains(&Record::Done { tid: other.tid });
+            if other.tid == unit.tid {
+                return !is_done;
+            }
+            if !is_done && other.receiver == unit.receiver && shares(&other.outq, &unit.outq) {
+                return false;
+            }
+        }
+        false
+    }
+
     fn ended_was_forgotten(&self, system: SystemNo, log: &[Record]) -> bool {
         for record in log {
             if let Record::Ended { tid } = record {
@@ -196,6 +236,50 @@ fn executed(record: &Record) -> Option<Tid> {
         Record::Direct { unit } => Some(unit.tid),
         _ => None,
     }
+}
+
+/// Whether two lists have a name in common.
+fn shares(names: &Items<QueueName>, others: &Items<QueueName>) -> bool {
+    names.iter().any(|name| others.as_slice().contains(name))
+}
+
+/// Whether a unit was taken in and not executed, and all before it in its inbound queues were.
+fn is_next_to_execute(log: &[Record], unit: &AleUnit) -> bool {
+    for record in log {
+        if let Some(other) = taken(record) {
+            let is_executed = log.iter().any(|r| executed(r) == Some(other.tid));
+            if other.tid == unit.tid {
+                return !is_executed;
+            }
+            if !is_executed && shares(&other.inq, &unit.inq) {
+                return false;
+            }
+        }
+    }
+    false
+}
+
+/// Whether a unit failed in this direction, and was not retried since.
+fn is_marked(log: &[Record], way: Way, tid: Tid) -> bool {
+    let mut marked = false;
+    for record in log {
+        match record {
+            Record::Mark { tid: other, .. } if way == Way::Outgoing && *other == tid => {
+                marked = true;
+            }
+            Record::Fail { tid: other } if way == Way::Incoming && *other == tid => {
+                marked = true;
+            }
+            Record::Retry {
+                way: retried,
+                tid: other,
+            } if *retried == way && *other == tid => {
+                marked = false;
+            }
+            _ => {}
+        }
+    }
+    marked
 }
 
 fn taken_once(log: &[Record]) -> bool {

@@ -3,7 +3,8 @@ ghost use Rattle.trfc_protocol.specs.Safe.{Safe};
 
 use super::scene::Deed::{
     Arrive, Claim, Commit, Confirm, Fail, Finish, Forgotten, LoseConfirm, LoseReply, Reply,
-    RetryAtReceiver, RetryAtSender, Revoke, Run,
+    RetryAtReceiver, RetryAtSender, Revoke, Run, StartAtReceiver, StartAtSender, StopAtReceiver,
+    StopAtSender,
 };
 use super::scene::{play_all, start, system, tid};
 use crate::{Answer, CoreAnswer, ListedRules, World};
@@ -206,6 +207,24 @@ fn a_confirmation_is_lost_and_another_forgets_the_id_once(rt: HostRuntime) -> Re
     Ok(())
 }
 
+#[test]
+fn a_unit_of_a_stopped_queue_is_not_claimed(rt: HostRuntime) -> Result<(), Failure> {
+    let world = start(&rt, &[(&[b"X"], &[b"X"], ListedRules::FUNCTION)])?;
+    play_all(
+        &rt,
+        world,
+        &[
+            (&[Commit, StopAtSender, Claim(1)], [3, 1, 0]),
+            (&[StartAtSender, Claim(1)], [4, 1, 1]),
+            // What was shipped is taken in, and waits there.
+            (&[StopAtSender, StopAtReceiver, Arrive(1)], [5, 3, 1]),
+            (&[Run(1)], [5, 3, 1]),
+            (&[StartAtReceiver, Run(1), Finish(2)], [5, 5, 1]),
+        ],
+    )?;
+    Ok(())
+}
+
 /// How the first three units would be answered.
 fn answers(
     rt: &(impl Abort + AllocGlobal),
@@ -228,5 +247,7 @@ fn answer(
     requires { Safe (listed_meaning world.now.rules.units) world.now }
 {
     let unit = world.committed_unit(rt.alloc(), tid(rt, 1, number))?;
-    world.answer_to(rt.alloc(), &unit.expect(rt, "a committed unit"))
+    let unit = unit.expect(rt, "a committed unit");
+    assert!(rt; world.may_arrive(rt.alloc(), &unit)?);
+    world.answer_to(rt.alloc(), &unit)
 }

@@ -106,6 +106,10 @@ pub enum Deed {
     LoseConfirm(u32),
     RetryAtSender(u32),
     RetryAtReceiver(u32),
+    StopAtSender,
+    StartAtSender,
+    StopAtReceiver,
+    StartAtReceiver,
     Revoke,
 }
 
@@ -139,6 +143,10 @@ fn event(rt: &(impl Abort + AllocGlobal), deed: Deed) -> Event {
         },
         Deed::RetryAtSender(unit) => retry(system(rt, 1), Way::Outgoing, tid(rt, 1, unit)),
         Deed::RetryAtReceiver(unit) => retry(system(rt, 2), Way::Incoming, tid(rt, 1, unit)),
+        Deed::StopAtSender => stop(rt, 1, true),
+        Deed::StartAtSender => stop(rt, 1, false),
+        Deed::StopAtReceiver => stop(rt, 2, true),
+        Deed::StartAtReceiver => stop(rt, 2, false),
         Deed::Revoke => revoke(),
     }
 }
@@ -158,6 +166,32 @@ pub fn commit(alloc: Global, system: SystemNo) -> Event {
 pub fn retry(system: SystemNo, way: Way, tid: Tid) -> Event {
     Event::Operator {
         action: Action::Append(system, Record::Retry { way, tid }),
+    }
+}
+
+/// A Stop or a Start of queue X: at system 1 of the one to system 2, and elsewhere of the inbound one.
+pub fn stop(rt: &impl Abort, number: u8, stops: bool) -> Event {
+    let (way, destination) = if number == 1 {
+        (Way::Outgoing, 2)
+    } else {
+        (Way::Incoming, 0)
+    };
+    let name = QueueName::of(b"X").expect(rt, "a name of a queue");
+    let what = if stops {
+        Record::Stop {
+            way,
+            destination,
+            name,
+        }
+    } else {
+        Record::Start {
+            way,
+            destination,
+            name,
+        }
+    };
+    Event::Operator {
+        action: Action::Append(system(rt, number), what),
     }
 }
 

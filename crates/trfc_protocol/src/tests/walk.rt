@@ -6,9 +6,9 @@ ghost use Rattle.trfc_protocol.specs.ListedRules.{listed_meaning};
 ghost use Rattle.trfc_protocol.specs.Safe.{Safe};
 
 use super::plain::Logs;
-use super::scene::{commit, retry, revoke, system, tid, unit};
-use crate::{CoreAnswer, Event, HeldKind, ListedRules, ReplyTo, World, step};
-use ale_base::{Items, OutOfMemory, SystemNo, Tid, Way};
+use super::scene::{commit, retry, revoke, stop, system, tid, unit};
+use crate::{CoreAnswer, Event, ListedRules, ReplyTo, World, step};
+use ale_base::{Items, OutOfMemory, SystemNo, Way};
 use std::alloc::Global;
 use std::process::Abort;
 use std::test::Fail;
@@ -62,7 +62,7 @@ fn event(rt: &(impl Abort + AllocGlobal), dice: &mut Dice, next_number: u64) -> 
     let system = system(rt, dice.below(2) as u8 + 1);
     let tid = tid(rt, system.get(), dice.below(8) as u32 + 1);
     let number = next_number.saturating_sub(1 + dice.below(3));
-    match dice.below(18) {
+    match dice.below(21) {
         0 | 15 => commit(rt.alloc(), system),
         1 | 2 => Event::Claim { tid },
         3 | 4 => Event::Arrive { tid },
@@ -85,6 +85,9 @@ fn event(rt: &(impl Abort + AllocGlobal), dice: &mut Dice, next_number: u64) -> 
             },
             tid,
         ),
+        16 => Event::LoseConfirm { tid },
+        17 => stop(rt, dice.below(3) as u8 + 1, true),
+        18 | 19 => stop(rt, dice.below(3) as u8 + 1, false),
         _ if dice.below(8) == 0 => revoke(),
         _ => answer(number, 0),
     }
@@ -101,10 +104,14 @@ fn answer(number: u64, which: u64) -> Event {
     }
 }
 
-/// Whether the claims differ in number, no unit has two of one kind, and each is for a unit that its work may still end.
-fn claims_are_sound(world: &World<ListedRules>) -> bool {
+/// Whether the claims differ in number, no unit has two of one kind, and each is of a system that is up and for a unit
+/// that may still be sent or executed.
+fn claims_are_sound(world: &World<ListedRules>, logs: &Logs) -> bool {
     for (place, held) in world.claims.as_slice().iter().enumerate() {
-        if held.number >= world.next_number || !is_due(world, held.kind, held.tid, held.system) {
+        if held.number >= world.next_number
+            || !world.is_up(held.system)
+            || !logs.is_due(held.kind, held.system, held.tid)
+        {
             return false;
         }
         for earlier in &world.claims.as_slice()[..place] {
@@ -118,21 +125,8 @@ fn claims_are_sound(world: &World<ListedRules>) -> bool {
     true
 }
 
-/// Whether the unit of a claim is still to be sent, or to be executed.
-fn is_due(world: &World<ListedRules>, kind: HeldKind, tid: Tid, system: SystemNo) -> bool {
-    let log = world.log(system);
-    match kind {
-        HeldKind::Out => !log.contains(&Record::Done { tid }),
-        HeldKind::In => !log.contains(&Record::Execute { tid }),
-        HeldKind::Direct => !log.iter().any(|r| match r {
-            Record::Direct { unit } => unit.tid == tid,
-            _ => false,
-        }),
-    }
-}
-
-/// The logs of the three systems, and what they committed, as the law looks at them.
-fn is_once(
+/// Whether the law holds of the logs of the three systems and of what they committed, and the claims are sound.
+fn is_sound(
     rt: &(impl Abort + AllocGlobal),
     world: &World<ListedRules>,
 ) -> Result<bool, OutOfMemory> {
@@ -150,12 +144,11 @@ fn is_once(
         }
         committed.push(units)?;
     }
-    let broken = Logs {
+    let plain = Logs {
         logs: logs.as_slice(),
         committed: committed.as_slice(),
-    }
-    .broken(alloc)?;
-    Ok(broken.is_empty())
+    };
+    Ok(plain.broken(alloc)?.is_empty() && claims_are_sound(world, &plain))
 }
 
 fn is_commit(record: &Record) -> bool {
@@ -190,14 +183,6 @@ fn go_on(
     let after = step(rt.alloc(), world, &next)?;
     assert!(rt; is_sound(rt, &after)?, "after {next:?}");
     Ok(after)
-}
-
-/// Whether the law holds of the logs, and the claims are sound.
-fn is_sound(
-    rt: &(impl Abort + AllocGlobal),
-    world: &World<ListedRules>,
-) -> Result<bool, OutOfMemory> {
-    Ok(is_once(rt, world)? && claims_are_sound(world))
 }
 
 /// How many units are executed in a walk of 300 events.

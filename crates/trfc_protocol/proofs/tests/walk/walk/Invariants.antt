@@ -2,5 +2,5 @@ use Rattle.trfc_protocol.specs.ListedRules.{listed_meaning}
 use Rattle.trfc_protocol.specs.Safe.{Safe}
 use Rattle.trfc_protocol.proofs.tests.walk.walk.Given as goal
 
-abbrev pub invariant-loop-1 : goal.invariant-loop-1
-invariant-loop-1 g l = Safe (listed_meaning l.world.rules.units) l.world
+abbrev pub invariant-loop : goal.invariant-loop
+invariant-loop g l = Safe (listed_meaning l.world.rules.units) l.world
