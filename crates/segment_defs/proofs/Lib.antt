@@ -1,0 +1,8 @@
+pub mod OptionLemmas
+pub mod ListLemmas
+pub mod WidthLemmas
+pub mod IdocTypeLemmas
+pub mod NewestLemmas
+pub mod DefinitionsLemmas
+pub mod RuleLemmas
+pub mod TypeRuleLemmas

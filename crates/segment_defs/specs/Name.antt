@@ -1,0 +1,24 @@
+-- Names of segment types and their definitions, of fields and of IDoc types. This project's own.
+use Rattle.std.specs.Prelude.{ℕ, ◌≤◌, ◌==◌, ◌||◌, Bool, not, List, length, IsTrue, nat_eq, codes}
+use Rattle.std.specs.Char.{is_ascii_alphanumeric}
+use Rattle.std.specs.List.{list_all, starts_with}
+use Rattle.std.specs.Cmp.Lexicographic.{pointwise}
+
+-- the two names are the same
+abbrev pub same_name : List ℕ → List ℕ → Bool
+same_name name other = pointwise nat_eq name other
+
+-- a byte of a name: a letter, a digit, `_` or `/`
+abbrev pub is_name_byte : ℕ → Bool
+is_name_byte byte = is_ascii_alphanumeric byte || (byte == 95 || byte == 47)
+
+-- a name has 1 to 30 of these bytes
+pub record IsName (name : List ℕ) : Type 0 where
+  pub least : 1 ≤ length name
+  pub most : length name ≤ 30
+  pub bytes : IsTrue (list_all is_name_byte name)
+
+-- a name of a segment type or of a definition does not begin as those of the interface's own tables do
+pub record IsSegmentName (name : List ℕ) : Type 0 where
+  pub named : IsName name
+  pub own : IsTrue (not (starts_with nat_eq name (codes "EDI_")))
