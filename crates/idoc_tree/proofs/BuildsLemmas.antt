@@ -1,0 +1,329 @@
+-- What is made of lines: soundness of each step, and that there is one answer.
+use Rattle.std.specs.Prelude.{nat_le, nat_eq, slice_get}
+use Rattle.std.specs.Option.{option_map}
+use Rattle.std.specs.List.{AllByRecursion, IsDistinct}
+use Rattle.std.proofs.Common.{◌≡◌, ℕ, zero, suc, ◌+◌, ◌≤◌, ◌<◌, cond, Option, Some, None, Result, Ok, Err, List, [], ◌∷◌, ◌++◌, map, length, refl, ap, sym, subst, inl, inr, ◌∙◌, arith, get_or, take, drop, drop-cons, take-append-drop, length-append, append_assoc, append-nil}
+use Rattle.std.proofs.lemmas.Option.{same_Some}
+use Rattle.std.proofs.lemmas.List.{take_more, take_all, length-take-le}
+use Rattle.ale_base.proofs.SnocLemmas.{Snoc, none, some, snoc}
+use Rattle.idoc_record.specs.Data.{Segment}
+use Rattle.idoc_record.specs.Parts.{told_length}
+use Rattle.segment_defs.specs.declared.segment_type.SegmentType.{SegmentType}
+use Rattle.segment_defs.specs.declared.definitions.Definitions.{Definitions}
+use Rattle.segment_defs.specs.declared.idoc_type.TypePlace.{TypePlace}
+use Rattle.segment_defs.specs.IdocType.{place_in, entry_of, type_above, parent_of, IsPreorder}
+use Rattle.segment_defs.proofs.OptionLemmas.{option_map-Some}
+use Rattle.idoc_tree.specs.declared.fault.SyntaxFault.{SyntaxFault}
+use Rattle.idoc_tree.specs.declared.fault.SyntaxFault.TheVariants.{UnknownSegment, Misplaced, TooMany, Missing, OutOfMemory}
+use Rattle.idoc_tree.specs.Forest.{Item, Forest, no_trees, count_of}
+use Rattle.idoc_tree.specs.Spells.{item_of}
+use Rattle.idoc_tree.specs.Valid.{families}
+use Rattle.idoc_tree.specs.Lacking.{first_lack}
+use Rattle.idoc_tree.specs.Growing.{siblings, hung, has_later, grown_among, grown_at, grown_by, grown}
+use Rattle.idoc_tree.specs.Builds.{SpellsInOrder, IsMisplaced, foreign, closed, late, IsTooMany, IsUnknown, Faulty, IsRefusedAt, IsMissing, IsFirstFault, Builds}
+use Rattle.idoc_tree.proofs.FamilyLemmas.{at_max, is_at_max}
+use Rattle.idoc_tree.proofs.GrowthLemmas.{chosen, grown-Ok, grown-Grows}
+use Rattle.idoc_tree.proofs.LackLemmas.{no_lack-enough, enough-no_lack, lack_among-first, lack_among-at, first_lack-first, first_lack-at, first_lack-known}
+use Rattle.segment_defs.proofs.ListLemmas.{slice_get-within}
+use Rattle.idoc_tree.proofs.SpellsLemmas.{Grows-stands, SpellsInOrder-last, Spells-none, none-stands}
+
+-- what a step may be wrong with, by the fault that it answers
+abbrev pub IsWrong : Definitions → List TypePlace → ℕ → Forest → Segment → SyntaxFault → Type 0
+IsWrong definitions entries number forest line (UnknownSegment told) = (told ≡ told_length number) × IsUnknown definitions forest line
+IsWrong definitions entries number forest line (Misplaced told) = (told ≡ told_length number) × Faulty definitions (IsMisplaced entries) forest line
+IsWrong definitions entries number forest line (TooMany told) = (told ≡ told_length number) × Faulty definitions (IsTooMany entries) forest line
+IsWrong definitions entries number forest line (Missing name told) = ⊥
+IsWrong definitions entries number forest line OutOfMemory = ⊥
+
+module _ (definitions : Definitions) (entries : List TypePlace) (number : ℕ) (line : Segment) (forest : Forest) where
+  abbrev Wrong : SyntaxFault → Type 0
+  Wrong fault = IsWrong definitions entries number forest line fault
+
+  same_fault : (fault other : SyntaxFault) → ◌≡◌ {A = Result Forest SyntaxFault} (Err fault) (Err other) → Wrong fault → Wrong other
+  same_fault fault other same wrong = let is : fault ≡ other = cc in subst Wrong is wrong
+
+  above_known : (segment : ℕ) (entry : TypePlace) → entry_of entries segment ≡ Some entry → parent_of entries segment ≡ Some (type_above entries entry)
+  above_known segment entry entry_at = ap (option_map (type_above entries)) entry_at
+
+  wrong_among : (fault : SyntaxFault) (item : Item) (entry : TypePlace) (among : Option (List Item)) → item_of definitions line ≡ Some item → entry_of entries item.segment ≡ Some entry → siblings (type_above entries entry) forest ≡ among → grown_among entries number item entry forest among ≡ Err fault → Wrong fault
+  wrong_among fault item entry None known entry_at siblings_are wrong =
+      same_fault (Misplaced (told_length number)) fault wrong (refl, record { item = item; known = known; wrong = closed (type_above entries entry) (above_known item.segment entry entry_at) siblings_are })
+  wrong_among fault item entry (Some among) known entry_at siblings_are wrong =
+      elim (chosen (has_later entries (place_in entries item.segment) among) _ _ _ wrong) [
+        | inl too_late ↦ same_fault (Misplaced (told_length number)) fault too_late.1
+            (refl, record { item = item; known = known; wrong = late (type_above entries entry) among (above_known item.segment entry entry_at) siblings_are too_late.0 })
+        | inr early ↦
+            elim (chosen (nat_le entry.max (count_of item.segment among)) _ _ _ early.1) [
+              | inl full ↦ same_fault (TooMany (told_length number)) fault full.1 (
+                refl,
+                record {
+                  item = item;
+                  known = known;
+                  wrong = record {
+                    entry = entry;
+                    entry_at = entry_at;
+                    above = type_above entries entry;
+                    parent = above_known item.segment entry entry_at;
+                    among = among;
+                    siblings_are = siblings_are;
+                    in_time = early.0;
+                    full = at_max entry.max (count_of item.segment among) full.0;
+                  };
+                },
+              )
+              | inr room ↦ cc
+            ]
+      ]
+
+  no_parent : (segment : ℕ) → entry_of entries segment ≡ None → parent_of entries segment ≡ None
+  no_parent segment absent = ap (option_map (type_above entries)) absent
+
+  wrong_at : (fault : SyntaxFault) (item : Item) (entry : Option TypePlace) → item_of definitions line ≡ Some item → entry_of entries item.segment ≡ entry → grown_at entries number item forest entry ≡ Err fault → Wrong fault
+  wrong_at fault item None known entry_at wrong =
+      same_fault (Misplaced (told_length number)) fault wrong (refl, record { item = item; known = known; wrong = foreign (no_parent item.segment entry_at) })
+  wrong_at fault item (Some entry) known entry_at wrong =
+      wrong_among fault item entry (siblings (type_above entries entry) forest) known entry_at refl wrong
+
+  wrong_by : (fault : SyntaxFault) (item : Option Item) → item_of definitions line ≡ item → grown_by entries number forest item ≡ Err fault → Wrong fault
+  wrong_by fault None known wrong = same_fault (UnknownSegment (told_length number)) fault wrong (refl, known)
+  wrong_by fault (Some item) known wrong = wrong_at fault item (entry_of entries item.segment) known refl wrong
+
+  -- a fault that a step answers is there
+  pub grown-Err : (fault : SyntaxFault) → grown definitions entries number line forest ≡ Err fault → Wrong fault
+  grown-Err fault wrong = wrong_by fault (item_of definitions line) refl wrong
+
+  absent_entry : (segment : ℕ) (entry : Option TypePlace) → entry_of entries segment ≡ entry → parent_of entries segment ≡ None → entry_of entries segment ≡ None
+  absent_entry segment None is none_above = is
+  absent_entry segment (Some entry) is none_above = let there = above_known segment entry is in cc
+
+  by_entry : (item : Item) (entry : TypePlace) → item_of definitions line ≡ Some item → entry_of entries item.segment ≡ Some entry → grown definitions entries number line forest ≡ grown_among entries number item entry forest (siblings (type_above entries entry) forest)
+  by_entry item entry known entry_at = ap (grown_by entries number forest) known ∙ ap (grown_at entries number item forest) entry_at
+
+  grown-misplaced : (item : Item) → item_of definitions line ≡ Some item → IsMisplaced entries forest item.segment → grown definitions entries number line forest ≡ Err (Misplaced (told_length number))
+  grown-misplaced item known (foreign none_above) =
+      ap (grown_by entries number forest) known ∙ ap (grown_at entries number item forest) (absent_entry item.segment (entry_of entries item.segment) refl none_above)
+  grown-misplaced item known (closed above parent siblings_are) =
+      let entry = option_map-Some (type_above entries) (entry_of entries item.segment) above parent in
+      by_entry item entry.0 known entry.1 ∙ ap (λ a. grown_among entries number item entry.0 forest (siblings a forest)) entry.2
+      ∙ ap (grown_among entries number item entry.0 forest) siblings_are
+  grown-misplaced item known (late above among parent siblings_are is_late) =
+      let entry = option_map-Some (type_above entries) (entry_of entries item.segment) above parent in
+      let too_late : Result Forest SyntaxFault = Err (Misplaced (told_length number)) in
+      let full : Result Forest SyntaxFault = Err (TooMany (told_length number)) in
+      let more : Result Forest SyntaxFault = Ok (hung (type_above entries entry.0) item forest) in
+      by_entry item entry.0 known entry.1 ∙ ap (λ a. grown_among entries number item entry.0 forest (siblings a forest)) entry.2
+      ∙ ap (grown_among entries number item entry.0 forest) siblings_are
+      ∙ ap (λ b. cond b too_late (cond (nat_le (entry.0).max (count_of item.segment among)) full more)) is_late
+
+  grown-too_many : (item : Item) → item_of definitions line ≡ Some item → IsTooMany entries forest item.segment → grown definitions entries number line forest ≡ Err (TooMany (told_length number))
+  grown-too_many item known many =
+      let entry = many.entry in
+      let same : type_above entries entry ≡ many.above = same_Some (type_above entries entry) many.above (sym (above_known item.segment entry many.entry_at) ∙ many.parent) in
+      let too_late : Result Forest SyntaxFault = Err (Misplaced (told_length number)) in
+      let full : Result Forest SyntaxFault = Err (TooMany (told_length number)) in
+      let more : Result Forest SyntaxFault = Ok (hung (type_above entries entry) item forest) in
+      by_entry item entry known many.entry_at ∙ ap (λ a. grown_among entries number item entry forest (siblings a forest)) same
+      ∙ ap (grown_among entries number item entry forest) many.siblings_are
+      ∙ ap (λ b. cond b too_late (cond (nat_le entry.max (count_of item.segment many.among)) full more)) many.in_time
+      ∙ ap (λ b. cond b full more) (is_at_max entry.max (count_of item.segment many.among) many.full)
+
+  -- and a step answers the fault that is there
+  pub grown-wrong : (fault : SyntaxFault) → Wrong fault → grown definitions entries number line forest ≡ Err fault
+  grown-wrong (UnknownSegment told) wrong = ap (grown_by entries number forest) wrong.1 ∙ ap (λ n. Err (UnknownSegment n)) (sym wrong.0)
+  grown-wrong (Misplaced told) wrong = grown-misplaced (wrong.1).item (wrong.1).known (wrong.1).wrong ∙ ap (λ n. Err (Misplaced n)) (sym wrong.0)
+  grown-wrong (TooMany told) wrong = grown-too_many (wrong.1).item (wrong.1).known (wrong.1).wrong ∙ ap (λ n. Err (TooMany n)) (sym wrong.0)
+  grown-wrong (Missing name told) wrong = absurd wrong
+  grown-wrong OutOfMemory wrong = absurd wrong
+
+-- goes on with a forest, and leaves a fault
+abbrev pub go_on : Result Forest SyntaxFault → (Forest → Result Forest SyntaxFault) → Result Forest SyntaxFault
+go_on (Ok forest) next = next forest
+go_on (Err fault) next = Err fault
+
+-- the name of a segment type
+abbrev name_in : Option SegmentType → List ℕ
+name_in None = []
+name_in (Some type) = type.name
+
+module _ (definitions : Definitions) (entries : List TypePlace) where
+  -- the forest with the segments of all lines more, the first of which has this number, or the first fault
+  abbrev pub grown_all : ℕ → Forest → List Segment → Result Forest SyntaxFault
+  grown_all number forest [] = Ok forest
+  grown_all number forest (line ∷ lines) = go_on (grown definitions entries number line forest) (λ next. grown_all (suc number) next lines)
+
+  abbrev missing_of : Option (ℕ × ℕ) → Forest → Result Forest SyntaxFault
+  missing_of None forest = Ok forest
+  missing_of (Some lack) forest = Err (Missing (name_in (slice_get definitions.types lack.0)) (told_length lack.1))
+
+  -- the forest of all lines if it lacks nothing, or the first fault
+  abbrev pub answer : List Segment → Result Forest SyntaxFault
+  answer lines = go_on (grown_all 1 no_trees lines) (λ forest. missing_of (first_lack entries (families None forest)) forest)
+
+  after_some : (number : ℕ) (first : Result Forest SyntaxFault) (lines more : List Segment) (forest : Forest) → ((next : Forest) → grown_all (suc number) next lines ≡ Ok forest → grown_all (suc number) next (lines ++ more) ≡ grown_all (suc number + length lines) forest more) → go_on first (λ next. grown_all (suc number) next lines) ≡ Ok forest → go_on first (λ next. grown_all (suc number) next (lines ++ more)) ≡ grown_all (number + suc (length lines)) forest more
+  after_some number (Ok next) lines more forest rest grew =
+      let sum : suc number + length lines ≡ number + suc (length lines) = omega arith in
+      rest next grew ∙ ap (λ n. grown_all n forest more) sum
+  after_some number (Err fault) lines more forest rest grew = cc
+
+  -- lines behind those that gave a forest
+  grown_all-append : (number : ℕ) (start : Forest) (lines more : List Segment) (forest : Forest) → grown_all number start lines ≡ Ok forest → grown_all number start (lines ++ more) ≡ grown_all (number + length lines) forest more
+  grown_all-append number start [] more forest grew =
+      let none_more : number ≡ number + 0 = omega arith in
+      let is : start ≡ forest = cc in
+      ap (λ f. grown_all number f more) is ∙ ap (λ n. grown_all n forest more) none_more
+  grown_all-append number start (line ∷ lines) more forest grew =
+      after_some number (grown definitions entries number line start) lines more forest (λ next. grown_all-append (suc number) next lines more forest) grew
+
+  -- lines that stand give their forest
+  stands_grown : IsPreorder 0 [] entries → (count : ℕ) (lines : List Segment) (forest : Forest) → length lines ≡ count → Snoc lines → SpellsInOrder definitions entries lines forest → grown_all 1 no_trees lines ≡ Ok forest
+  stands_grown kept count _ forest long none stands = ap Ok (sym (Spells-none definitions entries forest stands.spells))
+  stands_grown kept zero _ forest long (some front line) stands = absurd (omega (arith, length-append front (line ∷ [])))
+  stands_grown kept (suc count) _ forest long (some front line) stands =
+      let stood = SpellsInOrder-last definitions entries kept front line forest stands in
+      let shorter : length front ≡ count = omega (arith, length-append front (line ∷ [])) in
+      grown_all-append 1 no_trees front (line ∷ []) stood.front (stands_grown kept count front stood.front shorter (snoc front) stood.stands)
+      ∙ ap (λ first. go_on first (λ next. grown_all (suc (1 + length front)) next [])) (grown-Grows definitions entries (1 + length front) line stood.front forest stood.grows)
+
+  pub SpellsInOrder-grown : IsPreorder 0 [] entries → (lines : List Segment) (forest : Forest) → SpellsInOrder definitions entries lines forest → grown_all 1 no_trees lines ≡ Ok forest
+  SpellsInOrder-grown kept lines forest = stands_grown kept (length lines) lines forest refl (snoc lines)
+
+  refused_grown : IsPreorder 0 [] entries → (fault : SyntaxFault) (before after : List Segment) (line : Segment) (forest : Forest) → SpellsInOrder definitions entries before forest → IsWrong definitions entries (suc (length before)) forest line fault → grown_all 1 no_trees (before ++ line ∷ after) ≡ Err fault
+  refused_grown kept fault before after line forest stands wrong =
+      let count : 1 + length before ≡ suc (length before) = omega arith in
+      grown_all-append 1 no_trees before (line ∷ after) forest (SpellsInOrder-grown kept before forest stands)
+      ∙ ap (λ n. grown_all n forest (line ∷ after)) count
+      ∙ ap (λ first. go_on first (λ next. grown_all (suc (suc (length before))) next after)) (grown-wrong definitions entries (suc (length before)) line forest fault wrong)
+
+  answered : (lines : List Segment) (made : Result Forest SyntaxFault) → grown_all 1 no_trees lines ≡ made → answer lines ≡ go_on made (λ forest. missing_of (first_lack entries (families None forest)) forest)
+  answered lines made is = ap (λ made. go_on made (λ forest. missing_of (first_lack entries (families None forest)) forest)) is
+
+  refused_answer : IsPreorder 0 [] entries → (fault : SyntaxFault) (lines : List Segment) (told : ℕ) (Wrong : Forest → Segment → Type 0) → ((number : ℕ) (forest : Forest) (line : Segment) → told ≡ told_length number → Wrong forest line → IsWrong definitions entries number forest line fault) → IsRefusedAt definitions entries lines told Wrong → answer lines ≡ Err fault
+  refused_answer kept fault lines told Wrong is_wrong refused =
+      answered lines (Err fault) (ap (grown_all 1 no_trees) refused.split
+      ∙ refused_grown kept fault refused.before refused.after refused.line refused.forest refused.stands
+      (is_wrong (suc (length refused.before)) refused.forest refused.line refused.told refused.wrong))
+
+  -- what is made of lines is the answer
+  pub Builds-answer : IsPreorder 0 [] entries → (lines : List Segment) (made : Result Forest SyntaxFault) → Builds definitions entries lines made → answer lines ≡ made
+  Builds-answer kept lines (Ok forest) builds =
+      answered lines (Ok forest) (SpellsInOrder-grown kept lines forest (record { spells = builds.0; fits = (builds.1).fits }))
+      ∙ ap (λ lack. missing_of lack forest) (enough-no_lack entries (families None forest) (builds.1).enough)
+  Builds-answer kept lines (Err (UnknownSegment told)) builds =
+      refused_answer kept (UnknownSegment told) lines told (IsUnknown definitions) (λ number forest line is wrong. (is, wrong)) builds
+  Builds-answer kept lines (Err (Misplaced told)) builds =
+      refused_answer kept (Misplaced told) lines told (Faulty definitions (IsMisplaced entries)) (λ number forest line is wrong. (is, wrong)) builds
+  Builds-answer kept lines (Err (TooMany told)) builds =
+      refused_answer kept (TooMany told) lines told (Faulty definitions (IsTooMany entries)) (λ number forest line is wrong. (is, wrong)) builds
+  Builds-answer kept lines (Err (Missing name told)) builds =
+      answered lines (Ok builds.forest) (SpellsInOrder-grown kept lines builds.forest builds.stands)
+      ∙ ap (λ lack. missing_of lack builds.forest) (first_lack-at entries (families None builds.forest) builds.place builds.family (builds.entry).segment builds.family_at builds.families_before
+      (lack_among-at entries builds.family entries builds.at builds.entry builds.entry_at builds.lacks builds.entries_before))
+      ∙ ap (λ type. Err (Missing (name_in type) (told_length builds.place))) builds.type_at
+      ∙ ap (λ n. Err (Missing n (told_length builds.place))) (sym builds.named)
+      ∙ ap (λ n. Err (Missing name n)) (sym builds.told)
+  Builds-answer kept lines (Err OutOfMemory) builds = absurd builds
+
+  -- of lines one thing is made at most
+  pub one_answer_of : IsPreorder 0 [] entries → (lines : List Segment) (first second : Result Forest SyntaxFault) → Builds definitions entries lines first → Builds definitions entries lines second → first ≡ second
+  one_answer_of kept lines first second one other = sym (Builds-answer kept lines first one) ∙ Builds-answer kept lines second other
+
+  -- a fault that a step answers is the first of all lines
+  pub refused_at : (fault : SyntaxFault) (lines before after : List Segment) (line : Segment) (forest : Forest) → lines ≡ before ++ line ∷ after → SpellsInOrder definitions entries before forest → grown definitions entries (suc (length before)) line forest ≡ Err fault → IsFirstFault definitions entries lines fault
+  refused_at fault lines before after line forest split stands wrong =
+      told_by fault (grown-Err definitions entries (suc (length before)) line forest fault wrong)
+    where
+      told_by : (fault : SyntaxFault) → IsWrong definitions entries (suc (length before)) forest line fault → IsFirstFault definitions entries lines fault
+      told_by (UnknownSegment told) is = record { before = before; line = line; after = after; split = split; told = is.0; forest = forest; stands = stands; wrong = is.1 }
+      told_by (Misplaced told) is = record { before = before; line = line; after = after; split = split; told = is.0; forest = forest; stands = stands; wrong = is.1 }
+      told_by (TooMany told) is = record { before = before; line = line; after = after; split = split; told = is.0; forest = forest; stands = stands; wrong = is.1 }
+      told_by (Missing name told) is = absurd is
+      told_by OutOfMemory is = absurd is
+
+  -- lines that stand with nothing missing are a valid forest
+  pub complete : (lines : List Segment) (forest : Forest) → SpellsInOrder definitions entries lines forest → first_lack entries (families None forest) ≡ None → Builds definitions entries lines (Ok forest)
+  complete lines forest stands lacks =
+      (stands.spells, record { fits = stands.fits; enough = no_lack-enough entries (families None forest) lacks })
+
+  -- a step goes on with lines that stand
+  pub grown_stands : IsDistinct nat_eq (map (λ entry. entry.segment) entries) → (lines : List Segment) (line : Segment) (forest after : Forest) (number : ℕ) → grown definitions entries number line forest ≡ Ok after → SpellsInOrder definitions entries lines forest → SpellsInOrder definitions entries (lines ++ line ∷ []) after
+  grown_stands apart lines line forest after number grew stands =
+      Grows-stands definitions entries lines line forest after apart (grown-Ok definitions entries number line forest after grew) stands
+
+module _ (definitions : Definitions) (entries : List TypePlace) (lines : List Segment) (at : ℕ) (line : Segment) (forest : Forest) (within : at < length lines) (here : line ≡ get_or lines at line) (stands : SpellsInOrder definitions entries (take at lines) forest) where
+  before_count : length (take at lines) ≡ at
+  before_count = omega (arith, length-take-le at lines)
+
+  at_line : lines ≡ take at lines ++ line ∷ drop (suc at) lines
+  at_line = sym (take-append-drop at lines) ∙ ap (λ rest. take at lines ++ rest) (drop-cons lines at line within ∙ ap (λ l. l ∷ drop (suc at) lines) (sym here))
+
+  -- one turn over lines that are told by their numbers from 1
+  pub refused_turn : (fault : SyntaxFault) → grown definitions entries (at + 1) line forest ≡ Err fault → IsFirstFault definitions entries lines fault
+  refused_turn fault wrong =
+      let number : at + 1 ≡ suc (length (take at lines)) = omega (arith, before_count) in
+      refused_at definitions entries fault lines (take at lines) (drop (suc at) lines) line forest at_line stands
+      (sym (ap (λ n. grown definitions entries n line forest) number) ∙ wrong)
+
+  pub grown_turn : IsDistinct nat_eq (map (λ entry. entry.segment) entries) → (after : Forest) → grown definitions entries (at + 1) line forest ≡ Ok after → SpellsInOrder definitions entries (take (at + 1) lines) after
+  grown_turn apart after grew =
+      subst (λ some. SpellsInOrder definitions entries some after) (sym (take_more lines at line within ∙ ap (λ l. take at lines ++ l ∷ []) (sym here)))
+      (grown_stands definitions entries apart (take at lines) line forest after (at + 1) grew stands)
+
+-- lines that spell a forest in order, of which a family lacks a type
+pub missing_of_all : (definitions : Definitions) (entries : List TypePlace) (lines : List Segment) (forest : Forest) (segment place : ℕ) (type : SegmentType) (name : List ℕ) (told : ℕ) → SpellsInOrder definitions entries lines forest → first_lack entries (families None forest) ≡ Some (segment, place) → slice_get definitions.types segment ≡ Some type → name ≡ type.name → told ≡ told_length place → IsMissing definitions entries lines name told
+missing_of_all definitions entries lines forest segment place type name told stands lacks type_at named is =
+    let family = first_lack-first entries (families None forest) segment place lacks in
+    let first = lack_among-first entries family.family entries segment family.lack in
+    record {
+      forest = forest;
+      stands = stands;
+      place = place;
+      family = family.family;
+      family_at = family.family_at;
+      families_before = family.before;
+      at = first.at;
+      entry = first.entry;
+      entry_at = first.entry_at;
+      lacks = first.lacks;
+      entries_before = first.before;
+      type = type;
+      type_at = ap (slice_get definitions.types) first.is ∙ type_at;
+      named = named;
+      told = is;
+    }
+
+-- when all lines are gone through, all of them spell the forest
+pub all_stand : (definitions : Definitions) (entries : List TypePlace) (lines : List Segment) (at : ℕ) (forest : Forest) → length lines ≤ at → SpellsInOrder definitions entries (take at lines) forest → SpellsInOrder definitions entries lines forest
+all_stand definitions entries lines at forest past stands = subst (λ some. SpellsInOrder definitions entries some forest) (take_all at lines past) stands
+
+module _ (definitions : Definitions) (entries : List TypePlace) (apart : IsDistinct nat_eq (map (λ entry. entry.segment) entries)) where
+  -- what is to be shown of lines that are gone through up to a point
+  abbrev Rest : List Segment → Result Forest SyntaxFault → Type 0
+  Rest lines (Ok forest) = SpellsInOrder definitions entries lines forest
+  Rest lines (Err fault) = IsFirstFault definitions entries lines fault
+
+  gone_on : (before : List Segment) (line : Segment) (lines : List Segment) (start : Forest) (next : Result Forest SyntaxFault) → SpellsInOrder definitions entries before start → grown definitions entries (suc (length before)) line start ≡ next → ((forest : Forest) → SpellsInOrder definitions entries (before ++ line ∷ []) forest → Rest ((before ++ line ∷ []) ++ lines) (grown_all definitions entries (suc (length (before ++ line ∷ []))) forest lines)) → Rest (before ++ line ∷ lines) (go_on next (λ forest. grown_all definitions entries (suc (suc (length before))) forest lines))
+  gone_on before line lines start (Err fault) stands grew rest = refused_at definitions entries fault (before ++ line ∷ lines) before lines line start refl stands grew
+  gone_on before line lines start (Ok forest) stands grew rest =
+      let count : suc (length (before ++ line ∷ [])) ≡ suc (suc (length before)) = omega (arith, length-append before (line ∷ [])) in
+      subst (λ n. Rest (before ++ line ∷ lines) (grown_all definitions entries n forest lines)) count
+      (subst (λ all. Rest all (grown_all definitions entries (suc (length (before ++ line ∷ []))) forest lines)) (append_assoc before (line ∷ []) lines)
+      (rest forest (grown_stands definitions entries apart before line start forest (suc (length before)) grew stands)))
+
+  grown_rest : (lines before : List Segment) (start : Forest) → SpellsInOrder definitions entries before start → Rest (before ++ lines) (grown_all definitions entries (suc (length before)) start lines)
+  grown_rest [] before start stands = subst (λ all. SpellsInOrder definitions entries all start) (sym (append-nil before)) stands
+  grown_rest (line ∷ lines) before start stands =
+      gone_on before line lines start (grown definitions entries (suc (length before)) line start) stands refl (λ forest more. grown_rest lines (before ++ line ∷ []) forest more)
+
+  answered_rest : (known : AllByRecursion (λ entry. entry.segment < length definitions.types) entries) (lines : List Segment) (made : Result Forest SyntaxFault) → Rest lines made → Builds definitions entries lines (go_on made (λ forest. missing_of definitions entries (first_lack entries (families None forest)) forest))
+  answered_rest known lines (Err fault) rest = rest
+  answered_rest known lines (Ok forest) rest = judged (first_lack entries (families None forest)) refl
+    where
+      judged : (lack : Option (ℕ × ℕ)) → first_lack entries (families None forest) ≡ lack → Builds definitions entries lines (missing_of definitions entries lack forest)
+      judged None lacks = complete definitions entries lines forest rest lacks
+      judged (Some lack) lacks =
+          let there = slice_get-within definitions.types lack.0 (first_lack-known (λ segment. segment < length definitions.types) entries (families None forest) lack.0 lack.1 known lacks) in
+          missing_of_all definitions entries lines forest lack.0 lack.1 there.0 (name_in (slice_get definitions.types lack.0)) (told_length lack.1) rest lacks there.1 (ap name_in there.1) refl
+
+  -- the answer is what is made of lines, so something is
+  pub answer-Builds : AllByRecursion (λ entry. entry.segment < length definitions.types) entries → (lines : List Segment) → Builds definitions entries lines (answer definitions entries lines)
+  answer-Builds known lines = answered_rest known lines (grown_all definitions entries 1 no_trees lines) (grown_rest lines [] no_trees (none-stands definitions entries))

@@ -1,0 +1,11 @@
+pub mod HangingLemmas
+pub mod FamilyLemmas
+pub mod GrowthLemmas
+pub mod LackLemmas
+pub mod SpellsLemmas
+pub mod BuildsLemmas
+pub mod SiblingLemmas
+pub mod LineLemmas
+pub mod ForestLemmas
+pub mod NodeLemmas
+pub mod GrowingLemmas

@@ -1,0 +1,144 @@
+-- Data records of segments, and the segments that they stand for again.
+use Rattle.std.specs.Prelude.{not, IsTrue}
+use Rattle.std.specs.Option.{option_map}
+use Rattle.std.specs.List.{AllByRecursion, list_all}
+use Rattle.std.proofs.Common.{◌≡◌, ℕ, ◌≤◌, ◌==◌, Bool, true, false, cond, Some, None, List, [], ◌∷◌, map, length, take, refl, ap, sym, subst, inl, inr, ◌&&◌, ◌∙◌, arith}
+use Rattle.std.proofs.lemmas.Bool.Decides.{eqb_tells}
+use Rattle.std.proofs.lemmas.List.{length-take}
+use Rattle.ale_base.specs.Blanks.{before_trimmed, trimmed}
+use Rattle.ale_base.specs.TrimmedLemmas.{trimmed-trimmed, length-trimmed}
+use Rattle.idoc_record.specs.Data.{Segment, IsSegment, is_no_segment}
+use Rattle.segment_defs.specs.declared.version.Version.{Version}
+use Rattle.segment_defs.specs.declared.definitions.Definitions.{Definitions}
+use Rattle.segment_defs.specs.declared.idoc_type.TypePlace.{TypePlace}
+use Rattle.segment_defs.specs.Name.{is_name_byte, IsSegmentName}
+use Rattle.segment_defs.specs.Version.{width_of, fitted}
+use Rattle.segment_defs.specs.Definitions.{AreDefinitions, found_in, version_of}
+use Rattle.segment_defs.proofs.DefinitionsLemmas.{found-exists, found-definition, version-IsVersion, fitted-fitted}
+use Rattle.segment_defs.proofs.OptionLemmas.{option_map-Some}
+use Rattle.idoc_tree.specs.Forest.{Item, Forest, no_trees, tree, preorder, AllNodes}
+use Rattle.idoc_tree.specs.Spells.{fitted_by, item_found, item_of, Hangs, Spells}
+use Rattle.idoc_tree.specs.Lines.{IsNode, IsFitted, name_of, line_of, lines_of}
+use Rattle.segment_defs.proofs.ListLemmas.{AllByRecursion-append, AllByRecursion-parts}
+use Rattle.idoc_tree.proofs.ForestLemmas.{AllNodes-weaker}
+
+-- of each segment, and of each in the list of all
+pub AllNodes-preorder : (P : Item → Type 0) (forest : Forest) → AllNodes P forest → AllByRecursion P (preorder forest)
+AllNodes-preorder P no_trees all = tt
+AllNodes-preorder P (tree root below after) all =
+    (all.0, AllByRecursion-append P (preorder below) (preorder after) (AllNodes-preorder P below all.1) (AllNodes-preorder P after all.2))
+
+pub preorder-AllNodes : (P : Item → Type 0) (forest : Forest) → AllByRecursion P (preorder forest) → AllNodes P forest
+preorder-AllNodes P no_trees all = tt
+preorder-AllNodes P (tree root below after) all =
+    let parts = AllByRecursion-parts P (preorder below) (preorder after) all.1 in
+    (all.0, preorder-AllNodes P below parts.0, preorder-AllNodes P after parts.1)
+
+no_blank : (byte : ℕ) → is_name_byte byte ≡ true → byte == 32 ≡ false
+no_blank byte named = elim (eqb_tells byte 32) [ inl blank ↦ let never : is_name_byte byte ≡ false = ap is_name_byte blank.1 in cc | inr other ↦ other.0 ]
+
+both_true : (a b : Bool) → (a && b) ≡ true → (a ≡ true) × (b ≡ true)
+both_true true b both = (refl, both)
+both_true false b both = cc
+
+before_name : (byte : ℕ) (name : List ℕ) → byte == 32 ≡ false → before_trimmed byte name ≡ byte ∷ name
+before_name byte [] other = ap (λ b. cond b [] (byte ∷ [])) other
+before_name byte (next ∷ name) other = refl
+
+-- a name has no blank
+pub name-trimmed : (name : List ℕ) → list_all is_name_byte name ≡ true → trimmed name ≡ name
+name-trimmed [] all = refl
+name-trimmed (byte ∷ name) all =
+    let parts = both_true (is_name_byte byte) (list_all is_name_byte name) all in
+    ap (before_trimmed byte) (name-trimmed name parts.1) ∙ before_name byte name (no_blank byte parts.0)
+
+names_segment : (name : List ℕ) → IsSegmentName name → IsTrue (not (is_no_segment name))
+names_segment [] named = absurd (nothing_short named.named.least)
+  where
+    nothing_short : 1 ≤ length {A = ℕ} [] → ⊥
+    nothing_short least = omega arith
+names_segment (byte ∷ name) named = named.own
+
+fitted-short : (definition : Version) (sdata : List ℕ) → length (fitted definition sdata) ≤ width_of definition.fields
+fitted-short definition sdata =
+    omega (arith, length-trimmed (take (width_of definition.fields) sdata), length-take (width_of definition.fields) sdata)
+
+-- the data record of a segment is one
+pub line-IsSegment : (definitions : Definitions) (item : Item) (segnam sdata : List ℕ) → AreDefinitions definitions → IsNode definitions item → segnam ≡ trimmed (name_of (version_of definitions item.segment item.version)) → sdata ≡ item.sdata → IsSegment (record { segnam = segnam; sdata = sdata })
+line-IsSegment definitions item segnam sdata kept node is same =
+    let version = version-IsVersion definitions item.segment item.version node.definition kept node.here in
+    let name = node.definition.name in
+    let own : segnam ≡ name = is ∙ ap (λ v. trimmed (name_of v)) node.here ∙ name-trimmed name (version.named.named.bytes) in
+    record {
+      named = subst (λ n. length n ≤ 30) (sym own) version.named.named.most;
+      segnam = subst (λ n. IsTrue (not (is_no_segment n))) (sym own) (names_segment name version.named);
+      fits = subst (λ d. length d ≤ 1000) (sym same) node.short;
+      sdata = subst (λ d. trimmed d ≡ d) (sym same) node.ends;
+    }
+
+pub line-is : (definitions : Definitions) (item : Item) (segnam sdata : List ℕ) → AreDefinitions definitions → IsNode definitions item → segnam ≡ trimmed (name_of (version_of definitions item.segment item.version)) → sdata ≡ item.sdata → ◌≡◌ {A = Segment} (record { segnam = segnam; sdata = sdata }) (line_of definitions item)
+line-is definitions item segnam sdata kept node is same =
+    let version = version-IsVersion definitions item.segment item.version node.definition kept node.here in
+    let own : segnam ≡ name_of (version_of definitions item.segment item.version) = is ∙ ap (λ v. trimmed (name_of v)) node.here ∙ name-trimmed node.definition.name (version.named.named.bytes) ∙ ap name_of (sym node.here) in
+    ap (λ (n : List ℕ). record { segnam = n; sdata = sdata }) own ∙ ap (λ (d : List ℕ). record { segnam = name_of (version_of definitions item.segment item.version); sdata = d }) same
+
+-- a segment's record stands for the segment
+pub item_of-line_of : (definitions : Definitions) (item : Item) → AreDefinitions definitions → IsNode definitions item → IsFitted definitions item → item_of definitions (line_of definitions item) ≡ Some item
+item_of-line_of definitions item kept node data_fit =
+    ap (λ v. option_map (item_found definitions item.sdata) (found_in (name_of v) definitions.types)) node.here
+    ∙ ap (option_map (item_found definitions item.sdata)) (found-definition definitions item.segment item.version node.definition kept node.here)
+    ∙ ap (λ d. Some (item_with item d)) data_fit
+  where
+    item_with : Item → List ℕ → Item
+    item_with item sdata = record { segment = item.segment; version = item.version; sdata = sdata }
+
+items_again : (definitions : Definitions) (items : List Item) → AreDefinitions definitions → AllByRecursion (IsNode definitions) items → AllByRecursion (IsFitted definitions) items → map (item_of definitions) (map (line_of definitions) items) ≡ map Some items
+items_again definitions [] kept nodes fit = refl
+items_again definitions (item ∷ items) kept nodes fit =
+    ap (λ i. i ∷ map (item_of definitions) (map (line_of definitions) items)) (item_of-line_of definitions item kept nodes.0 fit.0)
+    ∙ ap (λ is. Some item ∷ is) (items_again definitions items kept nodes.1 fit.1)
+
+-- the records of a forest spell it
+pub lines_of-spell : (definitions : Definitions) (entries : List TypePlace) (forest : Forest) → AreDefinitions definitions → AllNodes (IsNode definitions) forest → AllNodes (IsFitted definitions) forest → Hangs entries None forest → Spells definitions entries (lines_of definitions forest) forest
+lines_of-spell definitions entries forest kept nodes fit hangs =
+    record { segments = items_again definitions (preorder forest) kept (AllNodes-preorder (IsNode definitions) forest nodes) (AllNodes-preorder (IsFitted definitions) forest fit); hangs = hangs }
+
+module _ (definitions : Definitions) (kept : AreDefinitions definitions) where
+  found_node : (sdata : List ℕ) (found : ℕ × ℕ) (definition : Version) → version_of definitions found.0 found.1 ≡ Some definition → IsNode definitions (item_found definitions sdata found) × IsFitted definitions (item_found definitions sdata found)
+  found_node sdata found definition here =
+      let cut : fitted_by (version_of definitions found.0 found.1) sdata ≡ fitted definition sdata = ap (λ v. fitted_by v sdata) here in
+      let version = version-IsVersion definitions found.0 found.1 definition kept here in
+      let short : length (fitted definition sdata) ≤ 1000 = omega (arith, fitted-short definition sdata, version.fields.fits) in (
+        record {
+          definition = definition;
+          here = here;
+          short = subst (λ d. length d ≤ 1000) (sym cut) short;
+          ends = subst (λ d. trimmed d ≡ d) (sym cut) (trimmed-trimmed (take (width_of definition.fields) sdata));
+        },
+        ap (λ v. fitted_by v (fitted_by (version_of definitions found.0 found.1) sdata)) here ∙ ap (fitted definition) cut ∙ fitted-fitted definition sdata ∙ sym cut,
+      )
+
+  -- what a record stands for is a segment of the definitions, with data that fit
+  pub item_of-IsNode : (line : Segment) (item : Item) → item_of definitions line ≡ Some item → IsNode definitions item × IsFitted definitions item
+  item_of-IsNode line item is =
+      let found = option_map-Some (item_found definitions line.sdata) (found_in line.segnam definitions.types) item is in
+      let there = found-exists definitions line.segnam (found.0).0 (found.0).1 kept found.1 in
+      subst (λ i. IsNode definitions i × IsFitted definitions i) found.2 (found_node line.sdata found.0 there.0 there.1)
+
+  items_nodes : (lines : List Segment) (items : List Item) → map (item_of definitions) lines ≡ map Some items → AllByRecursion (λ item. IsNode definitions item × IsFitted definitions item) items
+  items_nodes lines [] same = tt
+  items_nodes [] (item ∷ items) same = cc
+  items_nodes (line ∷ lines) (item ∷ items) same =
+      let first : item_of definitions line ≡ Some item = cc in
+      let rest : map (item_of definitions) lines ≡ map Some items = cc in
+      (item_of-IsNode line item first, items_nodes lines items rest)
+
+  spelled_nodes : (entries : List TypePlace) (lines : List Segment) (forest : Forest) → Spells definitions entries lines forest → AllNodes (λ item. IsNode definitions item × IsFitted definitions item) forest
+  spelled_nodes entries lines forest spells = preorder-AllNodes _ forest (items_nodes lines (preorder forest) spells.segments)
+
+  -- so are those of a forest that records spell
+  pub Spells-nodes : (entries : List TypePlace) (lines : List Segment) (forest : Forest) → Spells definitions entries lines forest → AllNodes (IsNode definitions) forest
+  Spells-nodes entries lines forest spells = AllNodes-weaker _ _ forest (λ item both. both.0) (spelled_nodes entries lines forest spells)
+
+  pub Spells-fitted : (entries : List TypePlace) (lines : List Segment) (forest : Forest) → Spells definitions entries lines forest → AllNodes (IsFitted definitions) forest
+  Spells-fitted entries lines forest spells = AllNodes-weaker _ _ forest (λ item both. both.1) (spelled_nodes entries lines forest spells)

@@ -1,0 +1,35 @@
+ghost use Rattle.std.specs.Prelude.{◌≡◌, IfOk};
+
+use ale_base::{Items, OutOfMemory};
+use idoc_record::Control;
+use segment_defs::{TypeNo, VersionNo};
+use std::alloc::Global;
+
+/// A segment of a document, with the segments below it.
+#[derive(Debug, Drop)]
+pub struct Node {
+    /// The segment type.
+    pub segment: TypeNo,
+    /// The definition of that type which the data follow.
+    pub version: VersionNo,
+    /// The data, without blanks at their end.
+    pub sdata: Items<u8>,
+    /// The segments below this one, in order.
+    pub children: Vec<Node>,
+}
+
+/// A document: its control record and its segments.
+#[derive(Debug, Drop)]
+pub struct Doc {
+    /// The control record.
+    pub control: Control,
+    /// The segments at the root level, in order.
+    pub forest: Vec<Node>,
+}
+
+/// A copy of some bytes.
+pub(crate) fn copied(alloc: Global, bytes: &[u8]) -> Result<Items<u8>, OutOfMemory>
+    ensures { IfOk result (λ copy. copy ≡ bytes.now) }
+{
+    Ok(Items::from_vec(Vec::from_slice(alloc, bytes)?))
+}
