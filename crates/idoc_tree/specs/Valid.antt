@@ -46,7 +46,7 @@ pub record Lacks (entries : List TypePlace) (family : Family) (entry : TypePlace
   pub own : type_above entries entry ≡ family.above
   pub few : count_of entry.segment family.children < entry.min
 
--- a forest is valid if all its families are
+-- A forest is valid if all its families are. How its segments hang below each other is said by `Hangs`.
 pub record IsValid (entries : List TypePlace) (forest : Forest) : Type 0 where
   pub fits : AllByRecursion (Fits entries) (families None forest)
   pub enough : AllByRecursion (HasEnough entries) (families None forest)

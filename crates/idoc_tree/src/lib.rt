@@ -1,9 +1,9 @@
 //! The segments of a document as trees, by its IDoc type.
 //!
 //! Contract: data records become the forest that they spell exactly where it is valid by the IDoc type, and else have
-//! their first fault named; and a forest becomes data records that spell it again. The definitions are in `specs/`:
-//! `Forest` and `Nodes` (trees as data), `Spells`, `Valid`, `Builds`, `Lines`, and for what is private `Growing` (one
-//! record more) and `Lacking` (what families lack).
+//! their first fault named; and a forest becomes its data records, which spell it again where it hangs together and its
+//! data fit their definitions. The definitions are in `specs/`: `Forest` and `Nodes` (trees as data), `Spells`, `Valid`,
+//! `Builds`, `Lines`, `Growing` (what one more record meets, and what it makes), and for what is private `Lacking`.
 #![tactic(auto)]
 
 mod building;

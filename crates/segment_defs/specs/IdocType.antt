@@ -16,7 +16,7 @@ place_in (entry ∷ entries) segment = if entry.segment == segment then 0 else s
 abbrev pub entry_of : List TypePlace → ℕ → Option TypePlace
 entry_of entries segment = slice_get entries (place_in entries segment)
 
--- the segment type above an entry; none at the root level
+-- the segment type above an entry; none at the root level, and where the parent is no place of the list
 abbrev pub type_above : List TypePlace → TypePlace → Option ℕ
 type_above entries entry = option_and_then (λ place. option_map (λ above. above.segment) (slice_get entries place)) entry.parent
 
@@ -44,7 +44,7 @@ IsPreorder place before (entry ∷ entries) =
     × IsPreorder (suc place) (path_of place entry.parent before) entries
 
 -- An entry is of one of the segment types. Below one node of its parent it occurs at most `max` times, and at least
--- `min` times if it is mandatory.
+-- `min` times if it is mandatory. `min` is from 1 to `max`, and 1 where the entry is optional.
 pub record IsEntry (definitions : Definitions) (entry : TypePlace) : Type 0 where
   pub known : entry.segment < length definitions.types
   pub least : 1 ≤ entry.min
@@ -52,7 +52,7 @@ pub record IsEntry (definitions : Definitions) (entry : TypePlace) : Type 0 wher
   pub most : entry.max ≤ 10000
   pub optional : entry.mandatory ≡ false → entry.min ≡ 1
 
--- the first entry stands at the root level, and occurs once in each document
+-- the first entry stands at the root level, is mandatory, and occurs once in each document
 abbrev pub IsRootEntry : Option TypePlace → Type 0
 IsRootEntry None = ⊥
 IsRootEntry (Some entry) = (entry.parent ≡ None) × (entry.mandatory ≡ true) × (entry.min ≡ 1) × (entry.max ≡ 1)

@@ -120,8 +120,8 @@ impl TypePlace {
     ghost use Rattle.std.specs.Prelude.{◌↔◌, IsTrue};
     ghost use Rattle.segment_defs.specs.IdocType.{IsEntry};
 
-    /// Whether the entry is of one of the segment types, with a least and a greatest number from 1 to 10,000; the least
-    /// is 1 where the entry is optional.
+    /// Whether the entry is of one of the segment types, with a least number from 1 to its greatest and a greatest of at
+    /// most 10,000; the least is 1 where the entry is optional.
     fn is_valid(&self, definitions: &Definitions) -> bool
         ensures { IsTrue result ↔ IsEntry definitions.now self.now }
     {
@@ -139,9 +139,9 @@ impl IdocType {
     ghost use Rattle.segment_defs.specs.IdocType.{IsIdocType};
 
     /// Whether the IDoc type keeps all its rules over these definitions: it has a name; its first entry stands at the
-    /// root level and occurs once; each entry is of one of the segment types, a different one, and its least and
-    /// greatest numbers are from 1 to 10,000, with 1 as the least where it is optional; the entries are in preorder,
-    /// at most 99 levels deep.
+    /// root level, is mandatory and occurs once; each entry is of one of the segment types, a different one, with a
+    /// least number from 1 to its greatest, of at most 10,000, and 1 as the least where it is optional; the entries
+    /// are in preorder, at most 99 levels deep.
     pub fn is_valid(&self, definitions: &Definitions) -> bool
         ensures { IsTrue result ↔ IsIdocType definitions.now self.now }
     {
