@@ -1,4 +1,5 @@
 -- What is made of lines: soundness of each step, and that there is one answer.
+use Rattle.std.proofs.lemmas.Bool.{le-leb, leb-true}
 use Rattle.std.specs.Prelude.{nat_le, nat_eq, slice_get}
 use Rattle.std.specs.Option.{option_map}
 use Rattle.std.specs.List.{AllByRecursion, IsDistinct}
@@ -21,7 +22,6 @@ use Rattle.idoc_tree.specs.Valid.{families}
 use Rattle.idoc_tree.specs.Lacking.{first_lack}
 use Rattle.idoc_tree.specs.Growing.{siblings, hung, has_later, grown_among, grown_at, grown_by, grown}
 use Rattle.idoc_tree.specs.Builds.{SpellsInOrder, IsMisplaced, foreign, closed, late, IsTooMany, IsUnknown, Faulty, IsRefusedAt, IsMissing, IsFirstFault, Builds}
-use Rattle.idoc_tree.proofs.FamilyLemmas.{at_max, is_at_max}
 use Rattle.idoc_tree.proofs.GrowthLemmas.{chosen, grown-Ok, grown-Grows}
 use Rattle.idoc_tree.proofs.LackLemmas.{no_lack-enough, enough-no_lack, lack_among-first, lack_among-at, first_lack-first, first_lack-at, first_lack-known}
 use Rattle.segment_defs.proofs.ListLemmas.{slice_get-within}
@@ -67,7 +67,7 @@ module _ (definitions : Definitions) (entries : List TypePlace) (number : ℕ) (
                     among = among;
                     siblings_are = siblings_are;
                     in_time = early.0;
-                    full = at_max entry.max (count_of item.segment among) full.0;
+                    full = leb-true entry.max (count_of item.segment among) full.0;
                   };
                 },
               )
@@ -125,7 +125,7 @@ module _ (definitions : Definitions) (entries : List TypePlace) (number : ℕ) (
       by_entry item entry known many.entry_at ∙ ap (λ a. grown_among entries number item entry forest (siblings a forest)) same
       ∙ ap (grown_among entries number item entry forest) many.siblings_are
       ∙ ap (λ b. cond b too_late (cond (nat_le entry.max (count_of item.segment many.among)) full more)) many.in_time
-      ∙ ap (λ b. cond b full more) (is_at_max entry.max (count_of item.segment many.among) many.full)
+      ∙ ap (λ b. cond b full more) (le-leb entry.max (count_of item.segment many.among) many.full)
 
   -- and a step answers the fault that is there
   pub grown-wrong : (fault : SyntaxFault) → Wrong fault → grown definitions entries number line forest ≡ Err fault

@@ -1,8 +1,8 @@
 -- Families with a segment more, and what the IDoc type asks of them.
+use Rattle.std.proofs.lemmas.Bool.{eq-eqb, eqb-true, le-ltb, leb-false, lt-leb, ltb-false, or_parts}
 use Rattle.std.specs.Prelude.{slice_get, nat_lt, nat_le, nat_eq}
 use Rattle.std.specs.List.{AllByRecursion, IsDistinct}
-use Rattle.std.proofs.Common.{◌≡◌, ℕ, suc, ◌<◌, ◌≤◌, ◌==◌, ◌||◌, Bool, true, false, cond, Option, Some, None, List, [], ◌∷◌, ◌++◌, map, refl, ap, sym, subst, inl, inr, ◌∙◌, arith}
-use Rattle.std.proofs.lemmas.Bool.Decides.{eqb_tells, nat_tests}
+use Rattle.std.proofs.Common.{◌≡◌, ℕ, suc, ◌<◌, ◌≤◌, ◌==◌, ◌||◌, Bool, true, false, cond, Option, Some, None, List, [], ◌∷◌, ◌++◌, map, refl, ap, sym, subst, ◌∙◌, arith}
 use Rattle.std.proofs.lemmas.Map.Keys.{IsDistinct-head, IsDistinct-tail}
 use Rattle.std.proofs.lemmas.Option.{same_Some}
 use Rattle.ale_base.proofs.SnocLemmas.{AllByRecursion-snoc, AllByRecursion-front}
@@ -13,38 +13,13 @@ use Rattle.idoc_tree.specs.Valid.{Family, families_below, IsOrdered, Fits, HasEn
 use Rattle.idoc_tree.specs.Growing.{has_later}
 use Rattle.idoc_tree.proofs.ForestLemmas.{count_of-append}
 use Rattle.segment_defs.proofs.ListLemmas.{AllByRecursion-append, AllByRecursion-parts, AllByRecursion-weaker, AllByRecursion-both, AllByRecursion-at, AllByRecursion-from_map}
-use Rattle.idoc_tree.proofs.HangingLemmas.{of_type, more_in}
-
-pub or_parts : (a b : Bool) → (a || b) ≡ false → (a ≡ false) × (b ≡ false)
-or_parts true b none = cc
-or_parts false b none = (refl, none)
-
-pub not_below : (a b : ℕ) → nat_lt a b ≡ false → b ≤ a
-not_below a b test = grind (arith, nat_tests)
-
-pub not_above : (a b : ℕ) → b ≤ a → nat_lt a b ≡ false
-not_above a b le = grind (arith, nat_tests)
-
-pub above_max : (a b : ℕ) → nat_le a b ≡ false → b < a
-above_max a b test = grind (arith, nat_tests)
-
-pub not_above_max : (a b : ℕ) → b < a → nat_le a b ≡ false
-not_above_max a b lt = grind (arith, nat_tests)
-
-pub at_max : (a b : ℕ) → nat_le a b ≡ true → a ≤ b
-at_max a b test = grind (arith, nat_tests)
-
-pub is_at_max : (a b : ℕ) → a ≤ b → nat_le a b ≡ true
-is_at_max a b le = grind (arith, nat_tests)
-
-pub same_type : (segment : ℕ) → segment == segment ≡ true
-same_type segment = elim (eqb_tells segment segment) [ inl h ↦ h.0 | inr h ↦ grind arith ]
+use Rattle.idoc_tree.proofs.HangingLemmas.{more_in}
 
 -- an entry is that of its own segment type, since no type has two
 pub entries-own : (entries : List TypePlace) → IsDistinct nat_eq (map (λ entry. entry.segment) entries) → AllByRecursion (λ entry. entry_of entries entry.segment ≡ Some entry) entries
 entries-own [] apart = tt
 entries-own (first ∷ others) apart = (
-  ap (λ b. slice_get (first ∷ others) (cond b 0 (suc (place_in others first.segment)))) (same_type first.segment),
+  ap (λ b. slice_get (first ∷ others) (cond b 0 (suc (place_in others first.segment)))) (eq-eqb first.segment first.segment refl),
   AllByRecursion-weaker _ _ others (λ entry both. ap (λ b. slice_get (first ∷ others) (cond b 0 (suc (place_in others entry.segment)))) both.1 ∙ both.0)
       (AllByRecursion-both (λ entry. entry_of others entry.segment ≡ Some entry) (λ entry. first.segment == entry.segment ≡ false) others
       (entries-own others (IsDistinct-tail nat_eq first.segment (map (λ entry. entry.segment) others) apart))
@@ -53,7 +28,7 @@ entries-own (first ∷ others) apart = (
 
 -- the entry of a segment type is of that type
 entry_at_segment : (first : TypePlace) (others : List TypePlace) (segment : ℕ) (entry : TypePlace) (b : Bool) → first.segment == segment ≡ b → (entry_of others segment ≡ Some entry → entry.segment ≡ segment) → slice_get (first ∷ others) (cond b 0 (suc (place_in others segment))) ≡ Some entry → entry.segment ≡ segment
-entry_at_segment first others segment entry true same rest found = ap (λ (e : TypePlace). e.segment) (sym (same_Some first entry found)) ∙ of_type first.segment segment same
+entry_at_segment first others segment entry true same rest found = ap (λ (e : TypePlace). e.segment) (sym (same_Some first entry found)) ∙ eqb-true first.segment segment same
 entry_at_segment first others segment entry false same rest found = rest found
 
 pub entry-segment : (entries : List TypePlace) (segment : ℕ) (entry : TypePlace) → entry_of entries segment ≡ Some entry → entry.segment ≡ segment
@@ -70,12 +45,12 @@ module _ (entries : List TypePlace) where
   none_later place [] test = tt
   none_later place (item ∷ items) test =
       let parts = or_parts (nat_lt place (place_in entries item.segment)) (has_later entries place items) test in
-      (not_below place (place_in entries item.segment) parts.0, none_later place items parts.1)
+      (ltb-false place (place_in entries item.segment) parts.0, none_later place items parts.1)
 
   pub has_no_later : (place : ℕ) (items : List Item) → NoneLater place items → has_later entries place items ≡ false
   has_no_later place [] all = refl
   has_no_later place (item ∷ items) all =
-      ap (λ b. b || has_later entries place items) (not_above place (place_in entries item.segment) all.0) ∙ has_no_later place items all.1
+      ap (λ b. b || has_later entries place items) (le-ltb place (place_in entries item.segment) all.0) ∙ has_no_later place items all.1
 
   pub IsOrdered-snoc : (items : List Item) (item : Item) → IsOrdered entries items → NoneLater (place_in entries item.segment) items → IsOrdered entries (items ++ item ∷ [])
   IsOrdered-snoc [] item ordered all = (tt, tt)
@@ -103,9 +78,9 @@ module _ (entries : List TypePlace) where
       record {
         ordered = IsOrdered-snoc among item fits.ordered (none_later (place_in entries item.segment) among in_time);
         at_most = AllByRecursion-weaker _ _ entries (λ other both. count_more other.segment other.max among item (item.segment == other.segment) refl both.0 (λ same.
-            let is = of_type item.segment other.segment same in
+            let is = eqb-true item.segment other.segment same in
             let own : entry ≡ other = same_Some entry other (sym entry_at ∙ ap (entry_of entries) is ∙ both.1) in
-            subst (λ (e : TypePlace). count_of other.segment among < e.max) own (subst (λ s. count_of s among < entry.max) is (above_max entry.max (count_of item.segment among) room))))
+            subst (λ (e : TypePlace). count_of other.segment among < e.max) own (subst (λ s. count_of s among < entry.max) is (leb-false entry.max (count_of item.segment among) room))))
             (AllByRecursion-both (λ other. count_of other.segment among ≤ other.max) (λ other. entry_of entries other.segment ≡ Some other) entries fits.at_most (entries-own entries apart));
       }
 
@@ -124,8 +99,8 @@ module _ (entries : List TypePlace) where
   Fits-room above among item entry entry_at fits =
       let most = AllByRecursion-at (λ other. count_of other.segment (among ++ item ∷ []) ≤ other.max) entries (place_in entries item.segment) entry fits.at_most entry_at in
       let own = subst (λ s. count_of s (among ++ item ∷ []) ≤ entry.max) (entry-segment entries item.segment entry entry_at) most in
-      let one : count_of item.segment (item ∷ []) ≡ 1 = ap (λ b. cond b 1 0) (same_type item.segment) in
-      not_above_max entry.max (count_of item.segment among) (omega (arith, count_of-append item.segment among (item ∷ [])))
+      let one : count_of item.segment (item ∷ []) ≡ 1 = ap (λ b. cond b 1 0) (eq-eqb item.segment item.segment refl) in
+      lt-leb entry.max (count_of item.segment among) (omega (arith, count_of-append item.segment among (item ∷ [])))
 
 -- changes that keep each segment's type
 module _ (entries : List TypePlace) (change : Item → Item) (keeps : (item : Item) → (change item).segment ≡ item.segment) where

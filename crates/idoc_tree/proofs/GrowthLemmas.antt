@@ -1,4 +1,5 @@
 -- The forest of some lines, and that with one line more.
+use Rattle.std.proofs.lemmas.Bool.{eq-eqb, ne_eqb}
 use Rattle.std.specs.Prelude.{nat_le}
 use Rattle.std.proofs.Common.{◌≡◌, ℕ, ◌<◌, ◌⊎◌, Bool, true, false, cond, Option, Some, None, Result, Ok, Err, List, [], refl, ap, sym, subst, inl, inr, ◌∙◌, arith}
 use Rattle.idoc_record.specs.Data.{Segment}
@@ -12,8 +13,7 @@ use Rattle.idoc_record.specs.Parts.{told_length}
 use Rattle.idoc_tree.specs.Forest.{Item, Forest, no_trees, tree, is_bare, leaf, joined, roots, count_of}
 use Rattle.idoc_tree.specs.Spells.{item_of, Hangs}
 use Rattle.idoc_tree.specs.Growing.{siblings, hung, has_later, grown_among, grown_at, grown_by, grown}
-use Rattle.idoc_tree.proofs.HangingLemmas.{HangsBelow, here, deeper, later, not_of_type}
-use Rattle.idoc_tree.proofs.FamilyLemmas.{same_type}
+use Rattle.idoc_tree.proofs.HangingLemmas.{HangsBelow, here, deeper, later}
 
 -- a segment may be hung into a forest: it comes in time among its siblings, and there is room
 pub record MayHang (entries : List TypePlace) (item : Item) (forest : Forest) : Type 0 where
@@ -123,14 +123,14 @@ module _ (entries : List TypePlace) (preorder_kept : IsPreorder 0 [] entries) wh
     where
       moved : (front : Forest) (item : Item) (under : Forest) → EndsWith entries (Some root.segment) item front under → HasLast entries above (tree root under no_trees)
       moved front item _ (a_root _ parent) =
-          record { front = tree root front no_trees; item = item; ends = below (tree root front no_trees) (tree root (joined front (leaf item)) no_trees) root.segment (roots front) parent (behind above root.segment own) (here root front (same_type root.segment)) }
+          record { front = tree root front no_trees; item = item; ends = below (tree root front no_trees) (tree root (joined front (leaf item)) no_trees) root.segment (roots front) parent (behind above root.segment own) (here root front (eq-eqb root.segment root.segment refl)) }
       moved front item under (below _ _ segment among parent stands hangs) =
           record {
             front = tree root front no_trees;
             item = item;
             ends = below (tree root front no_trees) (tree root under no_trees) segment among parent
                 (further above root.segment segment (behind above root.segment own) stands)
-                (deeper root front under among (not_of_type root.segment segment (λ same. absurd (less_than_itself (subst (λ s. place_in entries s < place_in entries segment) same stands)))) hangs);
+                (deeper root front under among (ne_eqb root.segment segment (λ same. absurd (less_than_itself (subst (λ s. place_in entries s < place_in entries segment) same stands)))) hangs);
           }
 
   -- each forest that is not bare has a last segment

@@ -1,8 +1,8 @@
 -- A segment that is hung below an open one.
-use Rattle.std.proofs.Common.{◌≡◌, ℕ, ◌==◌, Bool, true, false, cond, Option, Some, List, [], ◌∷◌, ◌++◌, refl, ap, sym, subst, inl, inr, ◌∙◌, append_assoc, append-nil}
+use Rattle.std.proofs.lemmas.Bool.{eqb-true}
+use Rattle.std.proofs.Common.{◌≡◌, ℕ, ◌==◌, Bool, true, false, cond, Option, Some, List, [], ◌∷◌, ◌++◌, refl, ap, sym, subst, ◌∙◌, append_assoc, append-nil}
 use Rattle.std.specs.List.{AllByRecursion}
 use Rattle.std.proofs.lemmas.Option.{same_Some}
-use Rattle.std.proofs.lemmas.Bool.Decides.{eqb_tells}
 use Rattle.segment_defs.specs.declared.idoc_type.TypePlace.{TypePlace}
 use Rattle.segment_defs.specs.IdocType.{parent_of}
 use Rattle.idoc_tree.specs.Forest.{Item, Forest, no_trees, tree, preorder, is_bare, leaf, joined, map_nodes, without, roots}
@@ -77,13 +77,6 @@ module _ (segment : ℕ) (item : Item) where
   HangsBelow-roots _ _ _ (deeper root below below' among other rest) = refl
   HangsBelow-roots _ _ _ (later root below after after' among rest) = ap (λ items. root ∷ items) (HangsBelow-roots after among after' rest)
 
--- whether a segment is of a type
-pub of_type : (segment other : ℕ) → segment == other ≡ true → segment ≡ other
-of_type segment other same = elim (eqb_tells segment other) [ inl h ↦ h.1 | inr h ↦ cc ]
-
-pub not_of_type : (segment other : ℕ) → (segment ≡ other → ⊥) → segment == other ≡ false
-not_of_type segment other apart = elim (eqb_tells segment other) [ inl h ↦ absurd (apart h.1) | inr h ↦ h.0 ]
-
 module _ (entries : List TypePlace) where
   pub Hangs-joined : (above : Option ℕ) (first second : Forest) → Hangs entries above first → Hangs entries above second → Hangs entries above (joined first second)
   Hangs-joined above no_trees second ours theirs = theirs
@@ -117,7 +110,7 @@ module _ (entries : List TypePlace) where
   -- a segment that is hung below its parent's type hangs right
   pub HangsBelow-hangs : (segment : ℕ) (item : Item) (above : Option ℕ) (forest : Forest) (among : List Item) (grown : Forest) → parent_of entries item.segment ≡ Some (Some segment) → HangsBelow segment item forest among grown → Hangs entries above forest → Hangs entries above grown
   HangsBelow-hangs segment item above _ _ _ parent (here root below same) hangs =
-      let own : parent_of entries item.segment ≡ Some (Some root.segment) = parent ∙ ap (λ s. Some (Some s)) (sym (of_type root.segment segment same)) in
+      let own : parent_of entries item.segment ≡ Some (Some root.segment) = parent ∙ ap (λ s. Some (Some s)) (sym (eqb-true root.segment segment same)) in
       (hangs.0, Hangs-joined (Some root.segment) below (leaf item) hangs.1 (own, tt, tt), tt)
   HangsBelow-hangs segment item above _ _ _ parent (deeper root below below' among other rest) hangs =
       (hangs.0, HangsBelow-hangs segment item (Some root.segment) below among below' parent rest hangs.1, tt)
@@ -156,7 +149,7 @@ module _ (P : Family → Type 0) (segment : ℕ) (item : Item) where
   pub HangsBelow-families : (forest : Forest) (among : List Item) (grown : Forest) → P (more_in (Some segment) among item) → P (none_in item) → HangsBelow segment item forest among grown → AllByRecursion P (families_below forest) → AllByRecursion P (families_below grown)
   HangsBelow-families _ _ _ more none (here root below same) all =
       let parts = AllByRecursion-parts P (families_below below) [] all.1 in
-      let own : P (more_in (Some root.segment) (roots below) item) = subst (λ s. P (more_in (Some s) (roots below) item)) (sym (of_type root.segment segment same)) more in (
+      let own : P (more_in (Some root.segment) (roots below) item) = subst (λ s. P (more_in (Some s) (roots below) item)) (sym (eqb-true root.segment segment same)) more in (
         with_roots (Some root.segment) (roots below ++ item ∷ []) (roots (joined below (leaf item))) (roots-joined below (leaf item)) own,
         AllByRecursion-append P (families_below (joined below (leaf item))) []
             (subst (AllByRecursion P) (sym (families_below-joined below (leaf item))) (AllByRecursion-append P (families_below below) (none_in item ∷ []) parts.0 (none, tt))) tt,
@@ -173,7 +166,7 @@ module _ (P : Family → Type 0) (segment : ℕ) (item : Item) where
   -- and back, if the family that loses the segment keeps what holds of it
   pub HangsBelow-fewer : (forest : Forest) (among : List Item) (grown : Forest) → (P (more_in (Some segment) among item) → P (record { above = Some segment; children = among })) → HangsBelow segment item forest among grown → AllByRecursion P (families_below grown) → AllByRecursion P (families_below forest) × P (more_in (Some segment) among item)
   HangsBelow-fewer _ _ _ less (here root below same) all =
-      let is = of_type root.segment segment same in
+      let is = eqb-true root.segment segment same in
       let own = subst (λ s. P (more_in (Some s) (roots below) item)) is (with_roots (Some root.segment) (roots (joined below (leaf item))) (roots below ++ item ∷ []) (sym (roots-joined below (leaf item))) all.0) in
       let parts = AllByRecursion-parts P (families_below (joined below (leaf item))) [] all.1 in
       let kept = AllByRecursion-parts P (families_below below) (none_in item ∷ []) (subst (AllByRecursion P) (families_below-joined below (leaf item)) parts.0) in
@@ -189,7 +182,7 @@ module _ (P : Family → Type 0) (segment : ℕ) (item : Item) where
 
   -- what holds of all families holds of the one that a segment joins
   pub HangsBelow-family : (forest : Forest) (among : List Item) (grown : Forest) → HangsBelow segment item forest among grown → AllByRecursion P (families_below forest) → P (record { above = Some segment; children = among })
-  HangsBelow-family _ _ _ (here root below same) all = subst (λ s. P (record { above = Some s; children = roots below })) (of_type root.segment segment same) all.0
+  HangsBelow-family _ _ _ (here root below same) all = subst (λ s. P (record { above = Some s; children = roots below })) (eqb-true root.segment segment same) all.0
   HangsBelow-family _ _ _ (deeper root below below' among other rest) all =
       HangsBelow-family below among below' rest (AllByRecursion-parts P (families_below below) [] all.1).0
   HangsBelow-family _ _ _ (later root below after after' among rest) all =

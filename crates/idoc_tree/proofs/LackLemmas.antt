@@ -1,24 +1,22 @@
 -- What a family lacks.
+use Rattle.std.proofs.lemmas.Bool.{and_parts, eq-eqb, eqb-true, le-ltb, lt-ltb, ltb-false, ltb-true}
 use Rattle.std.specs.Prelude.{nat_lt, slice_get, take, zero}
-use Rattle.std.proofs.lemmas.Bool.Decides.{nat_tests}
 use Rattle.std.specs.Option.{option_map}
 use Rattle.std.specs.List.{AllByRecursion}
-use Rattle.std.proofs.Common.{◌≡◌, ℕ, suc, ◌+◌, ◌<◌, ◌==◌, ◌&&◌, length, length-append, ◌++◌, Bool, true, false, cond, Option, Some, None, List, [], ◌∷◌, refl, ap, subst, inl, inr, ◌∙◌, arith}
+use Rattle.std.proofs.Common.{◌≡◌, ℕ, suc, ◌+◌, ◌==◌, ◌&&◌, length, length-append, ◌++◌, Bool, true, false, cond, Option, Some, None, List, [], ◌∷◌, refl, ap, subst, inl, inr, ◌∙◌, arith}
 use Rattle.std.proofs.lemmas.Option.{same_Some, some_pair_parts}
 use Rattle.segment_defs.specs.declared.idoc_type.TypePlace.{TypePlace}
 use Rattle.segment_defs.specs.IdocType.{type_above}
 use Rattle.idoc_tree.specs.Forest.{Item, Forest, no_trees, tree, preorder, count_of}
 use Rattle.idoc_tree.specs.Valid.{Family, families_below, families, Suffices, HasEnough, Lacks}
 use Rattle.idoc_tree.specs.Lacking.{is_same, is_lacking, lack_among, lack_of, lack_or_later, first_lack}
-use Rattle.idoc_tree.proofs.HangingLemmas.{of_type}
-use Rattle.idoc_tree.proofs.FamilyLemmas.{not_below, not_above, same_type}
 use Rattle.idoc_tree.proofs.GrowthLemmas.{chosen}
 
 pub same-is_same : (a b : Option ℕ) → a ≡ b → is_same a b ≡ true
 same-is_same None None same = refl
 same-is_same None (Some b) same = cc
 same-is_same (Some a) None same = cc
-same-is_same (Some a) (Some b) same = let is : b ≡ a = cc in ap (λ n. a == n) is ∙ same_type a
+same-is_same (Some a) (Some b) same = let is : b ≡ a = cc in ap (λ n. a == n) is ∙ eq-eqb a a refl
 
 -- one of three tests fails
 some_fails : (a b c : Bool) → (a && (b && c)) ≡ false → a ≡ true → b ≡ true → c ≡ false
@@ -35,40 +33,30 @@ pub is_same-same : (a b : Option ℕ) → is_same a b ≡ true → a ≡ b
 is_same-same None None same = refl
 is_same-same None (Some b) same = cc
 is_same-same (Some a) None same = cc
-is_same-same (Some a) (Some b) same = ap Some (of_type a b same)
-
-all_three : (a b c : Bool) → (a && (b && c)) ≡ true → (a ≡ true) × (b ≡ true) × (c ≡ true)
-all_three true true c all = (refl, refl, all)
-all_three true false c all = cc
-all_three false b c all = cc
-
-is_below : (a b : ℕ) → nat_lt a b ≡ true → a < b
-is_below a b test = grind (arith, nat_tests)
-
-below_is : (a b : ℕ) → a < b → nat_lt a b ≡ true
-below_is a b lt = grind (arith, nat_tests)
+is_same-same (Some a) (Some b) same = ap Some (eqb-true a b same)
 
 module _ (entries : List TypePlace) (family : Family) where
   lacking-Lacks : (entry : TypePlace) → is_lacking entries family entry ≡ true → Lacks entries family entry
   lacking-Lacks entry lacking =
-      let parts = all_three entry.mandatory (is_same (type_above entries entry) family.above) (nat_lt (count_of entry.segment family.children) entry.min) lacking in
-      record { mandatory = parts.0; own = is_same-same _ _ parts.1; few = is_below _ _ parts.2 }
+      let parts = and_parts entry.mandatory _ lacking in
+      let rest = and_parts (is_same (type_above entries entry) family.above) _ parts.1 in
+      record { mandatory = parts.0; own = is_same-same _ _ rest.0; few = ltb-true _ _ rest.1 }
 
   Lacks-lacking : (entry : TypePlace) → Lacks entries family entry → is_lacking entries family entry ≡ true
   Lacks-lacking entry lacks =
       ap (λ b. b && (is_same (type_above entries entry) family.above && nat_lt (count_of entry.segment family.children) entry.min)) lacks.mandatory
       ∙ ap (λ b. b && nat_lt (count_of entry.segment family.children) entry.min) (same-is_same _ _ lacks.own)
-      ∙ below_is _ _ lacks.few
+      ∙ lt-ltb _ _ lacks.few
 
   not_lacking-Suffices : (entry : TypePlace) → is_lacking entries family entry ≡ false → Suffices entries family entry
   not_lacking-Suffices entry has = λ mandatory own.
-      not_below (count_of entry.segment family.children) entry.min
+      ltb-false (count_of entry.segment family.children) entry.min
       (some_fails entry.mandatory (is_same (type_above entries entry) family.above) (nat_lt (count_of entry.segment family.children) entry.min) has mandatory (same-is_same _ _ own))
 
   Suffices-not_lacking : (entry : TypePlace) → Suffices entries family entry → is_lacking entries family entry ≡ false
   Suffices-not_lacking entry suffices =
       one_fails entry.mandatory (is_same (type_above entries entry) family.above) (nat_lt (count_of entry.segment family.children) entry.min)
-      (λ mandatory own. not_above (count_of entry.segment family.children) entry.min (suffices mandatory (is_same-same _ _ own)))
+      (λ mandatory own. le-ltb (count_of entry.segment family.children) entry.min (suffices mandatory (is_same-same _ _ own)))
 
   pub no_lack-suffices : (some : List TypePlace) → lack_among entries family some ≡ None → AllByRecursion (Suffices entries family) some
   no_lack-suffices [] none = tt

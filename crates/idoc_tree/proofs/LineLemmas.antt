@@ -1,8 +1,9 @@
 -- Data records of segments, and the segments that they stand for again.
+use Rattle.std.proofs.lemmas.Bool.{and_parts}
 use Rattle.std.specs.Prelude.{not, IsTrue}
 use Rattle.std.specs.Option.{option_map}
 use Rattle.std.specs.List.{AllByRecursion, list_all}
-use Rattle.std.proofs.Common.{◌≡◌, ℕ, ◌≤◌, ◌==◌, Bool, true, false, cond, Some, None, List, [], ◌∷◌, map, length, take, refl, ap, sym, subst, inl, inr, ◌&&◌, ◌∙◌, arith}
+use Rattle.std.proofs.Common.{◌≡◌, ℕ, ◌≤◌, ◌==◌, true, false, cond, Some, None, List, [], ◌∷◌, map, length, take, refl, ap, sym, subst, inl, inr, ◌∙◌, arith}
 use Rattle.std.proofs.lemmas.Bool.Decides.{eqb_tells}
 use Rattle.std.proofs.lemmas.List.{length-take}
 use Rattle.ale_base.specs.Blanks.{before_trimmed, trimmed}
@@ -37,10 +38,6 @@ preorder-AllNodes P (tree root below after) all =
 no_blank : (byte : ℕ) → is_name_byte byte ≡ true → byte == 32 ≡ false
 no_blank byte named = elim (eqb_tells byte 32) [ inl blank ↦ let never : is_name_byte byte ≡ false = ap is_name_byte blank.1 in cc | inr other ↦ other.0 ]
 
-both_true : (a b : Bool) → (a && b) ≡ true → (a ≡ true) × (b ≡ true)
-both_true true b both = (refl, both)
-both_true false b both = cc
-
 before_name : (byte : ℕ) (name : List ℕ) → byte == 32 ≡ false → before_trimmed byte name ≡ byte ∷ name
 before_name byte [] other = ap (λ b. cond b [] (byte ∷ [])) other
 before_name byte (next ∷ name) other = refl
@@ -49,7 +46,7 @@ before_name byte (next ∷ name) other = refl
 pub name-trimmed : (name : List ℕ) → list_all is_name_byte name ≡ true → trimmed name ≡ name
 name-trimmed [] all = refl
 name-trimmed (byte ∷ name) all =
-    let parts = both_true (is_name_byte byte) (list_all is_name_byte name) all in
+    let parts = and_parts (is_name_byte byte) (list_all is_name_byte name) all in
     ap (before_trimmed byte) (name-trimmed name parts.1) ∙ before_name byte name (no_blank byte parts.0)
 
 names_segment : (name : List ℕ) → IsSegmentName name → IsTrue (not (is_no_segment name))

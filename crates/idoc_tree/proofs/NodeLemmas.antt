@@ -1,7 +1,6 @@
 -- Nodes as forests.
 use Rattle.std.specs.Prelude.{slice_get, slice_set, Some}
-use Rattle.std.proofs.Math.ListN.{drop_of_length-le}
-use Rattle.std.proofs.Common.{◌≡◌, ℕ, suc, ◌+◌, ◌<◌, ◌≤◌, get_or, drop, drop-cons, arith, List, [], ◌∷◌, ◌++◌, length, take, refl, ap, sym, ◌∙◌}
+use Rattle.std.proofs.Common.{◌≡◌, ℕ, suc, ◌+◌, ◌<◌, get_or, drop, drop-cons, arith, List, [], ◌∷◌, ◌++◌, length, take, refl, ap, sym, ◌∙◌}
 use Rattle.ale_base.proofs.SnocLemmas.{set-last}
 use Rattle.idoc_tree.specs.declared.node.Node.{Node}
 use Rattle.idoc_tree.specs.declared.node.Node.TheOpen.{Node-F}
@@ -30,8 +29,7 @@ forest_of-append (node ∷ nodes) second = ap (tree (tree_of node).root (tree_of
 
 -- nodes with one more behind them
 pub forest_of-snoc : (nodes : List Node) (last : Node) → forest_of (nodes ++ last ∷ []) ≡ joined (forest_of nodes) (tree (tree_of last).root (tree_of last).below no_trees)
-forest_of-snoc [] last = refl
-forest_of-snoc (node ∷ nodes) last = ap (tree (tree_of node).root (tree_of node).below) (forest_of-snoc nodes last)
+forest_of-snoc nodes last = forest_of-append nodes (last ∷ [])
 
 pub forest_of-last : (nodes : List Node) (at : ℕ) (last : Node) → at + 1 ≡ length nodes → slice_get nodes at ≡ Some last → forest_of nodes ≡ joined (forest_of (take at nodes)) (tree (root_of (out-Node last)) (forest_of (out-Node last).children.items) no_trees)
 forest_of-last nodes at last long here =
@@ -52,6 +50,3 @@ forest_of-drop nodes at node within here =
   where
     one_more : (n : ℕ) → suc n ≡ n + 1
     one_more n = omega arith
-
-pub forest_of-end : (nodes : List Node) (at : ℕ) → length nodes ≤ at → forest_of (drop at nodes) ≡ no_trees
-forest_of-end nodes at past = ap forest_of (drop_of_length-le nodes past)

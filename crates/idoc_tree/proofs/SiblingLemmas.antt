@@ -1,4 +1,5 @@
 -- The siblings of the next segment, as the last of some nodes tell.
+use Rattle.std.proofs.lemmas.Bool.{eq-eqb, eqb-true, le-leb, lt-leb}
 use Rattle.std.specs.Prelude.{nat_lt, nat_le, slice_get}
 use Rattle.std.specs.List.{AllByRecursion}
 use Rattle.std.proofs.Common.{◌≡◌, ℕ, zero, suc, ◌+◌, ◌-◌, ◌<◌, ◌≤◌, ◌==◌, ◌||◌, Bool, true, false, cond, Some, List, [], ◌∷◌, ◌++◌, length, take, refl, ap, sym, subst, ◌∙◌, arith}
@@ -15,9 +16,8 @@ use Rattle.idoc_tree.specs.Valid.{IsOrdered}
 use Rattle.idoc_tree.specs.Growing.{has_later, AreLast}
 use Rattle.idoc_tree.proofs.ForestLemmas.{roots-joined}
 use Rattle.idoc_tree.proofs.NodeLemmas.{root_of, tree_of-out, forest_of-last}
-use Rattle.segment_defs.proofs.ListLemmas.{AllByRecursion-weaker, AllByRecursion-both}
-use Rattle.idoc_tree.proofs.HangingLemmas.{of_type}
-use Rattle.idoc_tree.proofs.FamilyLemmas.{NoneLater, is_at_max, not_above_max, same_type, IsOrdered-front}
+use Rattle.segment_defs.proofs.ListLemmas.{AllByRecursion-at, AllByRecursion-weaker, AllByRecursion-both}
+use Rattle.idoc_tree.proofs.FamilyLemmas.{NoneLater, IsOrdered-front}
 
 lower_is_enough : (a b c : ℕ) → b ≤ c → (nat_lt a b || nat_lt a c) ≡ nat_lt a c
 lower_is_enough a b c le = grind (arith, nat_tests)
@@ -52,11 +52,11 @@ pub AreLast-ordered : (entries : List TypePlace) (segment : ℕ) (items : List I
 AreLast-ordered entries segment [] within ordered all = tt
 AreLast-ordered entries segment (item ∷ items) within ordered all = (
   λ same. AllByRecursion-weaker _ _ items (λ other both.
-      let is = of_type item.segment segment same in
+      let is = eqb-true item.segment segment same in
       let least : place_in entries segment ≤ place_in entries other.segment = subst (λ s. place_in entries s ≤ place_in entries other.segment) is both.0 in
       let places : place_in entries segment ≡ place_in entries other.segment = omega arith in
       let own : segment ≡ other.segment = place_in-injective entries segment other.segment within places in
-      subst (λ s. s == segment ≡ true) own (same_type segment))
+      subst (λ s. s == segment ≡ true) own (eq-eqb segment segment refl))
       (AllByRecursion-both (λ other. place_in entries item.segment ≤ place_in entries other.segment) (λ other. place_in entries other.segment ≤ place_in entries segment) items ordered.0 all.1),
   AreLast-ordered entries segment items within ordered.1 all.1,
 )
@@ -75,17 +75,12 @@ count_of-all segment [] all = refl
 count_of-all segment (item ∷ items) all =
     ap (λ b. cond b (suc (count_of segment items)) (count_of segment items)) all.0 ∙ ap suc (count_of-all segment items all.1)
 
-at_all : (segment : ℕ) (items : List Item) (at : ℕ) (item : Item) → slice_get items at ≡ Some item → AllByRecursion (λ other. other.segment == segment ≡ true) items → item.segment == segment ≡ true
-at_all segment [] at item here all = cc
-at_all segment (first ∷ items) zero item here all = subst (λ (i : Item). i.segment == segment ≡ true) (same_Some first item here) all.0
-at_all segment (first ∷ items) (suc at) item here all = at_all segment items at item here all.1
-
 tells : (segment max : ℕ) (first : Item) (items : List Item) (item : Item) (b : Bool) → first.segment == segment ≡ b → (b ≡ true → AllByRecursion (λ other. other.segment == segment ≡ true) items) → ((at : ℕ) → at + max ≡ length items → slice_get items at ≡ Some item → nat_le max (count_of segment items) ≡ (item.segment == segment)) → (at : ℕ) → 1 ≤ max → at + max ≡ suc (length items) → slice_get (first ∷ items) at ≡ Some item → nat_le max (cond b (suc (count_of segment items)) (count_of segment items)) ≡ (item.segment == segment)
 tells segment max first items item true same others rest at some all here =
-    is_at_max max (suc (count_of segment items)) (omega (arith, count_of-all segment items (others refl)))
-    ∙ sym (at_all segment (first ∷ items) at item here (same, others refl))
+    le-leb max (suc (count_of segment items)) (omega (arith, count_of-all segment items (others refl)))
+    ∙ sym (AllByRecursion-at (λ other. other.segment == segment ≡ true) (first ∷ items) at item (same, others refl) here)
 tells segment max first items item false other others rest zero some all here =
-    not_above_max max (count_of segment items) (omega (arith, count_of-length segment items))
+    lt-leb max (count_of segment items) (omega (arith, count_of-length segment items))
     ∙ sym (subst (λ (i : Item). i.segment == segment ≡ false) (same_Some first item here) other)
 tells segment max first items item false other others rest (suc at) some all here = rest at (omega arith) here
 
@@ -111,4 +106,4 @@ is_full-nodes segment max nodes node last some within here =
 
 pub not_full-nodes : (segment max : ℕ) (nodes : List Node) → length nodes < max → nat_le max (count_of segment (roots (forest_of nodes))) ≡ false
 not_full-nodes segment max nodes short =
-    not_above_max max (count_of segment (roots (forest_of nodes))) (omega (arith, count_of-length segment (roots (forest_of nodes)), length-roots nodes))
+    lt-leb max (count_of segment (roots (forest_of nodes))) (omega (arith, count_of-length segment (roots (forest_of nodes)), length-roots nodes))

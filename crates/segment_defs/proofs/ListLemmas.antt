@@ -2,8 +2,8 @@
 use Rattle.std.specs.Prelude.{not, slice_get, slice_index_or, Contains}
 use Rattle.std.specs.Bool.{MatchBool}
 use Rattle.std.specs.List.{AllByRecursion, AllWithin, HoldsAt, IsDistinct, list_all, flat_map}
-use Rattle.std.proofs.Common.{◌≡◌, ◌↔◌, ◌⊎◌, inl, inr, ℕ, zero, suc, ◌<◌, Bool, true, false, ◌&&◌, Some, List, [], ◌∷◌, ◌++◌, length, drop, map, refl, subst, arith}
-use Rattle.std.proofs.lemmas.Bool.{false≢true}
+use Rattle.std.proofs.Common.{◌≡◌, ◌↔◌, ◌⊎◌, inl, inr, ℕ, zero, suc, ◌<◌, Bool, true, false, Some, List, [], ◌∷◌, ◌++◌, length, drop, map, refl, subst, arith}
+use Rattle.std.proofs.lemmas.Bool.{false≢true, and_parts, not-true}
 use Rattle.std.proofs.lemmas.Option.{same_Some, slice_get_within, get_or_from_slice_get}
 use Rattle.std.proofs.lemmas.List.Concat.{flat_map-cons}
 use Rattle.std.proofs.lemmas.List.Elements.{All-from_recursion, recursion_from_All, All-from_all_within}
@@ -70,19 +70,11 @@ all-decided P (x ∷ xs) false cases = (
   λ all. absurd (cases.2 x (All-from_recursion P (x ∷ xs) all cases.0 x cases.1)),
 )
 
-both_true : (a b : Bool) → (a && b) ≡ true → (a ≡ true) × (b ≡ true)
-both_true true b both = (refl, both)
-both_true false b both = absurd (false≢true both)
-
-not_true : (a : Bool) → not a ≡ true → a ≡ false
-not_true true is = absurd (false≢true is)
-not_true false is = refl
-
 module _ {A K : Type 0} (same : K → K → Bool) (key : A → K) where
   differs-all : (k : K) (xs : List A) → list_all (λ x. not (same k (key x))) xs ≡ true → AllByRecursion (λ other. same k other ≡ false) (map key xs)
   differs-all k [] all = tt
   differs-all k (x ∷ xs) all =
-      let parts = both_true (not (same k (key x))) _ all in (not_true (same k (key x)) parts.0, differs-all k xs parts.1)
+      let parts = and_parts (not (same k (key x))) _ all in (not-true (same k (key x)) parts.0, differs-all k xs parts.1)
 
   all-differs : (k : K) (xs : List A) → AllByRecursion (λ other. same k other ≡ false) (map key xs) → list_all (λ x. not (same k (key x))) xs ≡ true
   all-differs k [] all = refl

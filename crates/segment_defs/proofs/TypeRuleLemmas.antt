@@ -2,8 +2,8 @@
 use Rattle.std.specs.Prelude.{Contains, slice_get}
 use Rattle.std.proofs.Common.{◌≡◌, ◌↔◌, ◌⊎◌, inl, inr, ℕ, zero, suc, ◌+◌, ◌-◌, ◌<◌, ◌≤◌, Bool, true, false, cond, eqb, Option, Some, None, List, [], ◌∷◌, ◌++◌, length, get_or, take, drop, drop-cons, refl, sym, ap, subst, ◌∙◌, add-one, arith}
 use Rattle.std.specs.Option.{ForSome, SomeIff}
-use Rattle.std.proofs.lemmas.Bool.{false≢true}
-use Rattle.std.proofs.lemmas.Bool.Decides.{Decides-eqb, nat_tests}
+use Rattle.std.proofs.lemmas.Bool.{false≢true, ne_eqb}
+use Rattle.std.proofs.lemmas.Bool.Decides.{Decides-eqb}
 use Rattle.std.proofs.lemmas.List.{take_more, take-append-drop}
 use Rattle.std.proofs.lemmas.Option.{slice_get_read, slice_get_within, same_Some}
 use Rattle.segment_defs.specs.declared.idoc_type.TypePlace.{TypePlace}
@@ -120,16 +120,13 @@ walk-begins entries place above ordered last = let up = path_behind-upward entri
   right = refl;
 }
 
-not_equal : (x y : ℕ) → (x ≡ y → ⊥) → eqb x y ≡ false
-not_equal x y other = grind (arith, nat_tests)
-
 counted-more : (place levels at : ℕ) (rest : List ℕ) → (0 < levels) ⊎ (at ≡ place) → counted (suc levels) place rest ≡ counted levels place (at ∷ rest)
 counted-more place zero at rest (inl some) = absurd (omega arith)
 counted-more place zero at rest (inr same) = rw ((Decides-eqb at place).1 same) (omega arith)
 counted-more place (suc levels) at rest why = omega arith
 
 counted-same : (place levels at : ℕ) (rest : List ℕ) → levels ≤ 0 → (at ≡ place → ⊥) → counted levels place rest ≡ counted levels place (at ∷ rest)
-counted-same place zero at rest none other = rw (not_equal at place other) refl
+counted-same place zero at rest none other = rw (ne_eqb at place other) refl
 counted-same place (suc levels) at rest none other = absurd (omega arith)
 
 left-below : (entries : List TypePlace) (at : ℕ) (path : List ℕ) → IsUpward entries at path → left_above (slice_get path 0) < left_above (Some at)

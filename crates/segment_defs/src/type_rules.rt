@@ -160,7 +160,7 @@ fn are_valid_entries(definitions: &Definitions, entries: &[TypePlace]) -> bool
     entries.iter().all(|entry| entry.is_valid(definitions))
 }
 
-/// Whether the first entry stands at the root level, and occurs once in each document.
+/// Whether the first entry stands at the root level, is mandatory, and occurs once in each document.
 fn has_root(entries: &[TypePlace]) -> bool
     ensures { IsTrue result ↔ IsRootEntry (slice_get entries.now 0) }
 {

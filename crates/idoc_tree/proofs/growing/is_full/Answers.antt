@@ -1,9 +1,9 @@
+use Rattle.std.proofs.lemmas.Bool.{lt-leb}
 use Rattle.std.specs.Prelude.{◌-◌}
 use Rattle.std.proofs.Common.{◌∙◌, sym, length, arith}
 use Rattle.std.proofs.lemmas.Option.{slice_get-get_or}
 use Rattle.std.proofs.Math.ListN.{get_or}
 use Rattle.idoc_tree.proofs.SiblingLemmas.{is_full-nodes, not_full-nodes}
-use Rattle.idoc_tree.proofs.FamilyLemmas.{not_above_max}
 use Rattle.idoc_tree.proofs.growing.is_full.Goals as goal
 
 pub returns-then-max-among : goal.returns-then-max-among
@@ -15,5 +15,5 @@ returns-then-max-among c =
 
 pub returns-else-max-among : goal.returns-else-max-among
 returns-else-max-among c =
-    not_above_max c.args.max (length c.args.among.now) c.if-max-among.false
+    lt-leb c.args.max (length c.args.among.now) c.if-max-among.false
     ∙ sym (not_full-nodes c.args.segment c.args.max c.args.among.now c.if-max-among.false)
