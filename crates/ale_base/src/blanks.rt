@@ -1,3 +1,5 @@
+//! Blanks at the end of a text.
+
 ghost use Rattle.std.specs.Prelude.{◌≡◌};
 ghost use Rattle.ale_base.specs.Blanks.{trimmed};
 

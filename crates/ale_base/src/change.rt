@@ -1,3 +1,5 @@
+//! A field of an object and its value.
+
 use crate::Items;
 use std::alloc::AllocError;
 

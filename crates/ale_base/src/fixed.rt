@@ -1,3 +1,5 @@
+//! Texts in fields of a fixed width.
+
 ghost use Rattle.std.specs.Prelude.{◌≡◌, ◌<◌, ◌≤◌, ◌↔◌, length, IsNone, IfSome};
 ghost use Rattle.ale_base.specs.Blanks.{trimmed};
 

@@ -1,3 +1,5 @@
+//! Numbers in upper case hexadecimal digits, of which ids are spelled.
+
 ghost use Rattle.std.specs.Prelude.{◌≡◌, ◌<◌, ◌≤◌, length, MatchOption};
 ghost use Rattle.ale_base.specs.Hexadecimal.{digit_of, digits_of, digit_value, number_of};
 
@@ -14,9 +16,9 @@ fn digit_of(number: u32) -> u8
     }
 }
 
-#[tactic(auto, unfolding(crate::specs::Hexadecimal::digits_of))]
 /// Fills the slice with the lowest digits of the number, the highest of them first.
-pub fn put_digits(into: &mut [u8], number: u32)
+#[tactic(auto, unfolding(crate::specs::Hexadecimal::digits_of))]
+pub(crate) fn put_digits(into: &mut [u8], number: u32)
     ensures { into.new ≡ digits_of (length into.old) number }
 {
     let mut number = number;
@@ -41,7 +43,7 @@ fn digit_value(digit: u8) -> u8
 }
 
 /// The number that at most 12 digits spell.
-pub fn number_of(digits: &[u8]) -> u64
+pub(crate) fn number_of(digits: &[u8]) -> u64
     requires { length digits.now ≤ 12 }
     ensures { result ≡ number_of digits.now }
 {

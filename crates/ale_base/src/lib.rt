@@ -2,8 +2,8 @@
 //! of a fixed width, and lists.
 //!
 //! Contract: each value is seen as what it stands for, and each spelling is exact in both directions. The
-//! definitions are in `specs/`: `Blanks` (trimmed and padded texts), `Hexadecimal`, `Tid`, `QueueName`, `Faults`
-//! (a count of faults rose).
+//! definitions are in `specs/`: `Blanks` (trimmed and padded texts), `Text`, `Prefix` (one list begins
+//! another), `Hexadecimal`, `Tid`, `QueueName`, `Faults` (a count of faults rose).
 #![tactic(auto)]
 
 mod blanks;
@@ -12,6 +12,7 @@ mod doc_num;
 mod fixed;
 mod hexadecimal;
 mod items;
+mod lengths;
 mod mark;
 mod out_of_memory;
 mod queue_name;
@@ -24,12 +25,10 @@ pub use change::{Change, FieldValue};
 pub use doc_num::DocNum;
 pub use fixed::Fixed;
 pub use items::Items;
+pub use lengths::told_length;
 pub use mark::Mark;
 pub use out_of_memory::OutOfMemory;
 pub use queue_name::{NameFault, QueueName};
 pub use system_no::SystemNo;
 pub use tid::Tid;
 pub use way::Way;
-
-#[cfg(test)]
-mod tests;

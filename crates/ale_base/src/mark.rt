@@ -1,3 +1,5 @@
+//! Why a unit waits.
+
 /// Why a unit of work waits until it is retried.
 #[derive(Clone, Copy, Debug, PartialEq, Eq)]
 pub enum Mark {

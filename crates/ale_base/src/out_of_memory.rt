@@ -1,3 +1,5 @@
+//! The one error of a refused request for memory.
+
 use std::alloc::{AllocError, AllocFailed};
 use thiserror::Error;
 

@@ -1,3 +1,5 @@
+//! Names of queues, and why bytes are none.
+
 ghost use Rattle.std.specs.Prelude.{◌≤◌, length, All, MatchOption};
 ghost use Rattle.ale_base.specs.QueueName.{IsNameByte, IsFirstOther};
 

@@ -1,3 +1,5 @@
+//! Numbers of systems.
+
 ghost use Rattle.std.specs.Prelude.{◌≡◌, ◌<◌, ◌≤◌, ◌⊎◌, ◌↔◌, IsNone, IfSome};
 
 use std::marker::Model;

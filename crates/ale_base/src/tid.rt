@@ -1,3 +1,5 @@
+//! Transaction ids and their one spelling.
+
 ghost use Rattle.std.specs.Prelude.{◌≡◌, ◌≤◌, Some};
 
 use crate::SystemNo;

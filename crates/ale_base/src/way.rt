@@ -1,3 +1,5 @@
+//! The two directions of a system.
+
 /// A direction, seen from a system.
 #[derive(Clone, Copy, Debug, PartialEq, Eq)]
 pub enum Way {

@@ -13,7 +13,7 @@ use Rattle.segment_defs.specs.declared.segment_type.SegmentType.{SegmentType}
 use Rattle.segment_defs.specs.declared.definitions.Definitions.{Definitions}
 use Rattle.segment_defs.specs.declared.idoc_type.TypePlace.{TypePlace}
 use Rattle.segment_defs.specs.IdocType.{place_in, entry_of, type_above, parent_of, IsPreorder}
-use Rattle.segment_defs.proofs.OptionLemmas.{option_map-Some}
+use Rattle.ale_base.proofs.OptionLemmas.{option_map-Some}
 use Rattle.idoc_tree.specs.declared.fault.SyntaxFault.{SyntaxFault}
 use Rattle.idoc_tree.specs.declared.fault.SyntaxFault.TheVariants.{UnknownSegment, Misplaced, TooMany, Missing, OutOfMemory}
 use Rattle.idoc_tree.specs.Forest.{Item, Forest, no_trees, count_of}
@@ -24,7 +24,7 @@ use Rattle.idoc_tree.specs.Growing.{siblings, hung, has_later, grown_among, grow
 use Rattle.idoc_tree.specs.Builds.{SpellsInOrder, IsMisplaced, foreign, closed, late, IsTooMany, IsUnknown, Faulty, IsRefusedAt, IsMissing, IsFirstFault, Builds}
 use Rattle.idoc_tree.proofs.GrowthLemmas.{chosen, grown-Ok, grown-Grows}
 use Rattle.idoc_tree.proofs.LackLemmas.{no_lack-enough, enough-no_lack, lack_among-first, lack_among-at, first_lack-first, first_lack-at, first_lack-known}
-use Rattle.segment_defs.proofs.ListLemmas.{slice_get-within}
+use Rattle.ale_base.proofs.ListLemmas.{slice_get-within}
 use Rattle.idoc_tree.proofs.SpellsLemmas.{Grows-stands, SpellsInOrder-last, Spells-none, none-stands}
 
 -- what a step may be wrong with, by the fault that it answers

@@ -12,7 +12,7 @@ use Rattle.idoc_tree.specs.Forest.{Item, Forest, no_trees, tree, roots, map_node
 use Rattle.idoc_tree.specs.Valid.{Family, families_below, IsOrdered, Fits, HasEnough, IsValid}
 use Rattle.idoc_tree.specs.Growing.{has_later}
 use Rattle.idoc_tree.proofs.ForestLemmas.{count_of-append}
-use Rattle.segment_defs.proofs.ListLemmas.{AllByRecursion-append, AllByRecursion-parts, AllByRecursion-weaker, AllByRecursion-both, AllByRecursion-at, AllByRecursion-from_map}
+use Rattle.ale_base.proofs.ListLemmas.{AllByRecursion-append, AllByRecursion-parts, AllByRecursion-weaker, AllByRecursion-both, AllByRecursion-at, AllByRecursion-from_map}
 use Rattle.idoc_tree.proofs.HangingLemmas.{more_in}
 
 -- an entry is that of its own segment type, since no type has two

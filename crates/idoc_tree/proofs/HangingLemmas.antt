@@ -10,7 +10,7 @@ use Rattle.idoc_tree.specs.Spells.{Hangs}
 use Rattle.idoc_tree.specs.Valid.{Family, families_below}
 use Rattle.idoc_tree.specs.Growing.{children_of_open, hung_below}
 use Rattle.idoc_tree.proofs.ForestLemmas.{bare_is_none, preorder-joined, roots-joined}
-use Rattle.segment_defs.proofs.ListLemmas.{AllByRecursion-append, AllByRecursion-parts}
+use Rattle.ale_base.proofs.ListLemmas.{AllByRecursion-append, AllByRecursion-parts}
 
 -- A segment is hung below the open one of a type: the forest before, the siblings there, and the forest after.
 pub data HangsBelow (segment : ℕ) (item : Item) : Forest → List Item → Forest → Type 0 where

@@ -16,11 +16,11 @@ use Rattle.segment_defs.specs.Name.{is_name_byte, IsSegmentName}
 use Rattle.segment_defs.specs.Version.{width_of, fitted}
 use Rattle.segment_defs.specs.Definitions.{AreDefinitions, found_in, version_of}
 use Rattle.segment_defs.proofs.DefinitionsLemmas.{found-exists, found-definition, version-IsVersion, fitted-fitted}
-use Rattle.segment_defs.proofs.OptionLemmas.{option_map-Some}
+use Rattle.ale_base.proofs.OptionLemmas.{option_map-Some}
 use Rattle.idoc_tree.specs.Forest.{Item, Forest, no_trees, tree, preorder, AllNodes}
 use Rattle.idoc_tree.specs.Spells.{fitted_by, item_found, item_of, Hangs, Spells}
 use Rattle.idoc_tree.specs.Lines.{IsNode, IsFitted, name_of, line_of, lines_of}
-use Rattle.segment_defs.proofs.ListLemmas.{AllByRecursion-append, AllByRecursion-parts}
+use Rattle.ale_base.proofs.ListLemmas.{AllByRecursion-append, AllByRecursion-parts}
 use Rattle.idoc_tree.proofs.ForestLemmas.{AllNodes-weaker}
 
 -- of each segment, and of each in the list of all

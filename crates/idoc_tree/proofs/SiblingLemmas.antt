@@ -16,7 +16,7 @@ use Rattle.idoc_tree.specs.Valid.{IsOrdered}
 use Rattle.idoc_tree.specs.Growing.{has_later, AreLast}
 use Rattle.idoc_tree.proofs.ForestLemmas.{roots-joined}
 use Rattle.idoc_tree.proofs.NodeLemmas.{root_of, tree_of-out, forest_of-last}
-use Rattle.segment_defs.proofs.ListLemmas.{AllByRecursion-at, AllByRecursion-weaker, AllByRecursion-both}
+use Rattle.ale_base.proofs.ListLemmas.{AllByRecursion-at, AllByRecursion-weaker, AllByRecursion-both}
 use Rattle.idoc_tree.proofs.FamilyLemmas.{NoneLater, IsOrdered-front}
 
 lower_is_enough : (a b c : ℕ) → b ≤ c → (nat_lt a b || nat_lt a c) ≡ nat_lt a c

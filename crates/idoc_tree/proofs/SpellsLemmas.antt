@@ -10,14 +10,14 @@ use Rattle.idoc_record.specs.Data.{Segment}
 use Rattle.segment_defs.specs.declared.definitions.Definitions.{Definitions}
 use Rattle.segment_defs.specs.declared.idoc_type.TypePlace.{TypePlace}
 use Rattle.segment_defs.specs.IdocType.{entry_of, type_above, parent_of, IsPreorder}
-use Rattle.segment_defs.proofs.OptionLemmas.{option_map-Some}
+use Rattle.ale_base.proofs.OptionLemmas.{option_map-Some}
 use Rattle.idoc_tree.specs.Forest.{Item, Forest, no_trees, tree, preorder, is_bare, leaf, joined, roots}
 use Rattle.idoc_tree.specs.Spells.{item_of, Hangs, Spells}
 use Rattle.idoc_tree.specs.Valid.{Family, families, families_below, Fits}
 use Rattle.idoc_tree.specs.Growing.{siblings, hung}
 use Rattle.idoc_tree.specs.Builds.{SpellsInOrder}
 use Rattle.idoc_tree.proofs.ForestLemmas.{preorder-joined, roots-joined}
-use Rattle.segment_defs.proofs.ListLemmas.{AllByRecursion-append, AllByRecursion-parts, AllByRecursion-of}
+use Rattle.ale_base.proofs.ListLemmas.{AllByRecursion-append, AllByRecursion-parts, AllByRecursion-of}
 use Rattle.idoc_tree.proofs.HangingLemmas.{hangs_below, HangsBelow-open, HangsBelow-preorder, HangsBelow-roots, Hangs-joined, Hangs-parts, HangsBelow-hangs, HangsBelow-hung, families_below-joined, HangsBelow-families, HangsBelow-fewer, HangsBelow-family, more_in, none_in}
 use Rattle.idoc_tree.proofs.FamilyLemmas.{Fits-more, Fits-fewer, Fits-in_time, Fits-room}
 use Rattle.idoc_tree.proofs.GrowthLemmas.{Grows, EndsWith, a_root, below, has_last}

@@ -18,8 +18,9 @@ use Rattle.segment_defs.specs.Name.{same_name}
 use Rattle.segment_defs.specs.Version.{IsVersion, width_of, fitted}
 use Rattle.segment_defs.specs.SegmentType.{Continues, IsSegmentType}
 use Rattle.segment_defs.specs.Definitions.{AreDefinitions, StandsFor, names_of, versions_in, versions_of, version_of, version_named, named_in, first_found, found_in, HasVersion}
-use Rattle.segment_defs.proofs.OptionLemmas.{option_map-Some, none_or_some}
-use Rattle.segment_defs.proofs.ListLemmas.{AllByRecursion-at, IsDistinct-parts, Contains-at, Contains-cases, slice_get-within}
+use Rattle.ale_base.proofs.OptionLemmas.{option_map-Some, none_or_some}
+use Rattle.ale_base.proofs.ListLemmas.{AllByRecursion-at, IsDistinct-parts, Contains-at, slice_get-within}
+use Rattle.ale_base.proofs.MemberLemmas.{Contains-cons}
 
 -- of names that stand once, none is in the front and behind it
 pub not_in_both : (xs ys : List (List ℕ)) (name : List ℕ) → IsDistinct same_name (xs ++ ys) → Contains xs name → Contains ys name → ⊥
@@ -189,7 +190,7 @@ definition_among : (versions : List Version) (name : List ℕ) → Contains (map
     → (place : ℕ) × (definition : Version) × (slice_get versions place ≡ Some definition) × (definition.name ≡ name)
 definition_among [] name has = absurd (omega (arith, has.1))
 definition_among (version ∷ versions) name has =
-    elim (Contains-cases version.name name (map (λ v. v.name) versions) has) [
+    elim (Contains-cons version.name (map (λ v. v.name) versions) name has) [
       | inl same ↦ (0, version, refl, same)
       | inr other ↦ let rest = definition_among versions name other in (suc rest.0, rest.1, rest.2, rest.3)
     ]
@@ -197,7 +198,7 @@ definition_among (version ∷ versions) name has =
 -- a name of a type that has a definition stands for one of them
 among-IsNamed : (name : List ℕ) (type : SegmentType) → 1 ≤ length type.versions → Contains (names_of type) name → (version : ℕ) × (definition : Version) × IsNamed name type version definition
 among-IsNamed name type some has =
-    elim (Contains-cases type.name name (map (λ version. version.name) type.versions) has) [
+    elim (Contains-cons type.name (map (λ version. version.name) type.versions) name has) [
       | inl same ↦
           let last = length type.versions - 1 in
           let newest = slice_get-within type.versions last (omega arith) in

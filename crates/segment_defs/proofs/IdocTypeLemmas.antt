@@ -8,8 +8,8 @@ use Rattle.std.proofs.lemmas.Option.{same_Some}
 use Rattle.std.proofs.lemmas.List.Elements.{All-from_recursion, All-contains}
 use Rattle.segment_defs.specs.declared.idoc_type.TypePlace.{TypePlace}
 use Rattle.segment_defs.specs.IdocType.{place_in, entry_of, type_above, parent_of, upward_from, path_of, IsPreorder}
-use Rattle.segment_defs.proofs.OptionLemmas.{option_map-Some}
-use Rattle.segment_defs.proofs.ListLemmas.{AllByRecursion-weaker}
+use Rattle.ale_base.proofs.OptionLemmas.{option_map-Some}
+use Rattle.ale_base.proofs.ListLemmas.{AllByRecursion-weaker}
 
 -- the first entry of a segment type is of this type
 pub entry-at_place : (entries : List TypePlace) (segment : ℕ) → place_in entries segment < length entries

@@ -1,5 +1,3 @@
-pub mod OptionLemmas
-pub mod ListLemmas
 pub mod WidthLemmas
 pub mod IdocTypeLemmas
 pub mod NewestLemmas

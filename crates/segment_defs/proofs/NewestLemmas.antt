@@ -6,7 +6,7 @@ use Rattle.std.proofs.lemmas.Bool.{leb-true, leb-false, le-leb, lt-leb}
 use Rattle.std.proofs.lemmas.Option.{same_Some, slice_get_within, get_or_from_slice_get}
 use Rattle.segment_defs.specs.declared.version.Version.{Version}
 use Rattle.segment_defs.specs.SegmentType.{Continues, last_place, newest_by, IsNewestBy}
-use Rattle.segment_defs.proofs.ListLemmas.{AllByRecursion-at, AllByRecursion-from_places}
+use Rattle.ale_base.proofs.ListLemmas.{AllByRecursion-at, AllByRecursion-from_places}
 
 -- the place of the newest among those from a place on, or else of the newest before it
 abbrev pub newest_or : Option ℕ → ℕ → Option ℕ → Option ℕ

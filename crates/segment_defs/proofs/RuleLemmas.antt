@@ -10,7 +10,7 @@ use Rattle.std.proofs.lemmas.List.Concat.{flat_map-cons}
 use Rattle.std.proofs.lemmas.List.Quantifiers.{all_pairs_push}
 use Rattle.segment_defs.specs.declared.version.Version.{Version}
 use Rattle.segment_defs.specs.SegmentType.{Continues}
-use Rattle.segment_defs.proofs.ListLemmas.{IsDistinct-append, IsDistinct-parts}
+use Rattle.ale_base.proofs.ListLemmas.{IsDistinct-append, IsDistinct-parts}
 
 -- a rule of a list that holds where it holds of the first element before the others, and of the others
 pub record IsByRecursion {X : Type 0} (P : X → List X → Type 0) (Whole : List X → Type 0) : Type 0 where

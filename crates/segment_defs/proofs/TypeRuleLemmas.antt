@@ -9,7 +9,8 @@ use Rattle.std.proofs.lemmas.Option.{slice_get_read, slice_get_within, same_Some
 use Rattle.segment_defs.specs.declared.idoc_type.TypePlace.{TypePlace}
 use Rattle.segment_defs.specs.IdocType.{upward_from, path_of, IsPreorder}
 use Rattle.segment_defs.specs.Path.{path_behind}
-use Rattle.segment_defs.proofs.ListLemmas.{Contains-cases, Contains-later, slice_get-first, drop-first}
+use Rattle.ale_base.proofs.ListLemmas.{slice_get-first, drop-first}
+use Rattle.ale_base.proofs.MemberLemmas.{Contains-cons, Contains-there}
 
 -- how far a walk upwards has to go at most
 abbrev pub left_above : Option ℕ → ℕ
@@ -46,7 +47,7 @@ upward_from-first : (parent : ℕ) (path : List ℕ) → Contains path parent �
 upward_from-first parent [] has = absurd (omega (arith, has.1))
 upward_from-first parent (place ∷ path) has = (elim (eqb place parent) as (λ same. (eqb place parent ≡ same) → slice_get (cond same (place ∷ path) (upward_from parent path)) 0 ≡ Some parent) [
   | true ↦ λ is. ap Some ((Decides-eqb place parent).0 is)
-  | false ↦ λ is. elim (Contains-cases place parent path has) [
+  | false ↦ λ is. elim (Contains-cons place path parent has) [
     | inl same ↦ absurd (false≢true (sym is ∙ (Decides-eqb place parent).1 same))
     | inr later ↦ upward_from-first parent path later
   ]
@@ -60,7 +61,7 @@ pub Contains-from_some : (parent : ℕ) (path : List ℕ) → 1 ≤ length (upwa
 Contains-from_some parent [] some = absurd (omega arith)
 Contains-from_some parent (place ∷ path) some = (elim (eqb place parent) as (λ same. (eqb place parent ≡ same) → 1 ≤ length (cond same (place ∷ path) (upward_from parent path)) → Contains (place ∷ path) parent) [
   | true ↦ λ is some. (0, omega arith, (Decides-eqb place parent).0 is)
-  | false ↦ λ is some. Contains-later place parent path (Contains-from_some parent path some)
+  | false ↦ λ is some. Contains-there place path parent (Contains-from_some parent path some)
 ]) refl some
 
 -- the path of an entry is one upwards, if that of the entry before it is

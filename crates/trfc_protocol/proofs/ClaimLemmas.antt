@@ -5,7 +5,7 @@ use Rattle.std.proofs.lemmas.Bool.{cases_Bool, cond-true, cond-false, and_parts,
 use Rattle.std.proofs.lemmas.List.Elements.{All-weaker, All-contains_itself, Contains-push_cases}
 use Rattle.std.proofs.lemmas.Option.{same_Some, none-some}
 use Rattle.ale_base.specs.Tid.{TidOf, is_tid}
-use Rattle.unit_core.proofs.MemberLemmas.{Contains-here, Contains-there, Contains-cons, Contains-nil, Contains-filter_back, list_any-Contains, find-Some, list_any-found}
+use Rattle.ale_base.proofs.MemberLemmas.{Contains-here, Contains-there, Contains-cons, Contains-nil, Contains-filter_back, list_any-Contains, find-Some, list_any-found}
 use Rattle.unit_core.proofs.TidLemmas.{is_tid-from, is_tid-true}
 use Rattle.trfc_protocol.specs.declared.held.Held.{Held}
 use Rattle.trfc_protocol.specs.declared.held.HeldKind.{HeldKind}

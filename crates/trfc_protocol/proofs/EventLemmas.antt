@@ -14,7 +14,7 @@ use Rattle.unit_core.specs.declared.records.Record.{Record}
 use Rattle.unit_core.specs.declared.records.Record.TheVariants as log
 use Rattle.unit_core.specs.Filters.{taken_by, executed_by, done_by, received, executed, done_in, ended_in, forgotten_in, mark_after, is_marked}
 use Rattle.unit_core.specs.Queues.{is_listed, is_among, unit_named, heads_inbound, heads_outbound}
-use Rattle.unit_core.proofs.MemberLemmas.{Contains-nil, Contains-filter_back}
+use Rattle.ale_base.proofs.MemberLemmas.{Contains-nil, Contains-filter_back}
 use Rattle.unit_core.proofs.TidLemmas.{is_tid-other, Contains-is_listed, is_among-Contains, Contains-is_among, unit_named-Some, same_unit}
 use Rattle.unit_core.proofs.OnceLemmas.{MayTake, MayExecute, MayJoin, WasTaken}
 use Rattle.trfc_protocol.specs.declared.world.World.{World}

@@ -16,8 +16,9 @@ use Rattle.unit_core.specs.declared.records.Record.{Record}
 use Rattle.unit_core.specs.declared.records.Record.TheVariants.{Commit, Dispatch, Done, Ended, Accept, Execute, Direct, Forget, Stop, Start, Retry, Put, App, Repost}
 use Rattle.unit_core.specs.Filters.{taken_by, executed_by, done_by, ended_by, forgotten_by, received, executed, done_in, mark_after, mark_of, is_marked}
 use Rattle.unit_core.specs.Queues.{is_listed, is_outstanding, unit_named, tids_of, heads_outbound, heads_inbound}
-use Rattle.unit_core.specs.Once.{IsPrefix, NoneTwice}
-use Rattle.unit_core.proofs.MemberLemmas.{find-longer}
+use Rattle.ale_base.specs.Prefix.{IsPrefix}
+use Rattle.unit_core.specs.Once.{NoneTwice}
+use Rattle.ale_base.proofs.MemberLemmas.{find-longer}
 use Rattle.unit_core.proofs.TidLemmas.{is_tid-other, is_listed-one, is_listed-append, unit_named-Some}
 use Rattle.unit_core.proofs.QueueLemmas.{heads_outbound-keeps, heads_inbound-keeps}
 use Rattle.unit_core.proofs.OnceLemmas.{MayTake, MayExecute, MayJoin, WasTaken, WasForgotten}

@@ -12,8 +12,10 @@ use Rattle.unit_core.specs.declared.records.Record.{Record}
 use Rattle.unit_core.specs.declared.records.Record.TheVariants.{Genesis}
 use Rattle.unit_core.specs.Filters.{taken_by, executed_by, done_by, received, done_in, mark_after}
 use Rattle.unit_core.specs.Queues.{is_listed, is_among, unit_named, tids_of, heads_outbound}
-use Rattle.unit_core.specs.Once.{IsPrefix, NoneTwice}
-use Rattle.unit_core.proofs.MemberLemmas.{find-longer, IsPrefix-same, Contains-nil}
+use Rattle.ale_base.specs.Prefix.{IsPrefix}
+use Rattle.unit_core.specs.Once.{NoneTwice}
+use Rattle.ale_base.proofs.MemberLemmas.{find-longer, Contains-nil}
+use Rattle.ale_base.proofs.PrefixLemmas.{IsPrefix-same}
 use Rattle.unit_core.proofs.TidLemmas.{is_tid-other, is_listed-one, unit_named-Some, unit_named-Contains}
 use Rattle.unit_core.proofs.QueueLemmas.{heads_outbound-keeps}
 use Rattle.unit_core.proofs.OnceLemmas.{MayJoin, at_each, Once-joins}

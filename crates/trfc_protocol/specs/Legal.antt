@@ -9,7 +9,7 @@ use Rattle.unit_core.specs.declared.records.Record.{Record}
 use Rattle.unit_core.specs.declared.records.Record.TheVariants.{Genesis, Commit, Dispatch, Mark, Done, Ended, Accept, Execute, Direct, Fail, Forget, Stop, Start, Retry, Put, App, Repost}
 use Rattle.unit_core.specs.Filters.{received, executed, done_in, ended_in, forgotten_in, is_marked}
 use Rattle.unit_core.specs.Queues.{is_listed, is_among, unit_named, is_outstanding, are_different, heads_outbound, heads_inbound}
-use Rattle.unit_core.specs.Once.{IsPrefix}
+use Rattle.ale_base.specs.Prefix.{IsPrefix}
 use Rattle.trfc_protocol.specs.Meaning.{Meaning}
 
 abbrev pub is_empty : {A : Type 0} → List A → Bool

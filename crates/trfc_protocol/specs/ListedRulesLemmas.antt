@@ -6,7 +6,7 @@ use Rattle.std.proofs.lemmas.List.{length-take}
 use Rattle.unit_core.specs.declared.ale_unit.AleUnit.{AleUnit}
 use Rattle.unit_core.specs.declared.records.Record.{Record}
 use Rattle.unit_core.specs.declared.records.Record.TheVariants.{Commit}
-use Rattle.unit_core.specs.Once.{IsPrefix}
+use Rattle.ale_base.specs.Prefix.{IsPrefix}
 use Rattle.unit_core.specs.Queues.{are_different}
 use Rattle.trfc_protocol.specs.Legal.{IsUnitAt, IsLawful, is_commit, may_follow}
 use Rattle.trfc_protocol.specs.ListedRules.{is_unit, are_units, are_lists, are_listed, list_of, is_commit_record, commits_of, listed_meaning}

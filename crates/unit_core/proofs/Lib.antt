@@ -1,4 +1,3 @@
-pub mod MemberLemmas
 pub mod TidLemmas
 pub mod QueueLemmas
 pub mod OnceLemmas

@@ -13,8 +13,10 @@ use Rattle.unit_core.specs.declared.queue.Queue.{Queue}
 use Rattle.unit_core.specs.declared.queue.Queue.TheVariants.{Outbound, Inbound}
 use Rattle.unit_core.specs.Filters.{taken_by, executed_by, done_by, ended_by, forgotten_by, received, executed, done_in, ended_in, forgotten_in}
 use Rattle.unit_core.specs.Queues.{is_listed, is_among, unit_named, tids_of, has_name, stands_in, in_queue, heads_outbound, heads_inbound}
-use Rattle.unit_core.specs.Once.{IsPrefix, NoneTwice, TakenOnce, TakenWasCommitted, TakenInOrder, executed_units, ExecutedInOrder, Once}
-use Rattle.unit_core.proofs.MemberLemmas.{Contains-map, Contains-map_back, Contains-filter, Contains-filter_back, IsPrefix-same, IsPrefix-trans, IsPrefix-filter, IsPrefix-Contains, IsPrefix-filter_map, filter_map-None, filter_map-Some, filter-kept, filter-left_out, filter_map-agree, filter_map-Contains, filter_map-Contains_back, find-longer}
+use Rattle.ale_base.specs.Prefix.{IsPrefix}
+use Rattle.unit_core.specs.Once.{NoneTwice, TakenOnce, TakenWasCommitted, TakenInOrder, executed_units, ExecutedInOrder, Once}
+use Rattle.ale_base.proofs.MemberLemmas.{Contains-map, Contains-map_back, Contains-filter, Contains-filter_back, filter_map-None, filter_map-Some, filter-kept, filter-left_out, filter_map-agree, filter_map-Contains, filter_map-Contains_back, find-longer}
+use Rattle.ale_base.proofs.PrefixLemmas.{IsPrefix-same, IsPrefix-trans, IsPrefix-filter, IsPrefix-Contains, IsPrefix-filter_map}
 use Rattle.unit_core.proofs.TidLemmas.{is_listed-Contains, Contains-is_listed, is_among-listed, is_among-Contains, Contains-is_among, unit_named-Some, unit_named-Contains, NoneTwice-push, same_unit}
 use Rattle.unit_core.proofs.QueueLemmas.{is_head-outbound, is_head-inbound, next_of_queue}
 

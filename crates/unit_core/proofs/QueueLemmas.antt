@@ -10,8 +10,10 @@ use Rattle.unit_core.specs.declared.ale_unit.AleUnit.{AleUnit}
 use Rattle.unit_core.specs.declared.queue.Queue.{Queue}
 use Rattle.unit_core.specs.declared.queue.Queue.TheVariants.{Outbound, Inbound}
 use Rattle.unit_core.specs.Queues.{is_listed, is_among, is_outstanding, tids_of, stands_in, in_queue, has_name, head_of, has_tid, is_head, heads_outbound, heads_inbound}
-use Rattle.unit_core.specs.Once.{NoneTwice, IsPrefix}
-use Rattle.unit_core.proofs.MemberLemmas.{Contains-here, Contains-there, Contains-filter_back, find-narrower, find-longer, find-filter, find-Some, list_any-found, list_all-Contains, list_all-weaker, IsPrefix-cons, IsPrefix-parts}
+use Rattle.ale_base.specs.Prefix.{IsPrefix}
+use Rattle.unit_core.specs.Once.{NoneTwice}
+use Rattle.ale_base.proofs.MemberLemmas.{Contains-here, Contains-there, Contains-filter_back, find-narrower, find-longer, find-filter, find-Some, list_any-found, list_all-Contains, list_all-weaker}
+use Rattle.ale_base.proofs.PrefixLemmas.{IsPrefix-cons, IsPrefix-parts}
 use Rattle.unit_core.proofs.TidLemmas.{is_tid-true, is_tid-from, is_listed-append, is_among-listed, is_among-Contains, same_unit, NoneTwice-filter}
 
 -- Of a list, the first element that is open is the next behind a front that has all that are not, and not the element

@@ -7,7 +7,7 @@ use Rattle.ale_base.specs.Tid.{TidOf, is_tid}
 use Rattle.unit_core.specs.declared.ale_unit.AleUnit.{AleUnit}
 use Rattle.unit_core.specs.Queues.{is_listed, is_among, unit_named, tids_of}
 use Rattle.unit_core.specs.Once.{NoneTwice}
-use Rattle.unit_core.proofs.MemberLemmas.{Contains-here, Contains-cons, Contains-nil, list_any-Contains, list_any-found, find-Some}
+use Rattle.ale_base.proofs.MemberLemmas.{Contains-here, Contains-cons, Contains-nil, list_any-Contains, list_any-found, find-Some}
 
 pub is_tid-same : (a : TidOf) → is_tid a a ≡ true
 is_tid-same a = and_from (a.system == a.system) (a.unit == a.unit) (eq-eqb a.system a.system refl) (eq-eqb a.unit a.unit refl)

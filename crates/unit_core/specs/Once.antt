@@ -7,11 +7,8 @@ use Rattle.unit_core.specs.declared.ale_unit.AleUnit.{AleUnit}
 use Rattle.unit_core.specs.declared.records.Record.{Record}
 use Rattle.unit_core.specs.declared.queue.Queue.TheVariants.{Outbound, Inbound}
 use Rattle.unit_core.specs.Filters.{received, executed, done_in, ended_in, forgotten_in}
+use Rattle.ale_base.specs.Prefix.{IsPrefix}
 use Rattle.unit_core.specs.Queues.{in_queue, tids_of, is_listed, unit_named}
-
--- a list goes on as another
-abbrev pub IsPrefix : {A : Type 0} → List A → List A → Type 0
-IsPrefix {A} front whole = (rest : List A) × (front ++ rest ≡ whole)
 
 -- no id stands twice
 abbrev pub NoneTwice : List TidOf → Type 0

@@ -7,7 +7,7 @@ use Rattle.idoc_tree.specs.Nodes.{forest_of}
 use Rattle.idoc_tree.specs.Valid.{families}
 use Rattle.idoc_tree.specs.Lacking.{first_lack}
 use Rattle.idoc_tree.specs.Builds.{IsFirstFault, SpellsInOrder}
-use Rattle.segment_defs.proofs.ListLemmas.{AllByRecursion-weaker}
+use Rattle.ale_base.proofs.ListLemmas.{AllByRecursion-weaker}
 use Rattle.idoc_record.specs.Parts.{told_length}
 use Rattle.idoc_tree.specs.declared.fault.SyntaxFault.TheVariants.{Missing}
 use Rattle.idoc_tree.proofs.LackLemmas.{first_lack-known}

@@ -6,7 +6,7 @@ use Rattle.idoc_tree.specs.Forest.{roots}
 use Rattle.idoc_tree.specs.Nodes.{forest_of}
 use Rattle.idoc_tree.specs.Valid.{Fits, IsOrdered}
 use Rattle.idoc_tree.specs.Growing.{siblings, has_later}
-use Rattle.segment_defs.proofs.ListLemmas.{AllByRecursion-at}
+use Rattle.ale_base.proofs.ListLemmas.{AllByRecursion-at}
 use Rattle.idoc_tree.proofs.FamilyLemmas.{none_later}
 use Rattle.idoc_tree.proofs.SpellsLemmas.{sibling_family}
 use Rattle.idoc_tree.proofs.SiblingLemmas.{AreLast-ordered}

@@ -1,7 +1,7 @@
 use Rattle.std.proofs.Common.{rules, tests}
 use Rattle.std.proofs.lemmas.Iterator.{YieldsList-from_slice, cases_from_all}
 use Rattle.segment_defs.specs.Version.{IsVersion}
-use Rattle.segment_defs.proofs.ListLemmas.{all-decided}
+use Rattle.ale_base.proofs.ListLemmas.{all-decided}
 use Rattle.segment_defs.proofs.rules.are_valid_versions.Goals as goal
 
 pub returns : goal.returns

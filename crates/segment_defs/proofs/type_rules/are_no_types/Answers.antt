@@ -4,7 +4,7 @@ use Rattle.std.proofs.lemmas.Iterator.{YieldsList-from_slice, cases_from_all}
 use Rattle.segment_defs.specs.Name.{same_name}
 use Rattle.segment_defs.specs.Definitions.{names_of}
 use Rattle.segment_defs.specs.declared.version.Version.{Version}
-use Rattle.segment_defs.proofs.ListLemmas.{all-decided, AllByRecursion-map, AllByRecursion-from_map}
+use Rattle.ale_base.proofs.ListLemmas.{all-decided, AllByRecursion-map, AllByRecursion-from_map}
 use Rattle.segment_defs.proofs.type_rules.are_no_types.Goals as goal
 
 pub returns : goal.returns

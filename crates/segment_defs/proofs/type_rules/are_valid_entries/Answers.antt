@@ -2,7 +2,7 @@ use Rattle.std.proofs.Common.{rules, tests}
 use Rattle.std.proofs.lemmas.Iterator.{YieldsList-from_slice, cases_from_all}
 use Rattle.segment_defs.specs.IdocType.{IsEntry}
 use Rattle.segment_defs.specs.declared.idoc_type.TypePlace.{TypePlace}
-use Rattle.segment_defs.proofs.ListLemmas.{all-decided}
+use Rattle.ale_base.proofs.ListLemmas.{all-decided}
 use Rattle.segment_defs.proofs.type_rules.are_valid_entries.Goals as goal
 
 pub returns : goal.returns

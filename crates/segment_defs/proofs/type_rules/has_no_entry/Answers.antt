@@ -2,7 +2,7 @@ use Rattle.std.proofs.Common.{not, nat_eq, rules, tests, Bool}
 use Rattle.std.proofs.lemmas.Iterator.{YieldsList-from_slice}
 use Rattle.std.proofs.lemmas.Iterator.Search.{all_from_yields_List}
 use Rattle.segment_defs.specs.declared.idoc_type.TypePlace.{TypePlace}
-use Rattle.segment_defs.proofs.ListLemmas.{differs-decided}
+use Rattle.ale_base.proofs.ListLemmas.{differs-decided}
 use Rattle.segment_defs.proofs.type_rules.has_no_entry.Goals as goal
 
 pub returns : goal.returns

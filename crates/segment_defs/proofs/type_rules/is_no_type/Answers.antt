@@ -4,7 +4,7 @@ use Rattle.std.proofs.lemmas.Iterator.{YieldsList-from_slice, cases_from_all}
 use Rattle.segment_defs.specs.Name.{same_name}
 use Rattle.segment_defs.specs.Definitions.{names_of}
 use Rattle.segment_defs.specs.declared.segment_type.SegmentType.{SegmentType}
-use Rattle.segment_defs.proofs.ListLemmas.{all-decided, AllByRecursion-flat_map}
+use Rattle.ale_base.proofs.ListLemmas.{all-decided, AllByRecursion-flat_map}
 use Rattle.segment_defs.proofs.type_rules.is_no_type.Goals as goal
 
 pub returns : goal.returns

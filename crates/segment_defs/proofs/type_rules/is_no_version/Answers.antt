@@ -3,7 +3,7 @@ use Rattle.std.proofs.lemmas.Iterator.{YieldsList-from_slice}
 use Rattle.std.proofs.lemmas.Iterator.Search.{all_from_yields_List}
 use Rattle.segment_defs.specs.Name.{same_name}
 use Rattle.segment_defs.specs.declared.version.Version.{Version}
-use Rattle.segment_defs.proofs.ListLemmas.{differs-decided}
+use Rattle.ale_base.proofs.ListLemmas.{differs-decided}
 use Rattle.segment_defs.proofs.type_rules.is_no_version.Goals as goal
 
 pub returns : goal.returns

@@ -109,17 +109,6 @@ IsDistinct-parts same (x ∷ xs) ys all =
 pub Contains-at : {A : Type 0} (xs : List A) (i : ℕ) (x : A) → slice_get xs i ≡ Some x → Contains xs x
 Contains-at xs i x here = (i, slice_get_within xs i x here, get_or_from_slice_get xs i x x here)
 
--- an element of a list is its first, or among those behind
-later_at : {A : Type 0} (x y : A) (xs : List A) (k : ℕ) → k < length (x ∷ xs) → slice_index_or (x ∷ xs) k y ≡ y → (x ≡ y) ⊎ Contains xs y
-later_at x y xs zero within same = inl same
-later_at x y xs (suc k) within same = inr (k, omega arith, same)
-
-pub Contains-cases : {A : Type 0} (x y : A) (xs : List A) → Contains (x ∷ xs) y → (x ≡ y) ⊎ Contains xs y
-Contains-cases x y xs has = later_at x y xs has.0 has.1 has.2
-
-pub Contains-later : {A : Type 0} (x y : A) (xs : List A) → Contains xs y → Contains (x ∷ xs) y
-Contains-later x y xs has = (suc has.0, omega (arith, has.1), has.2)
-
 -- at a place within the list there is an element
 pub slice_get-within : {A : Type 0} (xs : List A) (i : ℕ) → i < length xs → (x : A) × (slice_get xs i ≡ Some x)
 slice_get-within [] i within = absurd (omega arith)
