@@ -1,0 +1,93 @@
+//! Rules of case files, and why a case file is not read.
+
+use ale_base::OutOfMemory;
+use std::alloc::{AllocError, AllocFailed};
+
+/// A rule of case files that a line breaks, as it is printed. Each program has rules of its own beside those here.
+#[derive(Clone, Copy, Debug, PartialEq, Eq)]
+pub struct Rule(pub &'static str);
+
+impl Rule {
+    pub const NOT_NAMED_CASE: Rule = Rule("the name of a case file ends in .case");
+
+    pub const BLANK_AT_END: Rule = Rule("a line of a case file ends in no blank: write {blank}");
+
+    pub const ONE_TITLE: Rule = Rule("a case has one title, before all other items");
+
+    pub const NO_ITEM: Rule = Rule("a case has an item behind its title, and behind a mark");
+
+    pub const NO_BLOCK: Rule = Rule("lines that are indented belong to an item that has a block");
+
+    pub const OPEN_BRACE: Rule = Rule("a brace is not closed");
+
+    pub const BAD_NUMBER: Rule = Rule(
+        "a count is decimal digits, and a byte is # and a number up to 255",
+    );
+}
+
+/// Why a case file is not read.
+#[derive(Clone, Copy, Debug, PartialEq, Eq)]
+pub enum CaseFault {
+    /// The line of this number, from 1, breaks this rule.
+    Malformed { line: u32, rule: Rule },
+    OutOfMemory,
+}
+
+/// Why a line of a case file is not read.
+#[derive(Clone, Copy, Debug, PartialEq, Eq)]
+pub enum LineEnd {
+    Broken(Rule),
+    OutOfMemory,
+}
+
+impl LineEnd {
+    /// The same, at the line of this number.
+    pub fn at(self, line: u32) -> CaseFault {
+        match self {
+            LineEnd::Broken(rule) => CaseFault::Malformed { line, rule },
+            LineEnd::OutOfMemory => CaseFault::OutOfMemory,
+        }
+    }
+}
+
+impl From<Rule> for LineEnd {
+    fn from(rule: Rule) -> LineEnd {
+        LineEnd::Broken(rule)
+    }
+}
+
+impl From<AllocError> for LineEnd {
+    fn from(_error: AllocError) -> LineEnd {
+        LineEnd::OutOfMemory
+    }
+}
+
+impl<T: Drop> From<AllocFailed<T>> for LineEnd {
+    fn from(_error: AllocFailed<T>) -> LineEnd {
+        LineEnd::OutOfMemory
+    }
+}
+
+impl From<OutOfMemory> for LineEnd {
+    fn from(_error: OutOfMemory) -> LineEnd {
+        LineEnd::OutOfMemory
+    }
+}
+
+impl From<AllocError> for CaseFault {
+    fn from(_error: AllocError) -> CaseFault {
+        CaseFault::OutOfMemory
+    }
+}
+
+impl<T: Drop> From<AllocFailed<T>> for CaseFault {
+    fn from(_error: AllocFailed<T>) -> CaseFault {
+        CaseFault::OutOfMemory
+    }
+}
+
+impl From<OutOfMemory> for CaseFault {
+    fn from(_error: OutOfMemory) -> CaseFault {
+        CaseFault::OutOfMemory
+    }
+}
