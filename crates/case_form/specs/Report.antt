@@ -6,7 +6,7 @@ use Rattle.case_form.specs.declared.judging.CaseFile.{CaseFile}
 use Rattle.case_form.specs.declared.judging.JudgedCase.{JudgedCase}
 use Rattle.case_form.specs.declared.report.Report.{Report}
 use Rattle.case_form.specs.declared.verdict.Outcome.{Outcome}
-use Rattle.case_form.specs.Verdict.{passes}
+use Rattle.case_form.specs.Verdict.{passes, steps_of}
 
 -- this came of a case file, as it may by the suite
 pub record IsJudgementOf (comes_out : List ℕ → List ℕ → Outcome → Type 0) (file : CaseFile) (judged : JudgedCase) : Type 0 where
@@ -21,9 +21,13 @@ abbrev pub verdict : Bool → List ℕ
 verdict true = codes "ok "
 verdict false = codes "failed "
 
--- what is printed of a case: its details, and a line with its verdict and its name
+-- how many steps a case has, at the end of its line
+abbrev pub shown_steps : ℕ → List ℕ
+shown_steps steps = codes " (" ++ decimal steps ++ codes ")\n"
+
+-- what is printed of a case: its details, and a line with its verdict, its name and how many steps it has
 abbrev pub case_text : JudgedCase → List ℕ
-case_text judged = ((string_bytes judged.details ++ verdict (is_passed judged)) ++ string_bytes judged.name) ++ codes "\n"
+case_text judged = ((string_bytes judged.details ++ verdict (is_passed judged)) ++ string_bytes judged.name) ++ shown_steps (steps_of judged.outcome)
 
 -- the same of all cases, in order
 abbrev pub cases_text : List JudgedCase → List ℕ

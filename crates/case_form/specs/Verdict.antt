@@ -41,3 +41,8 @@ are_as_marked steps = not (length steps == 0) && list_all is_as_marked steps
 abbrev pub passes : Outcome → Bool
 passes (Malformed line rule) = false
 passes (Steps steps) = are_as_marked steps
+
+-- how many steps were made
+abbrev pub steps_of : Outcome → ℕ
+steps_of (Malformed line rule) = 0
+steps_of (Steps steps) = length steps

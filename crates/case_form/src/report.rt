@@ -1,7 +1,7 @@
 //! The report on all cases: a verdict each, and a last line that counts them.
 
 ghost use Rattle.std.specs.Prelude.{◌≡◌, ◌++◌, OnOk, IfOk, string_bytes, count_by};
-ghost use Rattle.case_form.specs.Report.{IsReportOn, case_text, cases_text, is_passed, last_line};
+ghost use Rattle.case_form.specs.Report.{IsReportOn, case_text, cases_text, is_passed, last_line, shown_steps};
 
 use crate::judging::{CaseFile, JudgedCase, Suite, judge_all};
 use ale_base::OutOfMemory;
@@ -24,7 +24,7 @@ pub fn run_cases<S: Suite>(
 {
     let judged = judge_all(alloc, suite, files)?;
     let mut text = String::new(alloc);
-    put_cases(&mut text, judged.as_slice())?;
+    put_cases(alloc, &mut text, judged.as_slice())?;
     let passed = count_of_passed(judged.as_slice());
     put_last_line(alloc, &mut text, passed, judged.len() - passed)?;
     Ok(Report {
@@ -44,17 +44,17 @@ fn count_of_passed(judged: &[JudgedCase]) -> usize
 }
 
 /// Appends the details and the verdict of each case.
-fn put_cases(text: &mut String, judged: &[JudgedCase]) -> Result<(), OutOfMemory>
+fn put_cases(alloc: Global, text: &mut String, judged: &[JudgedCase]) -> Result<(), OutOfMemory>
     ensures { OnOk result (string_bytes text.new ≡ string_bytes text.old ++ cases_text judged.now) }
 {
     for case in judged {
-        put_case(text, case)?;
+        put_case(alloc, text, case)?;
     }
     Ok(())
 }
 
 /// Appends the details and the verdict of a case.
-fn put_case(text: &mut String, judged: &JudgedCase) -> Result<(), OutOfMemory>
+fn put_case(alloc: Global, text: &mut String, judged: &JudgedCase) -> Result<(), OutOfMemory>
     ensures { OnOk result (string_bytes text.new ≡ string_bytes text.old ++ case_text judged.now) }
 {
     text.push_str(judged.details.as_str())?;
@@ -64,7 +64,15 @@ fn put_case(text: &mut String, judged: &JudgedCase) -> Result<(), OutOfMemory>
         "failed "
     })?;
     text.push_str(judged.name.as_str())?;
-    text.push_str("\n")?;
+    put_steps(alloc, text, judged.outcome.steps())
+}
+
+/// Appends how many steps a case has, at the end of its line.
+fn put_steps(alloc: Global, text: &mut String, steps: usize) -> Result<(), OutOfMemory>
+    ensures { OnOk result (string_bytes text.new ≡ string_bytes text.old ++ shown_steps steps) }
+{
+    let shown = format!(in alloc; " ({steps})\n")?;
+    text.push_str(shown.as_str())?;
     Ok(())
 }
 

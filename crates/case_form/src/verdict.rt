@@ -84,7 +84,17 @@ pub enum Outcome {
 }
 
 impl Outcome {
-    ghost use Rattle.case_form.specs.Verdict.{passes};
+    ghost use Rattle.case_form.specs.Verdict.{passes, steps_of};
+
+    /// How many steps were made.
+    pub fn steps(&self) -> usize
+        ensures { result ≡ steps_of self.now }
+    {
+        match self {
+            Outcome::Malformed { .. } => 0,
+            Outcome::Steps(steps) => steps.len(),
+        }
+    }
 
     /// Whether the case passes: it is well-formed, it has a step at least, and each is as it is marked.
     pub fn passes(&self) -> bool
