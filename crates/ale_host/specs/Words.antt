@@ -1,14 +1,10 @@
 -- The words of a command line.
-use Rattle.std.specs.Prelude.{ℕ, ◌+◌, ◌-◌, ◌*◌, List, [], ◌∷◌, length, fold, Bool, false, not, ◌&&◌, ◌==◌, nat_le, nat_eq, codes, Option, Some, None, if◌then◌else◌}
+use Rattle.std.specs.Prelude.{ℕ, ◌+◌, ◌-◌, ◌*◌, List, [], ◌∷◌, length, fold, Bool, false, not, ◌&&◌, ◌==◌, nat_le, codes, Option, Some, None, if◌then◌else◌}
 use Rattle.std.specs.Char.{is_ascii_digit}
 use Rattle.std.specs.List.{list_all}
-use Rattle.std.specs.Cmp.Lexicographic.{pointwise}
+use Rattle.ale_base.specs.Text.{is_text}
 use Rattle.ale_host.specs.declared.words.Form.{Form}
 use Rattle.ale_host.specs.declared.words.Form.TheVariants.{Pass, Run, Load}
-
--- the two words are the same
-abbrev pub is_word : List ℕ → List ℕ → Bool
-is_word word other = pointwise nat_eq word other
 
 -- the number that decimal digits spell
 abbrev pub decimal_value : List ℕ → ℕ
@@ -21,15 +17,15 @@ is_count most (b ∷ bs) = not (b == 48) && (nat_le (length (b ∷ bs)) 4 && (li
 
 -- `pass DOCS`
 abbrev pub pass_form : List ℕ → Option Form
-pass_form command = if is_word command (codes "pass") then Some Pass else None
+pass_form command = if is_text command (codes "pass") then Some Pass else None
 
 -- `load N WORKERS`, with N from 1 to 4,096 and 1 to 16 workers
 abbrev pub load_form : List ℕ → List ℕ → List ℕ → Option Form
-load_form command masters workers = if is_word command (codes "load") && (is_count 4096 masters && is_count 16 workers) then Some Load else None
+load_form command masters workers = if is_text command (codes "load") && (is_count 4096 masters && is_count 16 workers) then Some Load else None
 
 -- `run MODEL DOCS SCRIPT WORKERS`, with 1 to 16 workers
 abbrev pub run_form : List ℕ → List ℕ → Option Form
-run_form command workers = if is_word command (codes "run") && is_count 16 workers then Some Run else None
+run_form command workers = if is_text command (codes "run") && is_count 16 workers then Some Run else None
 
 -- the form that the words have, if they have one
 abbrev pub form_of : List (List ℕ) → Option Form

@@ -1,3 +1,5 @@
+//! The documents of a file, grown line by line.
+
 ghost use Rattle.std.specs.Prelude.{◌≡◌, ◌≢◌, ◌↔◌, ◌<◌, length, Contains, IsTrue, OnOk, OnErr};
 ghost use Rattle.ale_host.specs.declared.line_fault.LineFault.{LineFault};
 ghost use Rattle.ale_host.specs.DocumentFile.{AddsToLast, IsLastFull, IsControlKind, is_blank, fault_of};

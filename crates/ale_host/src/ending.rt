@@ -1,3 +1,5 @@
+//! How a run ends: its status and its text.
+
 ghost use Rattle.std.specs.Prelude.{◌≡◌, ◌≢◌, ℕ, List, ◌++◌, codes, OnOk, IfOk};
 ghost use Rattle.std.specs.Fmt.{decimal};
 ghost use Rattle.ale_host.specs.Ending.{IsPrintable, status_of, text_of, shown_reason, shown_fault};

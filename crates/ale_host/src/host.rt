@@ -1,3 +1,5 @@
+//! The top call. Nothing else reads a file or puts a text.
+
 ghost use Rattle.std.specs.Prelude.{◌≡◌, ◌≢◌, ℕ, List, ◌≤◌, map, string_bytes, IfOk};
 ghost use Rattle.std.specs.Io.KnownBytes.{Appends};
 ghost use Rattle.ale_base.specs.Faults.{Rose};

@@ -18,6 +18,3 @@ pub use documents::Document;
 pub use ending::{Ending, NotRead};
 pub use host::{aleflow, out_of_memory};
 pub use line_fault::LineFault;
-
-#[cfg(test)]
-mod tests;

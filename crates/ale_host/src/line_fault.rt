@@ -1,3 +1,5 @@
+//! What is wrong with a line of a document file.
+
 ghost use Rattle.std.specs.Prelude.{◌≡◌};
 ghost use Rattle.ale_host.specs.DocumentFile.{fault_of};
 

@@ -1,3 +1,5 @@
+//! The lines of a file, cut one by one.
+
 ghost use Rattle.std.specs.Prelude.{◌≡◌, ◌+◌, ◌<◌, ◌∷◌, length};
 ghost use Rattle.ale_host.specs.Lines.{lines_of};
 

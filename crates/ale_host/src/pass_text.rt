@@ -1,3 +1,5 @@
+//! The text of the documents of a file.
+
 ghost use Rattle.std.specs.Prelude.{◌≡◌, ℕ, ◌≤◌, List, ◌++◌, length, codes, OnOk, IfOk};
 ghost use Rattle.ale_host.specs.PassText.{shown, shown_field, shown_unit, shown_address, shown_count, line_of, pass_text};
 

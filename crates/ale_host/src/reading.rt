@@ -1,3 +1,5 @@
+//! All lines of a file as documents, or the first that is not read.
+
 ghost use Rattle.std.specs.Prelude.{◌≡◌, ℕ, IfOk, Err};
 ghost use Rattle.ale_host.specs.declared.line_fault.LineFault.{LineFault};
 ghost use Rattle.ale_host.specs.Lines.{lines_of};

@@ -1,5 +1,8 @@
+//! The forms of the words of a command line.
+
 ghost use Rattle.std.specs.Prelude.{◌≡◌, ◌<◌, ◌≤◌, map, string_bytes};
-ghost use Rattle.ale_host.specs.Words.{form_of, pass_form, load_form, run_form, is_word, is_count};
+ghost use Rattle.ale_base.specs.Text.{is_text};
+ghost use Rattle.ale_host.specs.Words.{form_of, pass_form, load_form, run_form, is_count};
 
 /// What the words of a command line ask for.
 #[derive(Clone, Copy, Debug, PartialEq, Eq)]
@@ -34,13 +37,13 @@ pub fn form_of(words: &[String]) -> Option<Form>
 fn pass_form(command: &String) -> Option<Form>
     ensures { result ≡ pass_form (string_bytes command.now) }
 {
-    is_word(command, b"pass").then_some(Form::Pass)
+    is_text(command, b"pass").then_some(Form::Pass)
 }
 
 fn load_form(command: &String, masters: &String, workers: &String) -> Option<Form>
     ensures { result ≡ load_form (string_bytes command.now) (string_bytes masters.now) (string_bytes workers.now) }
 {
-    let is_load = is_word(command, b"load")
+    let is_load = is_text(command, b"load")
         && is_count(masters.as_bytes(), MAX_MASTERS)
         && is_count(workers.as_bytes(), MAX_WORKERS);
     is_load.then_some(Form::Load)
@@ -49,12 +52,12 @@ fn load_form(command: &String, masters: &String, workers: &String) -> Option<For
 fn run_form(command: &String, workers: &String) -> Option<Form>
     ensures { result ≡ run_form (string_bytes command.now) (string_bytes workers.now) }
 {
-    let is_run = is_word(command, b"run") && is_count(workers.as_bytes(), MAX_WORKERS);
+    let is_run = is_text(command, b"run") && is_count(workers.as_bytes(), MAX_WORKERS);
     is_run.then_some(Form::Run)
 }
 
-fn is_word(word: &String, other: &[u8]) -> bool
-    ensures { result ≡ is_word (string_bytes word.now) other.now }
+fn is_text(word: &String, other: &[u8]) -> bool
+    ensures { result ≡ is_text (string_bytes word.now) other.now }
 {
     word.as_bytes() == other
 }

@@ -1,4 +1,6 @@
-ghost use Rattle.std.specs.Prelude.{◌≡◌, [], ◌++◌, ◌+◌, ◌<◌, ◌≤◌, length, IfSome, OnOk, IsErrOf};
+//! The files of the system. They tell nothing of what they hold.
+
+ghost use Rattle.std.specs.Prelude.{◌≡◌, [], ◌++◌, ◌+◌, ◌<◌, ◌≤◌, length, IfSome, OnOk, IsErrOf, IsTrue, IsFalse};
 ghost use Rattle.std.specs.Io.{StartsWith};
 
 use ale_io::{FileEnd, Files};
@@ -32,8 +34,7 @@ impl<'a, R: rt::Files> DirFiles<'a, R> {
         }
         match fs::open(self.rt, name) {
             Ok(file) => append_all(file, limit, into),
-            Err(error) if error.kind() == ErrorKind::NotFound => Err(FileEnd::Missing),
-            Err(_) => Err(FileEnd::Failed),
+            Err(error) => Err(end_of_opening(error.kind() == ErrorKind::NotFound)),
         }
     }
 }
@@ -55,6 +56,18 @@ impl<R: rt::Files> Files for DirFiles<'_, R> {
                 Err(end)
             }
         }
+    }
+}
+
+/// Why a file that can't be opened is not read: there is none of this name, or the system failed.
+fn end_of_opening(is_not_found: bool) -> FileEnd
+    ensures missing { IsTrue is_not_found → result ≡ FileEnd.Missing }
+    ensures failed { IsFalse is_not_found → result ≡ FileEnd.Failed }
+{
+    if is_not_found {
+        FileEnd::Missing
+    } else {
+        FileEnd::Failed
     }
 }
 

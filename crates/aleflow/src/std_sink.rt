@@ -1,9 +1,11 @@
+//! Standard output. It tells nothing of what it holds.
+
 ghost use Rattle.std.specs.Prelude.{◌≡◌};
 
 use ale_io::{Sink, SinkFailed};
 use std::io::Write;
 
-/// Standard output, or another writer. It tells nothing of what it holds.
+/// Standard output, or another writer that keeps nothing back until it is flushed. It tells nothing of what it holds.
 #[derive(Drop)]
 pub struct StdSink<W> {
     out: W,
@@ -45,7 +47,7 @@ impl<W: Write> Sink for StdSink<W> {
         // What the writer holds grew by the bytes, where it tells.
         ensures written { OnOk result (Appends (W.contents self.old.out) (W.contents self.new.out) bytes.now) }
     {
-        if self.out.write_all(bytes).is_err() || self.out.flush().is_err() {
+        if self.out.write_all(bytes).is_err() {
             self.faults = self.faults.saturating_add(1);
             return Err(SinkFailed);
         }

@@ -1,3 +1,5 @@
+//! What no contract can say of a real folder and a real device.
+
 use crate::dir_files::DirFiles;
 use crate::std_sink::StdSink;
 use ale_io::{FileEnd, Files, Sink, SinkFailed};

@@ -56,11 +56,7 @@ pub fn read_items(alloc: Global, file: &str, bytes: &[u8]) -> Result<Vec<Item>, 
         reader.line = reader.line.saturating_add(1);
         reader.read_line(line).map_err(|end| end.at(reader.line))?;
     }
-    if reader.differs || reader.items.is_empty() {
-        return Err(LineEnd::Broken(Rule::NO_ITEM).at(reader.line));
-    }
-    let Reader { items, .. } = reader;
-    Ok(items)
+    reader.finish()
 }
 
 /// What was read of a case file.
@@ -76,6 +72,24 @@ struct Reader {
 }
 
 impl Reader {
+    /// The items, where a title and an item are there and no mark is left over.
+    fn finish(self) -> Result<Vec<Item>, CaseFault> {
+        let Reader {
+            line,
+            is_titled,
+            differs,
+            items,
+            ..
+        } = self;
+        if !is_titled {
+            return Err(LineEnd::Broken(Rule::ONE_TITLE).at(line));
+        }
+        if differs || items.is_empty() {
+            return Err(LineEnd::Broken(Rule::NO_ITEM).at(line));
+        }
+        Ok(items)
+    }
+
     fn read_line(&mut self, line: &[u8]) -> Result<(), LineEnd> {
         if line.is_empty() || line.starts_with(b"#") {
             return Ok(());

@@ -1,18 +1,18 @@
-use crate::fault::{LineEnd, Rule};
+//! The lines of a file, as a case writes them.
+
 use crate::records::{control_record, data_record};
-use crate::text::{first_word, number_of, put_text, put_times};
+use crate::rules;
 use ale_base::trimmed;
+use case_form::{LineEnd, first_word, number_of, put_text, put_times};
 use std::alloc::Global;
 
-/// A file of a case.
+/// What a file of a case holds.
 #[derive(Drop)]
 pub struct FileText {
-    /// Its name.
-    pub name: Vec<u8>,
     /// What it holds so far.
-    pub bytes: Vec<u8>,
+    bytes: Vec<u8>,
     /// The repetition that was begun.
-    pub repeat: Option<Repeat>,
+    repeat: Option<Repeat>,
 }
 
 /// The bytes of a file from `start` on are to be repeated.
@@ -23,6 +23,23 @@ pub struct Repeat {
 }
 
 impl FileText {
+    /// It holds nothing yet.
+    pub(crate) fn new(alloc: Global) -> FileText {
+        FileText {
+            bytes: Vec::new(alloc),
+            repeat: None,
+        }
+    }
+
+    /// All that it holds, unless a repetition has no end.
+    pub(crate) fn whole(self) -> Result<Vec<u8>, LineEnd> {
+        let FileText { bytes, repeat } = self;
+        match repeat {
+            Some(_) => Err(rules::BAD_REPEAT.into()),
+            None => Ok(bytes),
+        }
+    }
+
     /// Adds what a line of the file's block stands for.
     pub(crate) fn add(&mut self, alloc: Global, text: &[u8]) -> Result<(), LineEnd> {
         match first_word(text) {
@@ -34,7 +51,7 @@ impl FileText {
 
     fn begin_repeat(&mut self, count: &[u8]) -> Result<(), LineEnd> {
         if self.repeat.is_some() {
-            return Err(Rule::BadRepeat.into());
+            return Err(rules::BAD_REPEAT.into());
         }
         self.repeat = Some(Repeat {
             count: number_of(count)?,
@@ -45,7 +62,7 @@ impl FileText {
 
     fn end_repeat(&mut self, alloc: Global) -> Result<(), LineEnd> {
         let Some(Repeat { count, start }) = self.repeat.take() else {
-            return Err(Rule::BadRepeat.into());
+            return Err(rules::BAD_REPEAT.into());
         };
         let part: Vec<u8> = self.bytes.iter().skip(start).copied().collect(alloc)?;
         self.bytes.truncate(start);
@@ -84,7 +101,7 @@ fn put_content(alloc: Global, bytes: &mut Vec<u8>, text: &[u8]) -> Result<(), Li
         (b"control", fields) => put_short(bytes, control_record(alloc, fields)?.as_slice()),
         (b"data", fields) => put_short(bytes, data_record(alloc, fields)?.as_slice()),
         (b"full", record) => put_full(alloc, bytes, record),
-        _ => Err(Rule::NoSuchLine.into()),
+        _ => Err(rules::NO_SUCH_LINE.into()),
     }
 }
 
@@ -99,7 +116,7 @@ fn put_full(alloc: Global, bytes: &mut Vec<u8>, text: &[u8]) -> Result<(), LineE
     let record = match first_word(text) {
         (b"control", fields) => control_record(alloc, fields)?,
         (b"data", fields) => data_record(alloc, fields)?,
-        _ => return Err(Rule::NoSuchLine.into()),
+        _ => return Err(rules::NO_SUCH_LINE.into()),
     };
     bytes.extend_from_slice(record.as_slice())?;
     Ok(())

@@ -1,228 +1,243 @@
-use crate::case::{Broken, Case, Output, Relation, Run, Step};
-use crate::fault::{CaseFault, LineEnd, Rule};
+//! Case files as cases.
+
+use crate::case::{Case, Output, Part, Run, Words};
 use crate::lines::FileText;
-use crate::text::{first_word, number_of, put_text};
+use crate::rules;
+use ale_base::Items;
+use ale_io::StoredFile;
+use case_form::{
+    CaseFault, Item, LineEnd, Relation, Rule, first_word, number_of, put_text, read_items,
+};
 use std::alloc::Global;
 use std::str;
 
 /// The case that the file of this name holds, or the first line that breaks a rule.
-pub(crate) fn read_case(alloc: Global, name: &str, bytes: &[u8]) -> Result<Case, CaseFault> {
-    if !name.ends_with(".case") {
-        return Err(LineEnd::Broken(Rule::NotNamedCase).at(1));
-    }
+pub(crate) fn read_case(alloc: Global, file: &str, bytes: &[u8]) -> Result<Case, CaseFault> {
     let mut reader = Reader {
         alloc,
-        is_titled: false,
-        steps: Vec::new(alloc),
+        files: Items::new(alloc),
+        parts: Vec::new(alloc),
+        run: None,
+        line: 1,
     };
-    let mut number: u32 = 0;
-    let lines = bytes.strip_suffix(b"\n").unwrap_or(bytes);
-    for line in lines.split(|byte| *byte == b'\n') {
-        number = number.saturating_add(1);
-        reader.read_line(line).map_err(|end| end.at(number))?;
+    for item in read_items(alloc, file, bytes)? {
+        reader.line = item.line;
+        reader.read_item(item)?;
     }
-    reader.finish().map_err(|end| end.at(number))
+    reader.finish()
 }
 
-/// What was read of a case file.
+/// A run whose items are being read.
+#[derive(Drop)]
+struct BegunRun {
+    line: u32,
+    differs: bool,
+    words: Words,
+    failing_reads: Items<u64>,
+    failing_puts: Items<u64>,
+    status: Option<u8>,
+    outputs: Vec<Output>,
+}
+
+impl BegunRun {
+    /// The run, or the rule that it breaks.
+    fn whole(self) -> Result<Run, CaseFault> {
+        let BegunRun {
+            line,
+            differs,
+            words,
+            failing_reads,
+            failing_puts,
+            status,
+            outputs,
+        } = self;
+        match status {
+            Some(status) if !outputs.is_empty() => Ok(Run {
+                line,
+                differs,
+                words,
+                failing_reads,
+                failing_puts,
+                status,
+                outputs,
+            }),
+            _ => Err(broken(line, rules::STATUS_AND_PRINTS)),
+        }
+    }
+}
+
+/// What was read of a case.
 #[derive(Drop)]
 struct Reader {
     alloc: Global,
-    is_titled: bool,
-    steps: Vec<Step>,
+    files: Items<StoredFile>,
+    parts: Vec<Part>,
+    run: Option<BegunRun>,
+    /// The line of the last item.
+    line: u32,
 }
 
 impl Reader {
-    fn read_line(&mut self, line: &[u8]) -> Result<(), LineEnd> {
-        if line.is_empty() || line.starts_with(b"#") {
-            return Ok(());
-        }
-        if line.ends_with(b" ") {
-            return Err(Rule::BlankAtEnd.into());
-        }
-        match line.strip_prefix(b"  ") {
-            Some(text) => self.read_block_line(text),
-            None => self.read_item(line),
+    fn read_item(&mut self, item: Item) -> Result<(), CaseFault> {
+        match item.word.as_slice() {
+            b"file" => self.read_file(&item),
+            b"run" | b"wordless" => self.begin_run(&item),
+            b"failing" => self.read_failing(&item),
+            b"status" => self.read_status(&item),
+            b"prints" => self.read_prints(&item),
+            b"broken" => self.read_broken(item),
+            _ => Err(broken(item.line, rules::NO_SUCH_ITEM)),
         }
     }
 
-    /// A line of a file, of what is printed, or of a broken text.
-    fn read_block_line(&mut self, text: &[u8]) -> Result<(), LineEnd> {
+    fn read_file(&mut self, item: &Item) -> Result<(), CaseFault> {
+        self.end_run()?;
+        unmarked(item)?;
         let alloc = self.alloc;
-        match self.steps.last_mut() {
-            Some(Step::File(file)) => file.add(alloc, text),
-            Some(Step::Run(run)) => match run.outputs.last_mut() {
-                Some(output) => put_line(&mut output.text, text),
-                None => Err(Rule::NoBlock.into()),
-            },
-            Some(Step::Broken(broken)) => put_line(&mut broken.text, text),
-            None => Err(Rule::NoBlock.into()),
+        let mut name = Vec::new(alloc);
+        put_text(&mut name, item.rest.as_slice()).map_err(|end| end.at(item.line))?;
+        if name.is_empty() || item.rest.contains(&b' ') || self.has_file(name.as_slice()) {
+            return Err(broken(item.line, rules::ONE_FILE));
         }
-    }
-
-    fn read_item(&mut self, line: &[u8]) -> Result<(), LineEnd> {
-        let (item, rest) = first_word(line);
-        match item {
-            b"title" => self.read_title(rest),
-            b"file" => self.read_file(rest),
-            b"run" => self.read_run(rest),
-            b"failing" => self.read_failing(rest),
-            b"status" => self.read_status(rest),
-            b"prints" => self.read_prints(rest),
-            b"broken" => self.read_broken(rest),
-            _ => Err(Rule::NoSuchItem.into()),
+        let mut text = FileText::new(alloc);
+        for line in &item.block {
+            text.add(alloc, line.text.as_slice())
+                .map_err(|end| end.at(line.line))?;
         }
-    }
-
-    fn read_title(&mut self, text: &[u8]) -> Result<(), LineEnd> {
-        if self.is_titled || text.is_empty() {
-            return Err(Rule::OneTitle.into());
-        }
-        self.is_titled = true;
-        Ok(())
-    }
-
-    fn read_file(&mut self, name: &[u8]) -> Result<(), LineEnd> {
-        self.end_step()?;
-        let mut bytes = Vec::new(self.alloc);
-        put_text(&mut bytes, name)?;
-        if name.is_empty() || name.contains(&b' ') || self.has_file(bytes.as_slice()) {
-            return Err(Rule::OneFile.into());
-        }
-        let file = FileText {
-            name: bytes,
-            bytes: Vec::new(self.alloc),
-            repeat: None,
-        };
-        self.steps.push(Step::File(file))?;
-        Ok(())
-    }
-
-    fn has_file(&self, name: &[u8]) -> bool {
-        self.steps.iter().any(|step| match step {
-            Step::File(file) => file.name.as_slice() == name,
-            Step::Run(_) | Step::Broken(_) => false,
-        })
-    }
-
-    fn read_run(&mut self, words: &[u8]) -> Result<(), LineEnd> {
-        self.end_step()?;
-        let run = Run {
-            words: words_of(self.alloc, words)?,
-            failing_reads: Vec::new(self.alloc),
-            failing_puts: Vec::new(self.alloc),
-            status: None,
-            outputs: Vec::new(self.alloc),
-        };
-        self.steps.push(Step::Run(run))?;
-        Ok(())
-    }
-
-    /// The run that the item belongs to.
-    fn run(&mut self) -> Result<&mut Run, LineEnd> {
-        match self.steps.last_mut() {
-            Some(Step::Run(run)) => Ok(run),
-            _ => Err(Rule::OutOfOrder.into()),
-        }
-    }
-
-    fn read_failing(&mut self, text: &[u8]) -> Result<(), LineEnd> {
-        let run = self.run()?;
-        if run.status.is_some() {
-            return Err(Rule::OutOfOrder.into());
-        }
-        let (kind, number) = first_word(text);
-        let number = u64::from(number_of(number)?);
-        if number == 0 {
-            return Err(Rule::NoSuchCall.into());
-        }
-        match kind {
-            b"read" => run.failing_reads.push(number)?,
-            b"put" => run.failing_puts.push(number)?,
-            _ => return Err(Rule::NoSuchCall.into()),
-        }
-        Ok(())
-    }
-
-    fn read_status(&mut self, text: &[u8]) -> Result<(), LineEnd> {
-        let run = self.run()?;
-        if run.status.is_some() {
-            return Err(Rule::StatusAndPrints.into());
-        }
-        match u8::try_from(number_of(text)?) {
-            Ok(status) => {
-                run.status = Some(status);
-                Ok(())
-            }
-            Err(_) => Err(Rule::StatusAndPrints.into()),
-        }
-    }
-
-    fn read_prints(&mut self, text: &[u8]) -> Result<(), LineEnd> {
-        let alloc = self.alloc;
-        let run = self.run()?;
-        if run.status.is_none() {
-            return Err(Rule::OutOfOrder.into());
-        }
-        let relation = match text {
-            b"" => Relation::Whole,
-            b"a front of" => Relation::FrontOf,
-            b"first" => Relation::First,
-            b"last" => Relation::Last,
-            _ => return Err(Rule::NoSuchPrints.into()),
-        };
-        run.outputs.push(Output {
-            relation,
-            text: Vec::new(alloc),
+        let bytes = text.whole().map_err(|end| end.at(item.line))?;
+        self.files.push(StoredFile {
+            name: Items::from_vec(name),
+            bytes: Items::from_vec(bytes),
         })?;
         Ok(())
     }
 
-    fn read_broken(&mut self, text: &[u8]) -> Result<(), LineEnd> {
-        self.end_step()?;
-        let (line, rule) = first_word(text);
-        let broken = Broken {
-            line: number_of(line)?,
-            rule: Vec::from_slice(self.alloc, rule)?,
-            text: Vec::new(self.alloc),
+    fn has_file(&self, name: &[u8]) -> bool {
+        self.files.iter().any(|file| file.name.as_slice() == name)
+    }
+
+    fn begin_run(&mut self, item: &Item) -> Result<(), CaseFault> {
+        self.end_run()?;
+        unblocked(item)?;
+        let alloc = self.alloc;
+        let words = if item.word.as_slice() == b"run".as_slice() {
+            Words::Given(words_of(alloc, item.rest.as_slice()).map_err(|end| end.at(item.line))?)
+        } else {
+            Words::Wanting
         };
-        self.steps.push(Step::Broken(broken))?;
+        self.run = Some(BegunRun {
+            line: item.line,
+            differs: item.differs,
+            words,
+            failing_reads: Items::new(alloc),
+            failing_puts: Items::new(alloc),
+            status: None,
+            outputs: Vec::new(alloc),
+        });
         Ok(())
     }
 
-    /// Sees that the step that was read last lacks nothing, and that there is a title.
-    fn end_step(&self) -> Result<(), LineEnd> {
-        if !self.is_titled {
-            return Err(Rule::OneTitle.into());
+    /// Adds the run that was begun, if there is one.
+    fn end_run(&mut self) -> Result<(), CaseFault> {
+        if let Some(run) = self.run.take() {
+            self.parts.push(Part::Run(run.whole()?))?;
         }
-        match self.steps.last() {
-            Some(Step::File(file)) if file.repeat.is_some() => Err(Rule::BadRepeat.into()),
-            Some(Step::Run(run)) if run.status.is_none() || run.outputs.is_empty() => {
-                Err(Rule::StatusAndPrints.into())
-            }
-            _ => Ok(()),
+        Ok(())
+    }
+
+    /// The run that an item belongs to, whose status was read or not.
+    fn run(&mut self, item: &Item, has_status: bool) -> Result<&mut BegunRun, CaseFault> {
+        unmarked(item)?;
+        match self.run.as_mut() {
+            Some(run) if run.status.is_some() == has_status => Ok(run),
+            _ => Err(broken(item.line, rules::OUT_OF_ORDER)),
         }
     }
 
-    fn finish(self) -> Result<Case, LineEnd> {
-        self.end_step()?;
+    fn read_failing(&mut self, item: &Item) -> Result<(), CaseFault> {
+        unblocked(item)?;
+        let run = self.run(item, false)?;
+        let (kind, number) = first_word(item.rest.as_slice());
+        let number = u64::from(number_of(number).map_err(|end| end.at(item.line))?);
+        match kind {
+            b"read" if number > 0 => run.failing_reads.push(number)?,
+            b"put" if number > 0 => run.failing_puts.push(number)?,
+            _ => return Err(broken(item.line, rules::NO_SUCH_CALL)),
+        }
+        Ok(())
+    }
+
+    fn read_status(&mut self, item: &Item) -> Result<(), CaseFault> {
+        unblocked(item)?;
+        let run = self.run(item, false)?;
+        let number = number_of(item.rest.as_slice()).map_err(|end| end.at(item.line))?;
+        match u8::try_from(number) {
+            Ok(status) => {
+                run.status = Some(status);
+                Ok(())
+            }
+            Err(_) => Err(broken(item.line, rules::STATUS_AND_PRINTS)),
+        }
+    }
+
+    fn read_prints(&mut self, item: &Item) -> Result<(), CaseFault> {
+        let text = item.text(self.alloc)?;
+        let run = self.run(item, true)?;
+        let relation = match item.rest.as_slice() {
+            b"" => Relation::Whole,
+            b"a front of" => Relation::FrontOf,
+            b"first" => Relation::First,
+            b"last" => Relation::Last,
+            _ => return Err(broken(item.line, rules::NO_SUCH_PRINTS)),
+        };
+        run.outputs.push(Output { relation, text })?;
+        Ok(())
+    }
+
+    fn read_broken(&mut self, item: Item) -> Result<(), CaseFault> {
+        self.end_run()?;
+        let (line, _) = first_word(item.rest.as_slice());
+        number_of(line).map_err(|end| end.at(item.line))?;
+        self.parts.push(Part::Broken(item))?;
+        Ok(())
+    }
+
+    fn finish(mut self) -> Result<Case, CaseFault> {
+        let is_run = self.run.is_some();
+        self.end_run()?;
         let Reader {
-            alloc: _,
-            is_titled: _,
-            steps,
+            files,
+            parts,
+            line,
+            ..
         } = self;
-        match steps.last() {
-            Some(Step::Run(_) | Step::Broken(_)) => Ok(Case { steps }),
-            _ => Err(Rule::NoRun.into()),
+        match parts.last() {
+            Some(Part::Broken(item)) if item.line == line => Ok(Case { files, parts }),
+            Some(_) if is_run => Ok(Case { files, parts }),
+            _ => Err(broken(line, rules::NO_RUN)),
         }
     }
 }
 
-/// Appends what a text stands for, and ends the line.
-fn put_line(bytes: &mut Vec<u8>, text: &[u8]) -> Result<(), LineEnd> {
-    put_text(bytes, text)?;
-    bytes.push(b'\n')?;
+/// A line breaks a rule.
+fn broken(line: u32, rule: Rule) -> CaseFault {
+    LineEnd::Broken(rule).at(line)
+}
+
+/// Sees that an item is not marked.
+fn unmarked(item: &Item) -> Result<(), CaseFault> {
+    if item.differs {
+        return Err(broken(item.line, rules::NO_MARK));
+    }
     Ok(())
+}
+
+/// Sees that an item has no block.
+fn unblocked(item: &Item) -> Result<(), CaseFault> {
+    match item.block.first() {
+        Some(line) => Err(broken(line.line, Rule::NO_BLOCK)),
+        None => Ok(()),
+    }
 }
 
 /// The words of a command line, between blanks. `""` is the empty word.
@@ -238,7 +253,7 @@ fn words_of(alloc: Global, text: &[u8]) -> Result<Vec<String>, LineEnd> {
         }
         match str::from_utf8(bytes.as_slice()) {
             Ok(word) => words.push(String::from_str(alloc, word)?)?,
-            Err(_) => return Err(Rule::NotUtf8.into()),
+            Err(_) => return Err(rules::NOT_UTF8.into()),
         }
     }
     Ok(words)

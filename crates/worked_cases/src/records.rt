@@ -1,5 +1,7 @@
-use crate::fault::{LineEnd, Rule};
-use crate::text::{cut, first_word, put_text};
+//! Records by the names of their fields.
+
+use crate::rules;
+use case_form::{LineEnd, cut, first_word, put_text};
 use idoc_record::{Control, ControlField, Data, Span};
 use std::alloc::Global;
 
@@ -123,8 +125,8 @@ fn put_fields(
         .split(|byte| *byte == b' ')
         .filter(|field| !field.is_empty())
     {
-        let (name, text) = cut(field, b'=').ok_or(Rule::NoSuchField)?;
-        let place = kind.span(name).ok_or(Rule::NoSuchField)?;
+        let (name, text) = cut(field, b'=').ok_or(rules::NO_SUCH_FIELD)?;
+        let place = kind.span(name).ok_or(rules::NO_SUCH_FIELD)?;
         put_field_text(alloc, record, place, text)?;
     }
     Ok(())
@@ -140,7 +142,7 @@ fn put_field_text(
     let mut bytes = Vec::new(alloc);
     put_text(&mut bytes, text)?;
     if bytes.len() > place.length {
-        return Err(Rule::FieldTooLong.into());
+        return Err(rules::FIELD_TOO_LONG.into());
     }
     put_field(record.as_mut_slice(), place, bytes.as_slice());
     Ok(())

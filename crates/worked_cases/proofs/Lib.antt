@@ -1,0 +1,2 @@
+-- the steps of one part after another
+mod PartLemmas

@@ -1,0 +1,41 @@
+//! The rules of case files that this program has beside the form.
+
+use case_form::Rule;
+
+pub(crate) const NO_SUCH_ITEM: Rule = Rule(
+    "an item is title, file, run, wordless, failing, status, prints or broken",
+);
+
+pub(crate) const ONE_FILE: Rule = Rule("a file is named by one word, and given once");
+
+pub(crate) const NO_RUN: Rule = Rule("a case ends with a run or a broken text");
+
+pub(crate) const OUT_OF_ORDER: Rule = Rule(
+    "this item belongs to a run: run, failing, status and prints stand in this order",
+);
+
+pub(crate) const STATUS_AND_PRINTS: Rule = Rule("a run has one status, from 0 to 255, and prints");
+
+pub(crate) const NO_SUCH_CALL: Rule = Rule(
+    "what fails is `read` or `put` and the number of the call, from 1",
+);
+
+pub(crate) const NO_SUCH_PRINTS: Rule = Rule(
+    "prints stands alone, or before `a front of`, `first` or `last`",
+);
+
+pub(crate) const NO_MARK: Rule = Rule("a mark stands before run, wordless or broken");
+
+pub(crate) const NO_SUCH_LINE: Rule = Rule(
+    "a line of a file is line, control, data, full control or full data, perhaps behind `unended` or `COUNT x`",
+);
+
+pub(crate) const BAD_REPEAT: Rule = Rule(
+    "repeat has a count and an end, and none stands in another",
+);
+
+pub(crate) const NO_SUCH_FIELD: Rule = Rule("a field is written NAME=TEXT, and its record has it");
+
+pub(crate) const FIELD_TOO_LONG: Rule = Rule("the text is longer than its field");
+
+pub(crate) const NOT_UTF8: Rule = Rule("a word is UTF-8");
