@@ -1,11 +1,12 @@
 -- What is kept beside the record stays so through a write and a sync.
 use Rattle.std.specs.Prelude.{slice_index_or}
-use Rattle.std.proofs.Common.{◌≡◌, ◌≢◌, inl, inr, ℕ, ◌+◌, ◌<◌, ◌≤◌, Bool, true, false, cond, List, [], ◌∷◌, ◌++◌, length, set, get_or, refl, sym, ◌∙◌, ap, subst, arith, rules}
+use Rattle.std.proofs.Common.{◌≡◌, ◌≢◌, inl, inr, ℕ, ◌+◌, ◌<◌, ◌≤◌, Bool, true, false, cond, eqb, List, [], ◌∷◌, ◌++◌, length, set, get_or, refl, sym, ◌∙◌, ap, subst, arith, rules}
 use Rattle.std.proofs.lemmas.Bool.{cases_eq}
 use Rattle.std.proofs.lemmas.List.{get_or-set_same, get_or-set_other, length-set, length_push}
 use Rattle.std.proofs.lemmas.Bool.Decides.{nat_tests}
 use Rattle.std.proofs.lemmas.List.Sums.{count_by-le-length, sum_by-set}
 use Rattle.ale_volumes.specs.declared.volume.Volume.{Volume}
+use Rattle.ale_volumes.specs.declared.volume.UnsyncedWrite.{UnsyncedWrite}
 use Rattle.ale_volumes.specs.declared.step.Step.{Step}
 use Rattle.ale_volumes.specs.declared.step.Step.TheVariants.{Write, Sync}
 use Rattle.ale_volumes.specs.Volume.{settled}
@@ -17,6 +18,18 @@ contents-after_step n volume at bytes failed =
     ap (λ (v : Volume). v.contents) (chosen_then _ (written_or_half volume (place_in volume.contents at) bytes failed) volume (search (rules, nat_tests))) ∙ by_failure failed
   where
     by_failure : (f : Bool) → (written_or_half volume (place_in volume.contents at) bytes f).contents ≡ contents_after volume.contents at bytes f
+    by_failure true = refl
+    by_failure false = refl
+
+-- after a write there is one since the last sync
+writes-after_write : (n : ℕ) (volume : Volume) (at : ℕ) (bytes : List ℕ) (failed : Bool) → 0 < length (after_step n volume (Write n at bytes failed)).writes
+writes-after_write n volume at bytes failed =
+    let write : UnsyncedWrite = record { at = place_in volume.contents at; bytes = bytes } in
+    let is : length (after_step n volume (Write n at bytes failed)).writes ≡ length (written_or_half volume (place_in volume.contents at) bytes failed).writes =
+    ap (λ (v : Volume). length v.writes) (chosen_then (eqb n n) (written_or_half volume (place_in volume.contents at) bytes failed) volume (search (rules, nat_tests))) in
+    omega (arith, is, by_failure failed, length_push volume.writes write)
+  where
+    by_failure : (f : Bool) → length (written_or_half volume (place_in volume.contents at) bytes f).writes ≡ length (volume.writes ++ record { at = place_in volume.contents at; bytes = bytes } ∷ [])
     by_failure true = refl
     by_failure false = refl
 
@@ -54,6 +67,13 @@ module _ (start : List (List ℕ)) (steps : List Step) (held : List (List ℕ)) 
               let was : get_or unsynced m true ≡ false = sym (get_or-set_other unsynced n m true true other) ∙ unset in
               ap (λ (v : Volume). length v.writes) (other_volume step m other) ∙ kept.clean m low was
         ];
+        written = λ m low set_there. elim (cases_eq m n) [
+          | inl same ↦ subst (λ (k : ℕ). 0 < length (after_steps start (steps ++ step ∷ []) k).writes) (sym same)
+              (omega (arith, ap (λ (v : Volume). length v.writes) (after_steps-push start steps step n), writes-after_write n old at bytes failed))
+          | inr other ↦
+              let was : get_or unsynced m true ≡ true = sym (get_or-set_other unsynced n m true true other) ∙ set_there in
+              omega (arith, ap (λ (v : Volume). length v.writes) (other_volume step m other), kept.written m low was)
+        ];
         room = omega (arith, count_by-le-length (λ (is : Bool). is) (set unsynced n true), length-set unsynced n true, length_push steps step);
       }
 
@@ -80,6 +100,15 @@ module _ (start : List (List ℕ)) (steps : List Step) (held : List (List ℕ)) 
           | inr other ↦
               let before : get_or unsynced m true ≡ false = sym (get_or-set_other unsynced n m false true other) ∙ unset in
               ap (λ (v : Volume). length v.writes) (other_volume step m other) ∙ kept.clean m low before
+        ];
+        written = λ m low set_there. elim (cases_eq m n) [
+          | inl same ↦
+              let here : get_or (set unsynced n false) n true ≡ false = get_or-set_same unsynced n false true (omega arith) in
+              let there : get_or (set unsynced n false) n true ≡ true = subst (λ (k : ℕ). get_or (set unsynced n false) k true ≡ true) same set_there in
+              absurd (cc)
+          | inr other ↦
+              let before : get_or unsynced m true ≡ true = sym (get_or-set_other unsynced n m false true other) ∙ set_there in
+              omega (arith, ap (λ (v : Volume). length v.writes) (other_volume step m other), kept.written m low before)
         ];
         room = omega (arith, kept.room, count, was, length_push steps step);
       }

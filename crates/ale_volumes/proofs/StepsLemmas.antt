@@ -9,15 +9,15 @@ use Rattle.ale_volumes.specs.MemoryLemmas.{volume_now, moment_of, images_of, vol
 
 module _ (old new : MemoryOf) (n : ℕ) (start : new.start ≡ old.start) where
   pub sync-durable : AddsSync old new n → volume_now new n ≡ settled (volume_now old n).contents
-  sync-durable (inl more) = volume_step old new (Sync n) n start more ∙ after_step-sync n (volume_now old n)
+  sync-durable (inl more) = volume_step old new (Sync n) n start more.0 ∙ after_step-sync n (volume_now old n)
   sync-durable (inr same) = volume_same old new n start same.0 ∙ after_steps-clean old.start old.steps n same.1
 
   pub sync-time : AddsSync old new n → Elapses (moment_of old) (moment_of new) (images_of old n) (images_of new n) (IsImage (volume_now new n))
-  sync-time (inl more) = elapses_step old new (Sync n) n start more
+  sync-time (inl more) = elapses_step old new (Sync n) n start more.0
   sync-time (inr same) = elapses_still old new n start same.0
 
   pub sync-others : AddsSync old new n → KeepsOthers volume_now moment_of images_of old new n
-  sync-others (inl more) = others_stay old new (Sync n) n refl start more
+  sync-others (inl more) = others_stay old new (Sync n) n refl start more.0
   sync-others (inr same) = others_same old new n start same.0
 
   module _ (at : ℕ) (bytes : List ℕ) (failed : Bool) (more : new.steps ≡ old.steps ++ Write n at bytes failed ∷ []) where

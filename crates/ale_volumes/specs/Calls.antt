@@ -1,18 +1,15 @@
 -- Calls of which chosen ones fail.
-use Rattle.std.specs.Prelude.{◌≡◌, ◌⊎◌, ◌↔◌, ℕ, ◌+◌, ◌-◌, ◌^◌, Bool, false, min, List, slice_index, Contains, IsTrue}
+use Rattle.std.specs.Prelude.{◌≡◌, ◌⊎◌, ℕ, ◌+◌, ◌-◌, ◌^◌, min, List, slice_index, slice_set, Contains}
 use Rattle.ale_volumes.specs.declared.device_calls.DeviceCalls.{DeviceCalls}
-use Rattle.ale_base.specs.Faults.{Rose}
-use Rattle.ale_volumes.specs.Faults.{CountsOnly}
 
 -- after so many calls the next one is to fail: it was chosen, or there is no number left for it
 abbrev pub NextFails : List ℕ → ℕ → Type 0
 NextFails failing made = Contains failing (made + 1) ⊎ (made ≡ 2 ^ 64 - 1)
 
--- one call on volume n was counted, and a fault of it where the call failed
-pub record Counts (old new : DeviceCalls) (n : ℕ) (failed : Bool) : Type 0 where
+-- One call on volume n was counted: exactly one fault of the volume where it failed, and none otherwise. A count stops at
+-- the greatest number of 64 bits.
+pub record CountsCall (old new : DeviceCalls) (n : ℕ) (failed : Type 0) : Type 0 where
   pub made : new.made ≡ min (old.made + 1) (2 ^ 64 - 1)
   pub failing : new.failing ≡ old.failing
-  pub chosen : IsTrue failed ↔ NextFails old.failing old.made
-  pub rose : IsTrue failed → Rose (slice_index old.faults n) (slice_index new.faults n)
-  pub quiet : failed ≡ false → new.faults ≡ old.faults
-  pub only : CountsOnly (slice_index old.faults) (slice_index new.faults) n
+  pub one_fault : failed → new.faults ≡ slice_set old.faults n (min (slice_index old.faults n + 1) (2 ^ 64 - 1))
+  pub no_fault : ¬ failed → new.faults ≡ old.faults

@@ -13,6 +13,12 @@ pub record KeepsOthers {D : Type 0} (volume : D → ℕ → Volume) (moment : D 
   pub known : (m : ℕ) → m ≢ n → volume new m ≡ volume old m
   pub images : (m t : ℕ) (image : List ℕ) → m ≢ n → t ≤ moment old → images_since new m t image ↔ images_since old m t image
 
+-- volume n is known as before, and a crash since any moment leaves of it what it left before
+pub record KeepsVolume {D : Type 0} (volume : D → ℕ → Volume) (moment : D → ℕ) (images_since : D → ℕ → ℕ → List ℕ → Type 0) (old new : D) (n : ℕ) : Type 0 where
+  pub later : moment old ≤ moment new
+  pub known : volume new n ≡ volume old n
+  pub images : (t : ℕ) (image : List ℕ) → t ≤ moment old → images_since new n t image ↔ images_since old n t image
+
 -- A crash at any moment since old leaves of volume n what has P.
 pub record LeavesOnly {D : Type 0} (moment : D → ℕ) (images_since : D → ℕ → ℕ → List ℕ → Type 0) (old new : D) (n : ℕ) (P : List ℕ → Type 0) : Type 0 where
   pub later : moment old ≤ moment new

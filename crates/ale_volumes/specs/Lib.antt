@@ -1,7 +1,13 @@
-pub mod Faults
+-- What is known of a volume, and what a crash may leave of it.
 pub mod Volume
+-- What a crash at any moment leaves, and what the other volumes keep.
 pub mod Clock
+-- Counts of faults.
+pub mod Faults
+-- Volumes in memory: their calls, and the record of their writes and syncs.
 pub mod Calls
 pub mod Memory
-pub mod MemoryLemmas
+-- What a crash leaves by a choice of what survives.
 pub mod Survivors
+-- Laws of volumes in memory, which the impl of the trait cites.
+pub mod MemoryLemmas

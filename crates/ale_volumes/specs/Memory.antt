@@ -42,6 +42,15 @@ after_step n old (Sync volume) = if volume == n then settled old.contents else o
 abbrev pub after_steps : List (List ℕ) → List Step → ℕ → Volume
 after_steps start steps n = fold (after_step n) (settled (slice_index_or start n [])) steps
 
+-- (a part of `after_steps`) what a read of volume n gives after a step of the record
+abbrev pub contents_after_step : ℕ → List ℕ → Step → List ℕ
+contents_after_step n old (Write volume at bytes failed) = if volume == n then contents_after old at bytes failed else old
+contents_after_step n old (Sync volume) = old
+
+-- (for `after_steps`) there is no step, or the last one is a sync of volume n
+abbrev pub EndsAtSync : ℕ → List Step → Type 0
+EndsAtSync n steps = (steps ≡ []) ⊎ ((front : List Step) × (steps ≡ front ++ Sync n ∷ []))
+
 -- a crash at a moment from t on leaves this of volume n: an image of it after so many of the steps
 abbrev pub LeftSince : List (List ℕ) → List Step → ℕ → ℕ → List ℕ → Type 0
 LeftSince start steps n t image =
@@ -54,8 +63,11 @@ pub record IsKept (start : List (List ℕ)) (steps : List Step) (held : List (Li
   pub flags : length unsynced ≡ 16
   pub holds : (n : ℕ) → n < 16 → slice_index_or held n [] ≡ (after_steps start steps n).contents
   pub clean : (n : ℕ) → n < 16 → slice_index_or unsynced n true ≡ false → length (after_steps start steps n).writes ≡ 0
+  pub written : (n : ℕ) → n < 16 → slice_index_or unsynced n true ≡ true → 0 < length (after_steps start steps n).writes
   pub room : length steps + count_by (λ is. is) unsynced ≤ capacity
 
--- the record has a sync of volume n more, or there was no write of it since the last one
+-- The record has a sync of volume n more exactly where there was a write of it since the last one.
 abbrev pub AddsSync : MemoryOf → MemoryOf → ℕ → Type 0
-AddsSync old new n = (new.steps ≡ old.steps ++ Sync n ∷ []) ⊎ ((new.steps ≡ old.steps) × (length (after_steps old.start old.steps n).writes ≡ 0))
+AddsSync old new n =
+    ((new.steps ≡ old.steps ++ Sync n ∷ []) × (0 < length (after_steps old.start old.steps n).writes))
+    ⊎ ((new.steps ≡ old.steps) × (length (after_steps old.start old.steps n).writes ≡ 0))

@@ -194,12 +194,12 @@ after_step-half n volume at bytes within =
     let same : place_in volume.contents at ≡ at = omega arith in
     chosen_then (eqb n n) _ volume (search (rules, nat_tests)) ∙ ap (λ (p : ℕ). half_written volume p bytes) same
 
--- what is left of a failing write is torn
-take-overwritten : (old : List ℕ) (at : ℕ) (bytes : List ℕ) → at ≤ length old → take at (overwritten old at bytes) ≡ take at old
+-- what lies before a write and behind it
+pub take-overwritten : (old : List ℕ) (at : ℕ) (bytes : List ℕ) → at ≤ length old → take at (overwritten old at bytes) ≡ take at old
 take-overwritten old at bytes within =
     ap (λ (l : List ℕ). take at l) (append_assoc (take at old) bytes (drop (at + length bytes) old)) ∙ take_at (take at old) (bytes ++ drop (at + length bytes) old) at (omega (arith, length-take at old))
 
-drop-overwritten : (old : List ℕ) (at : ℕ) (bytes : List ℕ) → at ≤ length old → drop (at + length bytes) (overwritten old at bytes) ≡ drop (at + length bytes) old
+pub drop-overwritten : (old : List ℕ) (at : ℕ) (bytes : List ℕ) → at ≤ length old → drop (at + length bytes) (overwritten old at bytes) ≡ drop (at + length bytes) old
 drop-overwritten old at bytes within =
     drop_at (take at old ++ bytes) (drop (at + length bytes) old) (at + length bytes) (omega (arith, length-append (take at old) bytes, length-take at old))
 
@@ -208,6 +208,7 @@ drop_further n m xs ys le same =
     let parts : n + (m - n) ≡ m = omega arith in
     ap (λ (k : ℕ). drop k xs) (sym parts) ∙ sym (drop-drop (m - n) n xs) ∙ ap (λ (l : List ℕ). drop (m - n) l) same ∙ drop-drop (m - n) n ys ∙ ap (λ (k : ℕ). drop k ys) parts
 
+-- what is left of a failing write is torn
 pub half_written-torn : (volume : Volume) (at : ℕ) (bytes : List ℕ) → at ≤ length volume.contents → FailsToWrite volume at bytes (half_written volume at bytes)
 half_written-torn volume at bytes within =
     let left = left_of volume.contents at bytes in

@@ -1,7 +1,8 @@
+//! The calls on volumes in memory, and which of them fail.
+
 ghost use Rattle.std.specs.Prelude.{◌≡◌, ◌+◌, ◌-◌, ◌^◌, ◌<◌, ◌↔◌, min, IsTrue, IsFalse, replicate, slice_index, slice_set};
+ghost use Rattle.ale_volumes.specs.Faults.{CountsFault};
 ghost use Rattle.ale_volumes.specs.Calls.{NextFails};
-ghost use Rattle.ale_base.specs.Faults.{Rose};
-ghost use Rattle.ale_volumes.specs.Faults.{CountsOnly};
 
 use ale_base::Items;
 
@@ -44,8 +45,7 @@ impl DeviceCalls {
         ensures faults { self.new ≡ record self.old {
           faults = slice_set self.old.faults n (min (slice_index self.old.faults n + 1) (2 ^ 64 - 1));
         } }
-        ensures rose { Rose (slice_index self.old.faults n) (slice_index self.new.faults n) }
-        ensures counted { CountsOnly (slice_index self.old.faults) (slice_index self.new.faults) n }
+        ensures counted { CountsFault (Unit {0}) (slice_index self.old.faults) (slice_index self.new.faults) n }
     {
         let count = &mut self.faults[usize::from(n)];
         *count = count.saturating_add(1);

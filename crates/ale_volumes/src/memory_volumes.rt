@@ -1,8 +1,11 @@
+//! Volumes in memory, of which chosen calls fail, and what a crash at any moment leaves of them.
+
 ghost use Rattle.std.specs.Prelude.{◌≡◌, ◌<◌, [], length, replicate, slice_set, slice_index_or, OnOk, OnErr};
 ghost use Rattle.ale_volumes.specs.Memory.{contents_after};
 
-use crate::overwrite::overwrite;
-use crate::volume::{copy_of, left_of};
+use crate::overwrite::write_over;
+use crate::replay::{at_last_sync, contents_after as contents_after_steps};
+use crate::volume::copy_of;
 use crate::{DeviceCalls, Step, Survivors, Volume, VolumeEnd, VolumeFailed, Volumes};
 use ale_base::{Items, OutOfMemory};
 use std::alloc::Global;
@@ -43,9 +46,8 @@ impl MemoryVolumes {
     ghost use Rattle.std.specs.Prelude.{◌≡◌, ◌<◌, ◌≤◌, ◌++◌, ◌+◌, ◌-◌, ◌^◌, ◌↔◌, min, [], ◌∷◌, length, take, replicate, slice_index, IfOk, OnOk, OnErr, IsTrue};
     ghost use Rattle.ale_volumes.specs.declared.step.Step.TheVariants.{Write, Sync};
     ghost use Rattle.ale_volumes.specs.Memory.{after_steps, AddsSync};
-    ghost use Rattle.ale_volumes.specs.Calls.{Counts, NextFails};
-    ghost use Rattle.ale_base.specs.Faults.{Rose};
-    ghost use Rattle.ale_volumes.specs.Faults.{CountsOnly};
+    ghost use Rattle.ale_volumes.specs.Calls.{CountsCall, NextFails};
+    ghost use Rattle.ale_volumes.specs.Faults.{CountsFault};
     ghost use Rattle.ale_volumes.specs.Survivors.{surviving};
     ghost use Rattle.ale_volumes.specs.Volume.{IsImage};
 
@@ -78,6 +80,22 @@ impl MemoryVolumes {
           calls = record { failing = []; made = 0; faults = replicate 16 0 };
         }) }
     {
+        MemoryVolumes::with_failures(alloc, contents, Items::new(alloc))
+    }
+
+    /// Volumes that hold these bytes for good, of which the calls of these numbers will fail, counted from 1 over all
+    /// volumes.
+    pub fn with_failures(
+        alloc: Global,
+        contents: [Items<u8>; 16],
+        failing: Items<u64>,
+    ) -> Result<MemoryVolumes, OutOfMemory>
+        ensures { IfOk result (λ memory. memory ≡ record {
+          start = contents;
+          steps = [];
+          calls = record { failing = failing; made = 0; faults = replicate 16 0 };
+        }) }
+    {
         let mut held = empty_volumes(alloc);
         for i in 0..16 {
             held[i] = copy_of(alloc, contents[i].as_slice())?;
@@ -86,18 +104,10 @@ impl MemoryVolumes {
             alloc,
             start: contents,
             steps: Vec::new(alloc),
-            calls: DeviceCalls::with_failures(Items::new(alloc)),
+            calls: DeviceCalls::with_failures(failing),
             held,
             unsynced: [false; 16],
         })
-    }
-
-    /// These volumes, of which the calls of these numbers will fail, counted from 1 over all volumes from now on.
-    pub fn with_failures(mut self, failing: Items<u64>) -> MemoryVolumes
-        ensures { result ≡ record self { calls = record { failing = failing; made = 0; faults = replicate 16 0 } } }
-    {
-        self.calls = DeviceCalls::with_failures(failing);
-        self
     }
 
     /// The calls so far.
@@ -122,22 +132,26 @@ impl MemoryVolumes {
         self.steps.len() as u64
     }
 
-    /// What was known of volume `n` at a moment.
+    /// What was known of volume `n` at a moment. Its cost is linear in the steps and bytes of the record.
     pub fn volume_at(&self, moment: u64, n: u8) -> Result<Volume, OutOfMemory>
         requires moment { moment ≤ length self.now.steps }
         requires number { n < 16 }
         ensures { IfOk result (λ volume. volume ≡ after_steps self.now.start (take moment self.now.steps) n) }
     {
-        let mut volume = Volume::settled(self.alloc, self.start[usize::from(n)].as_slice())?;
         let (steps, _) = self.steps.as_slice().split_at(moment as usize);
-        for step in steps {
+        // A sync makes durable what a read gives, so up to the last one only that is asked. This keeps the cost linear.
+        let (durable, since) = at_last_sync(steps, n);
+        let start = self.start[usize::from(n)].as_slice();
+        let held = contents_after_steps(self.alloc, start, n, durable)?;
+        let mut volume = Volume::settled(self.alloc, held.as_slice())?;
+        for step in since {
             volume = volume.after(self.alloc, n, step)?;
         }
         Ok(volume)
     }
 
     /// What a crash at a moment leaves of volume `n`, by this choice of what survives of the writes that were not synced
-    /// then.
+    /// then. Its cost is linear in the steps and bytes of the record.
     pub fn image(&self, moment: u64, n: u8, survivors: &Survivors) -> Result<Items<u8>, OutOfMemory>
         requires moment { moment ≤ length self.now.steps }
         requires number { n < 16 }
@@ -152,7 +166,10 @@ impl MemoryVolumes {
     fn fails(&mut self, n: u8) -> bool
         requires { n < 16 }
         ensures kept { self.new ≡ record self.old { calls = self.new.calls } }
-        ensures counted { Counts self.old.calls self.new.calls n result }
+        ensures chosen { IsTrue result ↔ NextFails self.old.calls.failing self.old.calls.made }
+        ensures counts { CountsCall self.old.calls self.new.calls n (IsTrue result) }
+        ensures faults { CountsFault (IsTrue result)
+            (slice_index self.old.calls.faults) (slice_index self.new.calls.faults) n }
     {
         let fails = self.next_fails();
         if fails {
@@ -175,9 +192,13 @@ impl MemoryVolumes {
     /// Counts a fault of a volume.
     fn fault(&mut self, n: u8)
         requires { n < 16 }
-        ensures kept { self.new ≡ record self.old { calls = record self.old.calls { faults = self.new.calls.faults } } }
-        ensures rose { Rose (slice_index self.old.calls.faults n) (slice_index self.new.calls.faults n) }
-        ensures counted { CountsOnly (slice_index self.old.calls.faults) (slice_index self.new.calls.faults) n }
+        ensures fault { self.new ≡ record self.old {
+          calls =
+              record self.old.calls {
+                faults = slice_set self.old.calls.faults n (min (slice_index self.old.calls.faults n + 1) (2 ^ 64 - 1));
+              };
+        } }
+        ensures counted { CountsFault (Unit {0}) (slice_index self.old.calls.faults) (slice_index self.new.calls.faults) n }
     {
         self.calls.fault(n);
     }
@@ -224,13 +245,14 @@ impl MemoryVolumes {
 }
 
 impl Volumes for MemoryVolumes {
-    ghost use Rattle.std.specs.Prelude.{◌≡◌, ◌≢◌, ◌↔◌, ℕ, List, ◌+◌, ◌-◌, ◌^◌, ◌<◌, ◌≤◌, min, length, take, drop, slice_index, IfOk, OnOk, OnErr, IsErr, IsErrOf};
-    ghost use Rattle.ale_volumes.specs.Memory.{half_written};
+    ghost use Rattle.std.specs.Prelude.{◌≡◌, ◌≢◌, ◌↔◌, ◌∷◌, ◌++◌, [], ℕ, List, ◌+◌, ◌-◌, ◌^◌, ◌<◌, ◌≤◌, min, length, take, drop, slice_index, IfOk, OnOk, OnErr, IsErr, IsErrOf};
+    ghost use Rattle.ale_volumes.specs.declared.step.Step.TheVariants.{Write};
+    ghost use Rattle.ale_volumes.specs.Memory.{half_written, AddsSync};
+    ghost use Rattle.std.specs.Result.{is_err};
     ghost use Rattle.ale_volumes.specs.Volume.{IsImage, settled, written, FailsToWrite};
     ghost use Rattle.ale_volumes.specs.Clock.{Elapses, KeepsOthers};
-    ghost use Rattle.ale_base.specs.Faults.{Rose};
-    ghost use Rattle.ale_volumes.specs.Faults.{CountsOnly};
-    ghost use Rattle.ale_volumes.specs.Calls.{NextFails};
+    ghost use Rattle.ale_volumes.specs.Faults.{CountsFault};
+    ghost use Rattle.ale_volumes.specs.Calls.{CountsCall, NextFails};
     ghost use Rattle.ale_volumes.specs.MemoryLemmas.{volume_now, moment_of, images_of, counts_now, only_now, after_steps-read};
 
     ghost told = { Unit {0} };
@@ -253,17 +275,16 @@ impl Volumes for MemoryVolumes {
         requires { n < 16 }
         ensures length { IfOk result (λ len. len ≡ length (volume_now self.old n).contents) }
         ensures same { volume_now self.new n ≡ volume_now self.old n }
+        ensures kept { self.new ≡ record self.old { calls = self.new.calls } }
         ensures time { Elapses (moment_of self.old) (moment_of self.new)
             (images_of self.old n) (images_of self.new n) (IsImage (volume_now self.new n)) }
         ensures others { KeepsOthers volume_now moment_of images_of self.old self.new n }
-        ensures failed { IsErr result → Rose (slice_index self.old.calls.faults n) (slice_index self.new.calls.faults n) }
-        ensures quiet { OnOk result (slice_index self.new.calls.faults n ≡ slice_index self.old.calls.faults n) }
-        ensures counted { CountsOnly (slice_index self.old.calls.faults) (slice_index self.new.calls.faults) n }
+        ensures faults { CountsFault (IsErr result)
+            (slice_index self.old.calls.faults) (slice_index self.new.calls.faults) n }
 
-        // It fails exactly at the calls that are to fail.
+        // It fails exactly at the calls that are to fail, and counts one fault then.
         ensures chosen { IsErr result ↔ NextFails self.old.calls.failing self.old.calls.made }
-        ensures made { self.new.calls.made ≡ min (self.old.calls.made + 1) (2 ^ 64 - 1) }
-        ensures failing { self.new.calls.failing ≡ self.old.calls.failing }
+        ensures counts { CountsCall self.old.calls self.new.calls n (IsErr result) }
     {
         if self.fails(n) {
             return Err(VolumeFailed);
@@ -276,17 +297,16 @@ impl Volumes for MemoryVolumes {
         requires range { at + length into.old ≤ length (volume_now self.old n).contents }
         ensures read { OnOk result (into.new ≡ take (length into.old) (drop at (volume_now self.old n).contents)) }
         ensures same { volume_now self.new n ≡ volume_now self.old n }
+        ensures kept { self.new ≡ record self.old { calls = self.new.calls } }
         ensures time { Elapses (moment_of self.old) (moment_of self.new)
             (images_of self.old n) (images_of self.new n) (IsImage (volume_now self.new n)) }
         ensures others { KeepsOthers volume_now moment_of images_of self.old self.new n }
-        ensures failed { IsErr result → Rose (slice_index self.old.calls.faults n) (slice_index self.new.calls.faults n) }
-        ensures quiet { OnOk result (slice_index self.new.calls.faults n ≡ slice_index self.old.calls.faults n) }
-        ensures counted { CountsOnly (slice_index self.old.calls.faults) (slice_index self.new.calls.faults) n }
+        ensures faults { CountsFault (IsErr result)
+            (slice_index self.old.calls.faults) (slice_index self.new.calls.faults) n }
 
-        // It fails exactly at the calls that are to fail.
+        // It fails exactly at the calls that are to fail, and counts one fault then.
         ensures chosen { IsErr result ↔ NextFails self.old.calls.failing self.old.calls.made }
-        ensures made { self.new.calls.made ≡ min (self.old.calls.made + 1) (2 ^ 64 - 1) }
-        ensures failing { self.new.calls.failing ≡ self.old.calls.failing }
+        ensures counts { CountsCall self.old.calls self.new.calls n (IsErr result) }
     {
         if self.fails(n) {
             return Err(VolumeFailed);
@@ -307,18 +327,21 @@ impl Volumes for MemoryVolumes {
         ensures time { Elapses (moment_of self.old) (moment_of self.new)
             (images_of self.old n) (images_of self.new n) (IsImage (volume_now self.new n)) }
         ensures others { KeepsOthers volume_now moment_of images_of self.old self.new n }
-        ensures failed { IsErrOf result VolumeEnd.Failed → Rose (slice_index self.old.calls.faults n) (slice_index self.new.calls.faults n) }
-        ensures quiet { OnOk result (slice_index self.new.calls.faults n ≡ slice_index self.old.calls.faults n) }
-        ensures counted { CountsOnly (slice_index self.old.calls.faults) (slice_index self.new.calls.faults) n }
-        ensures no_fault { IsErrOf result VolumeEnd.OutOfMemory →
-            slice_index self.new.calls.faults n ≡ slice_index self.old.calls.faults n }
+        ensures faults { CountsFault (IsErrOf result VolumeEnd.Failed)
+            (slice_index self.old.calls.faults) (slice_index self.new.calls.faults) n }
 
-        // It fails exactly at the calls that are to fail, unless memory runs out, and then leaves half of the bytes.
+        // It fails exactly at the calls that are to fail, unless memory runs out, and counts one fault then. A write that
+        // fails leaves half of its bytes.
         ensures chosen { IsErrOf result VolumeEnd.Failed → NextFails self.old.calls.failing self.old.calls.made }
         ensures fails { NextFails self.old.calls.failing self.old.calls.made → IsErr result }
-        ensures half { IsErrOf result VolumeEnd.Failed → volume_now self.new n ≡ half_written (volume_now self.old n) at bytes.now }
-        ensures made { self.new.calls.made ≡ min (self.old.calls.made + 1) (2 ^ 64 - 1) }
-        ensures failing { self.new.calls.failing ≡ self.old.calls.failing }
+        ensures counts { CountsCall self.old.calls self.new.calls n (IsErrOf result VolumeEnd.Failed) }
+        ensures half { IsErrOf result VolumeEnd.Failed →
+            volume_now self.new n ≡ half_written (volume_now self.old n) at bytes.now }
+
+        // The record has this write more, unless memory runs out.
+        ensures recorded { result ≢ Err VolumeEnd.OutOfMemory →
+            self.new.steps ≡ self.old.steps ++ Write n at bytes.now (is_err result) ∷ [] }
+        ensures unrecorded { IsErrOf result VolumeEnd.OutOfMemory → self.new.steps ≡ self.old.steps }
     {
         let fails = self.next_fails();
         self.add_write(n, at, bytes, fails)?;
@@ -336,15 +359,16 @@ impl Volumes for MemoryVolumes {
         ensures time { Elapses (moment_of self.old) (moment_of self.new)
             (images_of self.old n) (images_of self.new n) (IsImage (volume_now self.new n)) }
         ensures others { KeepsOthers volume_now moment_of images_of self.old self.new n }
-        ensures failed { IsErr result → Rose (slice_index self.old.calls.faults n) (slice_index self.new.calls.faults n) }
-        ensures quiet { OnOk result (slice_index self.new.calls.faults n ≡ slice_index self.old.calls.faults n) }
-        ensures counted { CountsOnly (slice_index self.old.calls.faults) (slice_index self.new.calls.faults) n }
+        ensures faults { CountsFault (IsErr result)
+            (slice_index self.old.calls.faults) (slice_index self.new.calls.faults) n }
 
-        // It fails exactly at the calls that are to fail.
+        // It fails exactly at the calls that are to fail, and counts one fault then.
         ensures chosen { IsErr result ↔ NextFails self.old.calls.failing self.old.calls.made }
-        ensures made { self.new.calls.made ≡ min (self.old.calls.made + 1) (2 ^ 64 - 1) }
-        ensures failing { self.new.calls.failing ≡ self.old.calls.failing }
-        ensures one_step { moment_of self.new ≤ moment_of self.old + 1 }
+        ensures counts { CountsCall self.old.calls self.new.calls n (IsErr result) }
+
+        // The record has this sync more exactly where there was a write since the last one.
+        ensures recorded { OnOk result (AddsSync self.old self.new n) }
+        ensures unrecorded { OnErr result (self.new.steps ≡ self.old.steps) }
     {
         if self.fails(n) {
             return Err(VolumeFailed);
@@ -368,10 +392,7 @@ fn write_in(
         ≡ slice_set volumes.old n (contents_after (slice_index_or volumes.old n []) at bytes.now failed)) }
     ensures err { OnErr result (volumes.new ≡ volumes.old) }
 {
-    let held = &mut volumes[n];
-    let room = held.len() - at.min(held.len());
-    let written = if failed { left_of(bytes, room) } else { bytes };
-    overwrite(alloc, held, at, written)
+    write_over(alloc, &mut volumes[n], at, bytes, failed)
 }
 
 /// Sixteen volumes of no bytes.

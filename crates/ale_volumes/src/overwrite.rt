@@ -1,9 +1,29 @@
+//! Writing bytes over others.
+
 ghost use Rattle.std.specs.Prelude.{◌≡◌, length, min, OnOk, OnErr};
 ghost use Rattle.ale_volumes.specs.Volume.{overwritten};
+ghost use Rattle.ale_volumes.specs.Memory.{contents_after};
 
+use crate::volume::left_of;
 use ale_base::{Items, OutOfMemory};
 use std::alloc::{AllocError, Global};
 use std::mem;
+
+/// What a read gives after a write, which may have failed and then leaves a part.
+pub(crate) fn write_over(
+    alloc: Global,
+    held: &mut Items<u8>,
+    at: usize,
+    bytes: &[u8],
+    failed: bool,
+) -> Result<(), OutOfMemory>
+    ensures ok { OnOk result (held.new ≡ contents_after held.old at bytes.now failed) }
+    ensures err { OnErr result (held.new ≡ held.old) }
+{
+    let room = held.len() - at.min(held.len());
+    let written = if failed { left_of(bytes, room) } else { bytes };
+    overwrite(alloc, held, at, written)
+}
 
 /// Writes bytes over others from a place on, or from their end where the place is past it.
 pub(crate) fn overwrite(

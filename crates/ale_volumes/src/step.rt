@@ -1,3 +1,5 @@
+//! A step of the record of volumes in memory.
+
 use ale_base::Items;
 
 /// A call that changed what volumes in memory hold, or what a crash may leave of them.

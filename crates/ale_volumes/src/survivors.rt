@@ -1,3 +1,5 @@
+//! A choice of what a crash leaves.
+
 use ale_base::Items;
 
 /// What a crash leaves of the writes since a volume's last sync.

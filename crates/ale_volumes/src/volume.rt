@@ -1,3 +1,5 @@
+//! What is known of a volume: what a read gives, and what a crash leaves open.
+
 ghost use Rattle.ale_volumes.specs.Survivors.{laid_over};
 ghost use Rattle.std.specs.Prelude.{OnOk, ◌≡◌, ◌+◌, ◌<◌, ◌≤◌, ◌/◌, min, length, take, IfOk};
 

@@ -1,3 +1,5 @@
+//! How a call on a volume fails.
+
 ghost use Rattle.std.specs.Prelude.{◌≡◌};
 ghost use Rattle.ale_volumes.specs.declared.volume_end.VolumeEnd.TheVariants.{Failed, OutOfMemory as NoMemory};
 

@@ -1,3 +1,5 @@
+//! The disk as its callers see it.
+
 use crate::{VolumeEnd, VolumeFailed};
 
 /// Sixteen volumes, numbered from 0, each a row of bytes that a crash may leave half written.
@@ -5,13 +7,17 @@ use crate::{VolumeEnd, VolumeFailed};
 /// Between two syncs of a volume a crash may leave any bytes in each range that was written and past the old end, and
 /// one of the lengths that the volume had; other bytes stay. After a sync it leaves what a read gives. A write that
 /// fails counts as a write. A call on one volume leaves all others alone.
+///
+/// The count of a volume's faults rises in each call on it that fails, and in no other. A request for memory that was
+/// refused is no fault of a volume: a call that answers want of memory counts none. So an implementation over files
+/// tells a request for memory that it could not meet itself, which it counts nowhere and answers as `OutOfMemory`, from
+/// an error of the system, which it counts and answers as `Failed`.
 pub trait Volumes {
-    ghost use Rattle.std.specs.Prelude.{◌≡◌, ◌≢◌, ◌↔◌, ℕ, List, ◌+◌, ◌<◌, ◌≤◌, length, take, drop, IfOk, OnOk, OnErr, IsErrOf};
+    ghost use Rattle.std.specs.Prelude.{◌≡◌, ◌≢◌, ◌↔◌, ℕ, List, ◌+◌, ◌<◌, ◌≤◌, length, take, drop, IfOk, OnOk, OnErr, IsErr, IsErrOf};
     ghost use Rattle.ale_volumes.specs.declared.volume.Volume.{Volume};
     ghost use Rattle.ale_volumes.specs.Volume.{IsImage, settled, written, FailsToWrite};
     ghost use Rattle.ale_volumes.specs.Clock.{Elapses, KeepsOthers};
-    ghost use Rattle.ale_base.specs.Faults.{Rose};
-    ghost use Rattle.ale_volumes.specs.Faults.{CountsOnly};
+    ghost use Rattle.ale_volumes.specs.Faults.{CountsFault};
 
     // Whether the implementation tells what its volumes hold. What is said of their bytes holds where it does.
     ghost told: { Type 0 };
@@ -37,9 +43,7 @@ pub trait Volumes {
         ensures time { told → Elapses (moment self.old) (moment self.new)
             (images_since self.old n) (images_since self.new n) (IsImage (volume self.new n)) }
         ensures others { told → KeepsOthers volume moment images_since self.old self.new n }
-        ensures failed { OnErr result (Rose (faults self.old n) (faults self.new n)) }
-        ensures quiet { OnOk result (faults self.new n ≡ faults self.old n) }
-        ensures counted { CountsOnly (faults self.old) (faults self.new) n };
+        ensures faults { CountsFault (IsErr result) (faults self.old) (faults self.new) n };
 
     /// Reads the bytes of volume `n` from the place `at` on, as many as `into` has. After an `Err` nothing is said of
     /// `into`.
@@ -53,9 +57,7 @@ pub trait Volumes {
         ensures time { told → Elapses (moment self.old) (moment self.new)
             (images_since self.old n) (images_since self.new n) (IsImage (volume self.new n)) }
         ensures others { told → KeepsOthers volume moment images_since self.old self.new n }
-        ensures failed { OnErr result (Rose (faults self.old n) (faults self.new n)) }
-        ensures quiet { OnOk result (faults self.new n ≡ faults self.old n) }
-        ensures counted { CountsOnly (faults self.old) (faults self.new) n };
+        ensures faults { CountsFault (IsErr result) (faults self.old) (faults self.new) n };
 
     /// Writes bytes to volume `n` from the place `at` on, over what is there and past its end. After `Failed` a part of
     /// the range may have been written.
@@ -70,10 +72,7 @@ pub trait Volumes {
         ensures time { told → Elapses (moment self.old) (moment self.new)
             (images_since self.old n) (images_since self.new n) (IsImage (volume self.new n)) }
         ensures others { told → KeepsOthers volume moment images_since self.old self.new n }
-        ensures failed { IsErrOf result VolumeEnd.Failed → Rose (faults self.old n) (faults self.new n) }
-        ensures quiet { OnOk result (faults self.new n ≡ faults self.old n) }
-        ensures no_fault { IsErrOf result VolumeEnd.OutOfMemory → faults self.new n ≡ faults self.old n }
-        ensures counted { CountsOnly (faults self.old) (faults self.new) n };
+        ensures faults { CountsFault (IsErrOf result VolumeEnd.Failed) (faults self.old) (faults self.new) n };
 
     /// Makes durable what a read of volume `n` gives. After an `Err` all is as before.
     fn sync(&mut self, n: u8) -> Result<(), VolumeFailed>
@@ -84,9 +83,7 @@ pub trait Volumes {
         ensures time { told → Elapses (moment self.old) (moment self.new)
             (images_since self.old n) (images_since self.new n) (IsImage (volume self.new n)) }
         ensures others { told → KeepsOthers volume moment images_since self.old self.new n }
-        ensures failed { OnErr result (Rose (faults self.old n) (faults self.new n)) }
-        ensures quiet { OnOk result (faults self.new n ≡ faults self.old n) }
-        ensures counted { CountsOnly (faults self.old) (faults self.new) n };
+        ensures faults { CountsFault (IsErr result) (faults self.old) (faults self.new) n };
 
     // A read gives one of the images.
     ghost read_is_image: { told → (vols : Self) (n : ℕ) → IsImage (volume vols n) (volume vols n).contents };

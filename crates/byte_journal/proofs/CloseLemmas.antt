@@ -1,11 +1,12 @@
 -- Closing the last gate of a journal.
 use Rattle.std.proofs.Common.{◌≡◌, ◌≢◌, ◌⊎◌, inl, inr, ℕ, ◌+◌, ◌<◌, ◌≤◌, max, List, [], ◌∷◌, ◌++◌, length, take, drop, get_or, sym, ◌∙◌, ap, arith, length-append, append_assoc, take-append-drop}
 use Rattle.std.proofs.lemmas.Bool.{cases_eq}
-use Rattle.std.proofs.lemmas.List.{take_at, get_or_at, nil_from_length, length-drop}
+use Rattle.std.proofs.lemmas.List.{take_at, get_or_at, drop_more, append-nil, nil_from_length, length-drop}
 use Rattle.ale_volumes.specs.Volume.{overwritten, Torn}
 use Rattle.byte_journal.specs.Log.{open_gate, records, BeginsWithLastGate, Stands}
 use Rattle.byte_journal.specs.Settled.{IsClosed}
-use Rattle.byte_journal.specs.Reading.{ReadsTo}
+use Rattle.byte_journal.specs.Bytes.{IsAsBeforeButForTheGate, IsAsBeforeButForATornGate}
+use Rattle.byte_journal.specs.steps.Reading.{ReadsTo}
 
 -- bytes that stand for a log have its last gate, if there are any
 some_rest : (rest : List ℕ) → BeginsWithLastGate rest → 0 < length rest
@@ -71,6 +72,46 @@ module _ (bytes : List ℕ) (log : List (List ℕ)) (gate : ℕ) (reads : ReadsT
           bodies = reads.stands.bodies;
           within = reads.stands.within;
         }
+
+    -- bytes that end at the gate are the records and this one byte
+    with_byte : (new : List ℕ) → length new ≡ gate + 1 → take gate new ≡ records log → new ≡ records log ++ get_or new gate 0 ∷ []
+    with_byte new long same =
+        let none : drop (gate + 1) new ≡ [] = nil_from_length (drop (gate + 1) new) (omega (arith, length-drop (gate + 1) new)) in
+        sym (take-append-drop gate new)
+        ∙ ap (λ (l : List ℕ). l ++ drop gate new) same
+        ∙ ap (λ (l : List ℕ). records log ++ l) (drop_more new gate 0 (omega arith) ∙ ap (λ (l : List ℕ). get_or new gate 0 ∷ l) none)
+
+    -- there are no bytes, or the last gate is open and the last byte
+    lacks : (bytes ≡ []) ⊎ (bytes ≡ records log ++ open_gate ∷ [])
+    lacks = elim short [
+      | inl none ↦ inl (nil_from_length bytes none)
+      | inr long ↦ elim (cases_eq (get_or bytes gate 0) open_gate) [
+        | inl opens ↦ inr (with_byte bytes long front ∙ ap (λ (b : ℕ). records log ++ b ∷ []) opens)
+        | inr closed ↦ absurd (not_closed (omega arith, closed))
+      ]
+    ]
+
+    -- the gate is closed, and all else is as before
+    pub closed_left : IsAsBeforeButForTheGate bytes (overwritten bytes gate (0 ∷ []))
+    closed_left =
+        let none : drop (gate + 1) bytes ≡ [] = nil_from_length (drop (gate + 1) bytes) (omega (arith, length-drop (gate + 1) bytes, short)) in
+        inr (record {
+          log = log;
+          stands = reads.stands;
+          lacks = lacks;
+          now = ap (λ (l : List ℕ). l ++ (0 ∷ []) ++ drop (gate + 1) bytes) front ∙ ap (λ (l : List ℕ). records log ++ (0 ∷ []) ++ l) none ∙ append-nil (records log ++ (0 ∷ []));
+        })
+
+    -- a torn write of the gate leaves all but this byte
+    pub torn_left : (new : List ℕ) → Torn gate 1 bytes new → IsAsBeforeButForATornGate bytes new
+    torn_left new torn =
+        let sizes : (length new ≡ length bytes) ⊎ (length new ≡ max (length bytes) (gate + 1)) = torn.size in
+        elim (cases_eq (length new) (gate + 1)) [
+          | inl long ↦ inr (get_or new gate 0, record { log = log; stands = reads.stands; lacks = lacks; now = with_byte new long (torn.before ∙ front) })
+          | inr other ↦
+              let none : length new ≡ 0 = omega (arith, sizes, short, other) in
+              inl (nil_from_length new none ∙ sym (nil_from_length bytes (omega (arith, none, sizes, short))))
+        ]
 
     last_of : (rest : List ℕ) → length rest ≤ 1 → 0 < length rest → BeginsWithLastGate rest
     last_of [] few some = absurd (omega arith)

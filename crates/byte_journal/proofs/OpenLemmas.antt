@@ -1,14 +1,17 @@
 -- What a crash leaves while a journal is opened: bytes are read, and then the last gate is closed.
-use Rattle.std.specs.Prelude.{Result, Ok, IsErrOf}
-use Rattle.std.proofs.Common.{◌≡◌, ◌⊎◌, inl, inr, ⊎_elim, ℕ, List, arith}
+use Rattle.std.specs.Prelude.{Result, Ok, Err, IsErrOf}
+use Rattle.std.proofs.Common.{◌≡◌, ◌⊎◌, inl, inr, ⊎_elim, ℕ, List, subst, arith}
 use Rattle.ale_volumes.specs.declared.volume.Volume.{Volume}
-use Rattle.ale_volumes.specs.Volume.{IsImage}
+use Rattle.ale_volumes.specs.Volume.{IsImage, settled}
 use Rattle.ale_volumes.specs.Clock.{LeavesOnly}
 use Rattle.ale_volumes.proofs.ClockLemmas.{joined, weaker}
 use Rattle.byte_journal.specs.declared.fault.OpenFault.{OpenFault}
-use Rattle.byte_journal.specs.declared.fault.OpenFault.TheVariants.{Volume as VolumeFault}
-use Rattle.byte_journal.specs.Log.{Stands, ReadsAs}
-use Rattle.byte_journal.specs.Settled.{LeavesOnlyLater}
+use Rattle.byte_journal.specs.declared.fault.OpenFault.TheVariants.{Damaged, Volume as VolumeFault, OutOfMemory}
+use Rattle.byte_journal.specs.Log.{front_of, Stands, DamagedAt, ReadsAs}
+use Rattle.byte_journal.specs.Settled.{Answers, LeavesOnlyLater}
+use Rattle.byte_journal.specs.Bytes.{IsAsBeforeButForTheGate}
+use Rattle.byte_journal.specs.steps.Reading.{ReadsTo, Reads}
+use Rattle.byte_journal.proofs.FrontLemmas.{ReadsTo-front, DamagedAt-front}
 
 module _ {D : Type 0} (volume : D → ℕ → Volume) (moment : D → ℕ) (images_since : D → ℕ → ℕ → List ℕ → Type 0) (old mid new : D) (n : ℕ) (log : List (List ℕ)) where
   abbrev before : List ℕ
@@ -34,3 +37,17 @@ module _ {D : Type 0} (volume : D → ℕ → Volume) (moment : D → ℕ) (imag
         → (IsErrOf result VolumeFault × (volume mid n ≡ volume old n)) ⊎ LeavesOnlyLater moment images_since old mid n (λ image. image ≡ before) → LeavesOnlyLater moment images_since old new n (ReadsAs before)
     open-from_sync result value is (inl failed) = let refused = failed.0 in absurd (cc)
     open-from_sync result value is (inr first) = later first
+
+-- a fault of reading the front is the answer for all
+pub answers-unread : (bytes front : List ℕ) (fault : OpenFault) → front ≡ front_of bytes → Reads front (Err fault) → Answers bytes (Err fault)
+answers-unread bytes front (Damaged place) is damaged = DamagedAt-front bytes place (subst (λ (f : List ℕ). DamagedAt f place) is damaged)
+answers-unread bytes front VolumeFault is none = absurd none
+answers-unread bytes front OutOfMemory is none = tt
+
+-- what the front reads to all reads to
+pub reads-front : (bytes front : List ℕ) (log : List (List ℕ)) (gate : ℕ) → front ≡ front_of bytes → ReadsTo front log gate → ReadsTo bytes log gate
+reads-front bytes front log gate is reads = ReadsTo-front bytes log gate (subst (λ (f : List ℕ). ReadsTo f log gate) is reads)
+
+-- opening that ended well leaves what closing the gate left
+pub opened-closed : (old mid new : Volume) → mid ≡ settled old.contents → IsAsBeforeButForTheGate mid.contents new.contents → IsAsBeforeButForTheGate old.contents new.contents
+opened-closed old mid new durable left = subst (λ (v : Volume). IsAsBeforeButForTheGate v.contents new.contents) durable left

@@ -5,7 +5,7 @@ use Rattle.std.proofs.lemmas.Bool.{cases_eq, cases_lt}
 use Rattle.std.proofs.lemmas.List.{drop_at, drop_more, nil_from_length, get_or_past, get_or-take, length-take, length-drop}
 use Rattle.std.proofs.lemmas.Nat.{be_bytes_4}
 use Rattle.byte_journal.specs.Log.{open_gate, most_bytes, framed, records, AreBodies, BeginsWithLastGate, BeginsWithRecord, DamagedAt}
-use Rattle.byte_journal.specs.Reading.{ReadsTo}
+use Rattle.byte_journal.specs.steps.Reading.{ReadsTo}
 use Rattle.byte_journal.proofs.LogLemmas.{records-push, length-records-push, AreBodies-push}
 
 -- four bytes of a length, so many bytes, and one more are a record and a gate

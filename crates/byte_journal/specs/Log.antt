@@ -1,11 +1,15 @@
 -- Which log the bytes of a volume stand for, and where they are damaged.
-use Rattle.std.specs.Prelude.{◌≡◌, ◌≢◌, ◌⊎◌, ℕ, ◌+◌, ◌<◌, List, [], ◌∷◌, ◌++◌, length}
+use Rattle.std.specs.Prelude.{◌≡◌, ◌≢◌, ◌⊎◌, ℕ, ◌+◌, ◌<◌, List, [], ◌∷◌, ◌++◌, length, take}
 use Rattle.std.specs.Int.{w32, to_be_bytes}
 use Rattle.std.specs.List.{AllByRecursion, flat_map}
 
 -- the byte of an open gate; each other byte is a closed one
 abbrev pub open_gate : ℕ
 open_gate = 79
+
+-- the byte that is written for a closed gate
+abbrev pub closed_gate : ℕ
+closed_gate = 0
 
 -- each closing gate lies within this many bytes
 abbrev pub most_bytes : ℕ
@@ -67,3 +71,7 @@ pub record HasOneAnswer (bytes : List ℕ) : Type 0 where
 -- both are the same bytes, or stand for the same log
 abbrev pub ReadsAs : List ℕ → List ℕ → Type 0
 ReadsAs bytes other = (other ≡ bytes) ⊎ ((log : List (List ℕ)) × Stands bytes log × Stands other log)
+
+-- The bytes of a volume that decide its log: those in which gates may lie, and one more, since a gate may be the last byte.
+unfoldable pub front_of : List ℕ → List ℕ
+front_of bytes = take (most_bytes + 1) bytes

@@ -16,10 +16,14 @@ pub record IsClosed (bytes : List ℕ) (log : List (List ℕ)) : Type 0 where
   pub bodies : AreBodies log
   pub within : length (records log) < most_bytes
 
+-- the journal's gate is the one behind the records of this log
+abbrev pub IsAtEnd : Journal → List (List ℕ) → Type 0
+IsAtEnd journal log = journal.gate ≡ length (records log)
+
 -- The journal stands at the end of this log, whose last gate is closed, and all of it is on the disk for good.
 pub record IsSettled {D : Type 0} (volume : D → ℕ → Volume) (vols : D) (journal : Journal) (log : List (List ℕ)) : Type 0 where
   pub closed : IsClosed (volume vols journal.volume).contents log
-  pub place : journal.gate ≡ length (records log)
+  pub place : IsAtEnd journal log
   pub durable : volume vols journal.volume ≡ settled (volume vols journal.volume).contents
 
 -- What opening these bytes answers: the log that they stand for, or the place where they are damaged. The volume may

@@ -1,3 +1,5 @@
+//! Why a journal was not opened, and why a body was not appended.
+
 ghost use Rattle.std.specs.Prelude.{◌≡◌};
 ghost use Rattle.byte_journal.specs.declared.fault.OpenFault.TheVariants.{Volume as OpenVolume, OutOfMemory as OpenMemory};
 ghost use Rattle.byte_journal.specs.declared.fault.AppendFault.TheVariants.{OutOfMemory as AppendMemory};

@@ -1,8 +1,9 @@
+//! A journal that is open, and the append of a body to it.
+
 ghost use Rattle.std.specs.Prelude.{◌≡◌, ◌≢◌, ℕ, List, [], ◌∷◌, ◌++◌, ◌+◌, ◌<◌, ◌↔◌, length, IfOk, OnOk, OnErr, IsErrOf};
 ghost use Rattle.byte_journal.specs.Log.{framed};
 ghost use Rattle.ale_volumes.specs.Clock.{LeavesOnly, KeepsOthers};
-ghost use Rattle.ale_base.specs.Faults.{Rose};
-ghost use Rattle.ale_volumes.specs.Faults.{CountsOnly};
+ghost use Rattle.ale_volumes.specs.Faults.{CountsFault};
 
 use crate::AppendFault;
 use crate::write_synced::write_synced;
@@ -23,7 +24,8 @@ pub struct Journal {
 }
 
 impl Journal {
-    ghost use Rattle.byte_journal.specs.Settled.{IsSettled, IsBeforeOrAfter};
+    ghost use Rattle.byte_journal.specs.Bytes.{LeavesAppended};
+    ghost use Rattle.byte_journal.specs.Settled.{IsSettled, IsAtEnd, IsBeforeOrAfter};
 
     /// The byte of an open gate, an upper case O. Each other byte is a closed gate.
     pub const OPEN_GATE: u8 = 0x4f;
@@ -61,6 +63,12 @@ impl Journal {
         ensures added { V.told → (log : List (List ℕ)) → IsSettled V.volume vols.old self.old log →
             OnOk result (IsSettled V.volume vols.new self.new (log ++ body.now ∷ [])) }
         ensures stays { self.new.volume ≡ self.old.volume }
+        ensures at_end { (log : List (List ℕ)) → IsAtEnd self.old log →
+            OnOk result (IsAtEnd self.new (log ++ body.now ∷ [])) }
+
+        // The volume holds what it held, the gate open, length, body, a closed gate, and what lay further back.
+        ensures leaves { V.told → LeavesAppended (V.volume vols.old self.old.volume).contents self.old.gate body.now
+            (V.volume vols.new self.old.volume).contents result }
 
         // A crash at any moment of the call leaves the log from before it, with the new body or without.
         ensures any_moment { V.told → (log : List (List ℕ)) → IsSettled V.volume vols.old self.old log →
@@ -74,11 +82,8 @@ impl Journal {
         ensures full_unwritten { (place : ℕ) → result ≡ Err (AppendFault.Full place) → vols.new ≡ vols.old }
         ensures no_memory { V.told → (log : List (List ℕ)) → IsSettled V.volume vols.old self.old log →
             IsErrOf result AppendFault.OutOfMemory → IsSettled V.volume vols.new self.new log }
-        ensures failed { IsErrOf result AppendFault.Volume →
-            Rose (V.faults vols.old self.old.volume) (V.faults vols.new self.old.volume) }
-        ensures quiet { result ≢ Err AppendFault.Volume →
-            V.faults vols.new self.old.volume ≡ V.faults vols.old self.old.volume }
-        ensures counted { CountsOnly (V.faults vols.old) (V.faults vols.new) self.old.volume }
+        ensures faults { CountsFault (IsErrOf result AppendFault.Volume)
+            (V.faults vols.old) (V.faults vols.new) self.old.volume }
     {
         let next = self.gate + 5 + body.len() as u64;
         if next >= Journal::MOST_BYTES {
@@ -86,6 +91,7 @@ impl Journal {
         }
         let block = block_of(self.alloc, body)?;
         write_synced(vols, self.volume, self.gate + 1, &block)?;
+        // The record is on the disk for good, so from here on it hangs on this one byte whether it is in the log.
         write_synced(vols, self.volume, self.gate, &[Journal::OPEN_GATE])?;
         self.gate = next;
         Ok(())

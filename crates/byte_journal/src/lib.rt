@@ -3,7 +3,8 @@
 //! Contract: `open` gives the log that the volume's bytes stand for, or the place of the damage, and `append` adds one
 //! body and nothing else; at any moment of either a crash leaves the log before the call or after it. The definitions
 //! are in `specs/`: `Log` (which log bytes stand for, and where they are damaged), `Settled` (a journal that is ready
-//! for appends).
+//! for appends), `Bytes` (what both leave of the volume's bytes). Lemmas for who builds on journals are in `proofs/`:
+//! `SettledLemmas` (a journal through calls on other volumes), beside those of `ale_volumes`.
 #![tactic(auto)]
 
 mod close_gate;
@@ -17,6 +18,3 @@ mod write_synced;
 pub use fault::{AppendFault, OpenFault};
 pub use journal::Journal;
 pub use opening::open;
-
-#[cfg(test)]
-mod tests;

@@ -1,10 +1,12 @@
+//! Opening a journal, whatever a crash left on its volume.
+
 ghost use Rattle.std.specs.Prelude.{◌≡◌, ◌≢◌, ℕ, List, ◌<◌, IfOk, IsErrOf};
 ghost use Rattle.ale_volumes.specs.Volume.{IsImage, settled};
 ghost use Rattle.ale_volumes.specs.Clock.{LeavesOnly, KeepsOthers};
-ghost use Rattle.ale_base.specs.Faults.{Rose};
-ghost use Rattle.ale_volumes.specs.Faults.{CountsOnly};
+ghost use Rattle.ale_volumes.specs.Faults.{CountsFault};
 ghost use Rattle.byte_journal.specs.Log.{Stands, ReadsAs, HasOneAnswer};
-ghost use Rattle.byte_journal.specs.Settled.{Answers, IsSettled, IsLeftByOpening, LeavesOnlyFromSync};
+ghost use Rattle.byte_journal.specs.Bytes.{LeavesOpened};
+ghost use Rattle.byte_journal.specs.Settled.{Answers, IsSettled, IsAtEnd, IsLeftByOpening, LeavesOnlyFromSync};
 
 use crate::close_gate::close_gate;
 use crate::read_durable::read_durable;
@@ -16,9 +18,10 @@ use std::alloc::Global;
 
 /// Opens the journal on volume `n`, whatever a crash left there, and gives the bodies of its log, oldest first.
 ///
-/// It begins by a sync, so that what it reads is on the disk for good. Where the volume is empty or its last byte is
-/// an open gate, it writes a closed gate there and syncs again. `Damaged` comes where the bytes stand for no log, and
-/// names the first place where they don't; then nothing was written.
+/// It begins by a sync, so that what it reads is on the disk for good, and reads the first 67,108,865 bytes at most,
+/// which alone decide the log. Where the volume is empty or its last byte is an open gate that ends the log, it writes a
+/// closed gate there and syncs again. `Damaged` comes where the bytes stand for no log, and names the first place where
+/// they don't; then nothing was written.
 pub fn open<V: Volumes>(
     alloc: Global,
     vols: &mut V,
@@ -31,10 +34,12 @@ pub fn open<V: Volumes>(
     ensures settled { V.told → IfOk result (λ opened. IsSettled V.volume vols.new opened.0 opened.1) }
     ensures durable { V.told → IfOk result (λ opened.
         (image : List ℕ) → IsImage (V.volume vols.new n) image → Stands image opened.1) }
-    ensures damaged_unwritten { V.told → (place : ℕ) → result ≡ Err (OpenFault.Damaged place) →
-        V.volume vols.new n ≡ settled (V.volume vols.old n).contents }
     ensures one_answer { (bytes : List ℕ) → HasOneAnswer bytes }
     ensures number { IfOk result (λ opened. opened.0.volume ≡ n) }
+    ensures at_end { IfOk result (λ opened. IsAtEnd opened.0 opened.1) }
+
+    // What a read gives is as before, but for a gate that was closed.
+    ensures leaves { V.told → LeavesOpened (V.volume vols.old n) (V.volume vols.new n) result }
 
     // A crash at any moment of the call leaves what was handed in, or what reads as it; and only that from the sync on.
     ensures any_moment { V.told → LeavesOnly V.moment V.images_since vols.old vols.new n
@@ -43,9 +48,7 @@ pub fn open<V: Volumes>(
         (IsErrOf result OpenFault.Volume) (ReadsAs (V.volume vols.old n).contents) }
     ensures others { V.told → KeepsOthers V.volume V.moment V.images_since vols.old vols.new n }
 
-    ensures failed { IsErrOf result OpenFault.Volume → Rose (V.faults vols.old n) (V.faults vols.new n) }
-    ensures quiet { result ≢ Err OpenFault.Volume → V.faults vols.new n ≡ V.faults vols.old n }
-    ensures counted { CountsOnly (V.faults vols.old) (V.faults vols.new) n }
+    ensures faults { CountsFault (IsErrOf result OpenFault.Volume) (V.faults vols.old) (V.faults vols.new) n }
 {
     let bytes = read_durable(alloc, vols, n)?;
     let (log, gate) = read_log(alloc, &bytes)?;

@@ -1,6 +1,8 @@
+//! Reading the log that bytes stand for.
+
 ghost use Rattle.std.specs.Prelude.{◌≡◌, ℕ, List, ◌+◌, ◌<◌, length, slice_index, IfSome, IfNone, IsTrue, ◌↔◌};
 ghost use Rattle.byte_journal.specs.Log.{BeginsWithRecord, open_gate};
-ghost use Rattle.byte_journal.specs.Reading.{Reads};
+ghost use Rattle.byte_journal.specs.steps.Reading.{Reads};
 
 use crate::{Journal, OpenFault};
 use ale_base::Items;

@@ -1,5 +1,5 @@
 use Rattle.std.proofs.Common.{◌≡◌, ℕ, ◌<◌, [], length, get_or}
-use Rattle.ale_volumes.proofs.memory_volumes.MemoryVolumes.with_contents.Given as goal
+use Rattle.ale_volumes.proofs.memory_volumes.MemoryVolumes.with_failures.Given as goal
 
 abbrev pub invariant-loop-i : goal.invariant-loop-i
 invariant-loop-i l = record {

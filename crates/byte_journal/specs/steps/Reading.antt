@@ -1,4 +1,4 @@
--- What reading the bytes of a journal gives.
+-- (a step of `Answers`) What reading the bytes of a journal gives.
 use Rattle.std.specs.Prelude.{◌≡◌, ℕ, List, length, Result, Ok, Err}
 use Rattle.byte_journal.specs.declared.fault.OpenFault.{OpenFault}
 use Rattle.byte_journal.specs.declared.fault.OpenFault.TheVariants.{Damaged, Volume as VolumeFault, OutOfMemory}
