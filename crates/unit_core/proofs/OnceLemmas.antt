@@ -15,6 +15,7 @@ use Rattle.unit_core.specs.Filters.{taken_by, executed_by, done_by, ended_by, fo
 use Rattle.unit_core.specs.Queues.{is_listed, is_among, unit_named, tids_of, has_name, stands_in, in_queue, heads_outbound, heads_inbound}
 use Rattle.ale_base.specs.Prefix.{IsPrefix}
 use Rattle.unit_core.specs.Once.{NoneTwice, TakenOnce, TakenWasCommitted, TakenInOrder, executed_units, ExecutedInOrder, Once}
+use Rattle.ale_base.proofs.OptionLemmas.{none_or_some}
 use Rattle.ale_base.proofs.MemberLemmas.{Contains-map, Contains-map_back, Contains-filter, Contains-filter_back, filter_map-None, filter_map-Some, filter-kept, filter-left_out, filter_map-agree, filter_map-Contains, filter_map-Contains_back, find-longer}
 use Rattle.ale_base.proofs.PrefixLemmas.{IsPrefix-same, IsPrefix-trans, IsPrefix-filter, IsPrefix-Contains, IsPrefix-filter_map}
 use Rattle.unit_core.proofs.TidLemmas.{is_listed-Contains, Contains-is_listed, is_among-listed, is_among-Contains, Contains-is_among, unit_named-Some, unit_named-Contains, NoneTwice-push, same_unit}
@@ -52,7 +53,8 @@ WasTaken committed logs system tid = (unit : AleUnit) × (unit.tid ≡ tid) × C
 
 -- the id of a unit was forgotten by its receiver
 abbrev pub WasForgotten : (ℕ → List AleUnit) → (ℕ → List Record) → ℕ → TidOf → Type 0
-WasForgotten committed logs system tid = (unit : AleUnit) × (unit.tid ≡ tid) × Contains (committed system) unit × Contains (forgotten_in (logs unit.receiver)) tid
+WasForgotten committed logs system tid = (unit : AleUnit) × (unit.tid ≡ tid) × Contains (committed system) unit
+    × Contains (forgotten_in (logs unit.receiver)) tid
 
 -- the record may join: what it takes in, executes, finishes, forgets and ends is in order
 pub record MayJoin (committed : ℕ → List AleUnit) (logs : ℕ → List Record) (system : ℕ) (next : Record) : Type 0 where
@@ -62,11 +64,6 @@ pub record MayJoin (committed : ℕ → List AleUnit) (logs : ℕ → List Recor
   pub finishes : (tid : TidOf) → done_by next ≡ Some tid → WasTaken committed logs system tid
   pub forgets : (tid : TidOf) → forgotten_by next ≡ Some tid → Contains (done_in (logs tid.system)) tid
   pub ends : (tid : TidOf) → ended_by next ≡ Some tid → WasForgotten committed logs system tid
-
--- an option is one of its two cases
-cases_Option : {A : Type 0} (o : Option A) → (o ≡ None) ⊎ ((x : A) × (o ≡ Some x))
-cases_Option None = inl refl
-cases_Option (Some x) = inr (x, refl)
 
 -- logs grow
 pub Joins-grows : (logs after : ℕ → List Record) (system : ℕ) (next : Record) → Joins logs after system next → (other : ℕ) → IsPrefix (logs other) (after other)
@@ -91,7 +88,7 @@ module _ (committed : ℕ → List AleUnit) (logs : ℕ → List Record) (system
 
   taken_once : TakenOnce (logs system ++ next ∷ [])
   taken_once =
-      elim (cases_Option (taken_by next)) [
+      elim (none_or_some (taken_by next)) [
         | inl none ↦ subst (λ units. NoneTwice (tids_of units)) (sym (filter_map-None taken_by (logs system) next none)) (once.taken_once system)
         | inr some ↦ subst (λ units. NoneTwice (tids_of units)) (sym (filter_map-Some taken_by (logs system) next some.0 some.1))
             (subst NoneTwice (sym (map-append (λ u. u.tid) (received (logs system)) (some.0 ∷ [])))
@@ -104,7 +101,7 @@ module _ (committed : ℕ → List AleUnit) (logs : ℕ → List Record) (system
   taken_was_committed : TakenWasCommitted committed system (logs system ++ next ∷ [])
   taken_was_committed =
       let P : AleUnit → Type 0 = λ unit. (unit.receiver ≡ system) × Contains (committed unit.sender) unit in
-      elim (cases_Option (taken_by next)) [
+      elim (none_or_some (taken_by next)) [
         | inl none ↦ subst (All P) (sym (filter_map-None taken_by (logs system) next none)) (once.taken_was_committed system)
         | inr some ↦ let take = may.takes some.0 some.1 in
             subst (All P) (sym (filter_map-Some taken_by (logs system) next some.0 some.1))
@@ -118,9 +115,11 @@ module _ (committed : ℕ → List AleUnit) (logs : ℕ → List Record) (system
       → is_listed v.tid (done_in (logs sender)) ≡ true → is_among v.tid (in_queue (Outbound sender system name) (received (logs system))) ≡ true
   done_of_queue sender name v has stands listed =
       let was : WasTaken committed logs sender v.tid =
-      All-contains (WasTaken committed logs sender) (done_in (logs sender)) v.tid (once.done_was_taken sender) (Contains-is_listed v.tid (done_in (logs sender)) listed) in
+      All-contains (WasTaken committed logs sender) (done_in (logs sender)) v.tid (once.done_was_taken sender)
+      (Contains-is_listed v.tid (done_in (logs sender)) listed) in
       let same : was.0 ≡ v = same_unit (committed sender) was.0 v (numbered sender) was.2 has was.1 in
-      let to : v.receiver ≡ system = eqb-true v.receiver system (and_parts (v.sender == sender) (v.receiver == system) (and_parts ((v.sender == sender) && (v.receiver == system)) (has_name name v.outq) stands).0).1 in
+      let to : v.receiver ≡ system = eqb-true v.receiver system (and_parts (v.sender == sender) (v.receiver == system)
+      (and_parts ((v.sender == sender) && (v.receiver == system)) (has_name name v.outq) stands).0).1 in
       let here : Contains (received (logs system)) v =
       subst (λ s. Contains (received (logs s)) v) to (subst (λ u. Contains (received (logs u.receiver)) u) same was.3) in
       is_among-Contains v (in_queue (Outbound sender system name) (received (logs system)))
@@ -129,8 +128,10 @@ module _ (committed : ℕ → List AleUnit) (logs : ℕ → List Record) (system
   taken_next : (sender : ℕ) (name : List ℕ) (unit : AleUnit) → MayTake committed logs system unit → stands_in (Outbound sender system name) unit ≡ true
       → IsPrefix (in_queue (Outbound sender system name) (received (logs system)) ++ unit ∷ []) (in_queue (Outbound sender system name) (committed sender))
   taken_next sender name unit take stands =
-      let from : unit.sender ≡ sender = eqb-true unit.sender sender (and_parts (unit.sender == sender) (unit.receiver == system) (and_parts ((unit.sender == sender) && (unit.receiver == system)) (has_name name unit.outq) stands).0).0 in
-      next_of_queue (done_in (logs sender)) (committed sender) (in_queue (Outbound sender system name) (received (logs system))) (Outbound sender system name) unit
+      let from : unit.sender ≡ sender = eqb-true unit.sender sender (and_parts (unit.sender == sender) (unit.receiver == system)
+      (and_parts ((unit.sender == sender) && (unit.receiver == system)) (has_name name unit.outq) stands).0).0 in
+      next_of_queue (done_in (logs sender)) (committed sender) (in_queue (Outbound sender system name) (received (logs system)))
+      (Outbound sender system name) unit
       (numbered sender) (once.taken_in_order system sender name)
       (subst (λ s. Contains (committed s) unit) from take.was_committed)
       (is_head-outbound (done_in (logs sender)) (committed sender) unit sender system name
@@ -146,13 +147,15 @@ module _ (committed : ℕ → List AleUnit) (logs : ℕ → List Record) (system
   taken_in_order sender name =
       let queue : Queue = Outbound sender system name in
       let P : List AleUnit → Type 0 = λ units. IsPrefix (in_queue queue units) (in_queue queue (committed sender)) in
-      elim (cases_Option (taken_by next)) [
+      elim (none_or_some (taken_by next)) [
         | inl none ↦ subst P (sym (filter_map-None taken_by (logs system) next none)) (once.taken_in_order system sender name)
         | inr some ↦ subst P (sym (filter_map-Some taken_by (logs system) next some.0 some.1))
             (elim (cases_Bool (stands_in queue some.0)) [
-              | inl stands ↦ subst (λ units. IsPrefix units (in_queue queue (committed sender))) (sym (filter-kept (stands_in queue) (received (logs system)) some.0 stands))
+              | inl stands ↦ subst (λ units. IsPrefix units (in_queue queue (committed sender)))
+                  (sym (filter-kept (stands_in queue) (received (logs system)) some.0 stands))
                   (taken_next sender name some.0 (may.takes some.0 some.1) stands)
-              | inr out ↦ subst (λ units. IsPrefix units (in_queue queue (committed sender))) (sym (filter-left_out (stands_in queue) (received (logs system)) some.0 out))
+              | inr out ↦ subst (λ units. IsPrefix units (in_queue queue (committed sender)))
+                  (sym (filter-left_out (stands_in queue) (received (logs system)) some.0 out))
                   (once.taken_in_order system sender name)
             ])
       ]
@@ -168,13 +171,18 @@ module _ (committed : ℕ → List AleUnit) (logs : ℕ → List Record) (system
   -- the unit of an id that was executed is found among those received
   executed_is_found : (tid : TidOf) → Contains (executed (logs system)) tid → (unit : AleUnit) × (unit_named tid (received (logs system)) ≡ Some unit)
   executed_is_found tid has =
-      let back = Contains-map_back (λ u. u.tid) (received (logs system)) tid (All-contains (λ t. Contains (tids_of (received (logs system))) t) (executed (logs system)) tid executed_was_received has) in
-      (back.0, subst (λ t. unit_named t (received (logs system)) ≡ Some back.0) back.2 (unit_named-Contains (received (logs system)) back.0 (once.taken_once system) back.1))
+      let back = Contains-map_back (λ u. u.tid) (received (logs system)) tid
+      (All-contains (λ t. Contains (tids_of (received (logs system))) t) (executed (logs system)) tid executed_was_received has) in (
+        back.0,
+        subst (λ t. unit_named t (received (logs system)) ≡ Some back.0) back.2
+            (unit_named-Contains (received (logs system)) back.0 (once.taken_once system) back.1),
+      )
 
   received_tids_grow : (tid : TidOf) → Contains (tids_of (received (logs system))) tid → Contains (tids_of (received (logs system ++ next ∷ []))) tid
   received_tids_grow tid has =
       let back = Contains-map_back (λ u. u.tid) (received (logs system)) tid has in
-      let there = IsPrefix-Contains (received (logs system)) (received (logs system ++ next ∷ [])) back.0 (IsPrefix-filter_map taken_by (logs system) (logs system ++ next ∷ []) (next ∷ [], refl)) back.1 in
+      let there = IsPrefix-Contains (received (logs system)) (received (logs system ++ next ∷ [])) back.0
+      (IsPrefix-filter_map taken_by (logs system) (logs system ++ next ∷ []) (next ∷ [], refl)) back.1 in
       subst (Contains (tids_of (received (logs system ++ next ∷ [])))) back.2 (Contains-map (λ u. u.tid) (received (logs system ++ next ∷ [])) back.0 there)
 
   -- the id that a record executes was received, in this record or before
@@ -182,17 +190,20 @@ module _ (committed : ℕ → List AleUnit) (logs : ℕ → List Record) (system
   next_was_received tid executes =
       elim (may.executes tid executes) [
         | inl before ↦ let named = unit_named-Some tid (received (logs system)) before.1.unit before.1.named in
-            received_tids_grow tid (subst (Contains (tids_of (received (logs system)))) named.1 (Contains-map (λ u. u.tid) (received (logs system)) before.1.unit named.0))
+            received_tids_grow tid (subst (Contains (tids_of (received (logs system)))) named.1
+            (Contains-map (λ u. u.tid) (received (logs system)) before.1.unit named.0))
         | inr run ↦ subst (Contains (tids_of (received (logs system ++ next ∷ [])))) run.its_tid
             (Contains-map (λ u. u.tid) (received (logs system ++ next ∷ [])) run.unit
-            (subst (λ units. Contains units run.unit) (sym (filter_map-Some taken_by (logs system) next run.unit run.taken)) (Contains-push (received (logs system)) run.unit)))
+            (subst (λ units. Contains units run.unit) (sym (filter_map-Some taken_by (logs system) next run.unit run.taken))
+            (Contains-push (received (logs system)) run.unit)))
       ]
 
   all_received : All (λ tid. Contains (tids_of (received (logs system ++ next ∷ []))) tid) (executed (logs system ++ next ∷ []))
   all_received =
       let P : TidOf → Type 0 = λ tid. Contains (tids_of (received (logs system ++ next ∷ []))) tid in
-      let before : All P (executed (logs system)) = All-weaker (λ tid. Contains (tids_of (received (logs system))) tid) P received_tids_grow (executed (logs system)) executed_was_received in
-      elim (cases_Option (executed_by next)) [
+      let before : All P (executed (logs system)) = All-weaker (λ tid. Contains (tids_of (received (logs system))) tid) P received_tids_grow
+      (executed (logs system)) executed_was_received in
+      elim (none_or_some (executed_by next)) [
         | inl none ↦ subst (All P) (sym (filter_map-None executed_by (logs system) next none)) before
         | inr some ↦ subst (All P) (sym (filter_map-Some executed_by (logs system) next some.0 some.1))
             (All-push P (executed (logs system)) some.0 before (next_was_received some.0 some.1))
@@ -212,7 +223,8 @@ module _ (committed : ℕ → List AleUnit) (logs : ℕ → List Record) (system
       false_from_ne_true (is_listed tid (executed (logs system))) (λ listed.
       both_ways (is_among tid (received (logs system))) new
       (is_among-listed tid (received (logs system)) ∙ is_listed-Contains tid (tids_of (received (logs system)))
-      (All-contains (λ t. Contains (tids_of (received (logs system))) t) (executed (logs system)) tid executed_was_received (Contains-is_listed tid (executed (logs system)) listed))))
+      (All-contains (λ t. Contains (tids_of (received (logs system))) t) (executed (logs system)) tid executed_was_received
+      (Contains-is_listed tid (executed (logs system)) listed))))
 
   not_executed : (tid : TidOf) → executed_by next ≡ Some tid → is_listed tid (executed (logs system)) ≡ false
   not_executed tid executes =
@@ -223,14 +235,15 @@ module _ (committed : ℕ → List AleUnit) (logs : ℕ → List Record) (system
 
   executed_once : NoneTwice (executed (logs system ++ next ∷ []))
   executed_once =
-      elim (cases_Option (executed_by next)) [
+      elim (none_or_some (executed_by next)) [
         | inl none ↦ subst NoneTwice (sym (filter_map-None executed_by (logs system) next none)) (once.executed_in_order system).once
         | inr some ↦ subst NoneTwice (sym (filter_map-Some executed_by (logs system) next some.0 some.1))
             (NoneTwice-push (executed (logs system)) some.0 (once.executed_in_order system).once (not_executed some.0 some.1))
       ]
 
   -- the units executed so far are the same, where a unit more was received
-  same_executed_units : (unit : AleUnit) → filter_map (λ tid. unit_named tid (received (logs system) ++ unit ∷ [])) (executed (logs system)) ≡ executed_units (logs system)
+  same_executed_units : (unit : AleUnit)
+      → filter_map (λ tid. unit_named tid (received (logs system) ++ unit ∷ [])) (executed (logs system)) ≡ executed_units (logs system)
   same_executed_units unit =
       filter_map-agree (λ tid. unit_named tid (received (logs system) ++ unit ∷ [])) (λ tid. unit_named tid (received (logs system))) (executed (logs system))
       (λ tid has. let found = executed_is_found tid has in
@@ -246,7 +259,8 @@ module _ (committed : ℕ → List AleUnit) (logs : ℕ → List Record) (system
       (Contains-is_listed v.tid (executed (logs system)) listed) (unit_named-Contains (received (logs system)) v (once.taken_once system) has))
       stands)
 
-  not_among_executed : (name : List ℕ) (tid : TidOf) → is_listed tid (executed (logs system)) ≡ false → is_among tid (in_queue (Inbound name) (executed_units (logs system))) ≡ false
+  not_among_executed : (name : List ℕ) (tid : TidOf) → is_listed tid (executed (logs system)) ≡ false
+      → is_among tid (in_queue (Inbound name) (executed_units (logs system))) ≡ false
   not_among_executed name tid open_ =
       false_from_ne_true (is_among tid (in_queue (Inbound name) (executed_units (logs system)))) (λ among.
       let found = Contains-is_among tid (in_queue (Inbound name) (executed_units (logs system))) among in
@@ -276,9 +290,11 @@ module _ (committed : ℕ → List AleUnit) (logs : ℕ → List Record) (system
       subst (λ units. IsPrefix (in_queue queue units) (in_queue queue (received (logs system))))
       (sym (filter_map-Some (λ t. unit_named t (received (logs system))) (executed (logs system)) tid execute.unit execute.named))
       (elim (cases_Bool (stands_in queue execute.unit)) [
-        | inl stands ↦ subst (λ units. IsPrefix units (in_queue queue (received (logs system)))) (sym (filter-kept (stands_in queue) (executed_units (logs system)) execute.unit stands))
+        | inl stands ↦ subst (λ units. IsPrefix units (in_queue queue (received (logs system))))
+            (sym (filter-kept (stands_in queue) (executed_units (logs system)) execute.unit stands))
             (executed_next name tid execute stands)
-        | inr out ↦ subst (λ units. IsPrefix units (in_queue queue (received (logs system)))) (sym (filter-left_out (stands_in queue) (executed_units (logs system)) execute.unit out))
+        | inr out ↦ subst (λ units. IsPrefix units (in_queue queue (received (logs system))))
+            (sym (filter-left_out (stands_in queue) (executed_units (logs system)) execute.unit out))
             ((once.executed_in_order system).in_order name)
       ])
 
@@ -287,7 +303,8 @@ module _ (committed : ℕ → List AleUnit) (logs : ℕ → List Record) (system
   in_order-taken name unit =
       let queue : Queue = Inbound name in
       subst (λ units. IsPrefix (in_queue queue units) (in_queue queue (received (logs system) ++ unit ∷ []))) (sym (same_executed_units unit))
-      (IsPrefix-trans (in_queue queue (executed_units (logs system))) (in_queue queue (received (logs system))) (in_queue queue (received (logs system) ++ unit ∷ []))
+      (IsPrefix-trans (in_queue queue (executed_units (logs system))) (in_queue queue (received (logs system)))
+      (in_queue queue (received (logs system) ++ unit ∷ []))
       ((once.executed_in_order system).in_order name)
       (IsPrefix-filter (stands_in queue) (received (logs system)) (received (logs system) ++ unit ∷ []) (unit ∷ [], refl)))
 
@@ -303,19 +320,23 @@ module _ (committed : ℕ → List AleUnit) (logs : ℕ → List Record) (system
       (subst NoneTwice (sym (map-append (λ u. u.tid) (received (logs system)) (unit ∷ [])))
       (NoneTwice-push (tids_of (received (logs system))) unit.tid (once.taken_once system) (sym (is_among-listed unit.tid (received (logs system))) ∙ new)))
       (Contains-push (received (logs system)) unit) in
-      let all : filter_map (λ t. unit_named t (received (logs system) ++ unit ∷ [])) (executed (logs system) ++ unit.tid ∷ []) ≡ executed_units (logs system) ++ unit ∷ [] =
-      filter_map-Some (λ t. unit_named t (received (logs system) ++ unit ∷ [])) (executed (logs system)) unit.tid unit named ∙ ap (λ us. us ++ unit ∷ []) (same_executed_units unit) in
+      let all : filter_map (λ t. unit_named t (received (logs system) ++ unit ∷ [])) (executed (logs system) ++ unit.tid ∷ []) ≡ executed_units
+      (logs system) ++ unit ∷ [] =
+      filter_map-Some (λ t. unit_named t (received (logs system) ++ unit ∷ [])) (executed (logs system)) unit.tid unit named
+      ∙ ap (λ us. us ++ unit ∷ []) (same_executed_units unit) in
       subst (λ us. IsPrefix (in_queue queue us) (in_queue queue (received (logs system) ++ unit ∷ []))) (sym all)
-      (subst (λ us. IsPrefix us (in_queue queue (received (logs system) ++ unit ∷ []))) (sym (filter-left_out (stands_in queue) (executed_units (logs system)) unit out))
+      (subst (λ us. IsPrefix us (in_queue queue (received (logs system) ++ unit ∷ [])))
+      (sym (filter-left_out (stands_in queue) (executed_units (logs system)) unit out))
       (subst (λ us. IsPrefix (in_queue queue (executed_units (logs system))) us) (sym (filter-left_out (stands_in queue) (received (logs system)) unit out))
       ((once.executed_in_order system).in_order name)))
 
   in_order : (name : List ℕ) → InOrder name (received (logs system ++ next ∷ [])) (executed (logs system ++ next ∷ []))
   in_order name =
-      elim (cases_Option (taken_by next)) [
+      elim (none_or_some (taken_by next)) [
         | inl none ↦ subst (λ units. InOrder name units (executed (logs system ++ next ∷ []))) (sym (filter_map-None taken_by (logs system) next none))
-            (elim (cases_Option (executed_by next)) [
-              | inl nothing ↦ subst (InOrder name (received (logs system))) (sym (filter_map-None executed_by (logs system) next nothing)) ((once.executed_in_order system).in_order name)
+            (elim (none_or_some (executed_by next)) [
+              | inl nothing ↦ subst (InOrder name (received (logs system))) (sym (filter_map-None executed_by (logs system) next nothing))
+                  ((once.executed_in_order system).in_order name)
               | inr some ↦ subst (InOrder name (received (logs system))) (sym (filter_map-Some executed_by (logs system) next some.0 some.1))
                   (elim (may.executes some.0 some.1) [
                     | inl before ↦ in_order-executed name some.0 before.1
@@ -324,7 +345,8 @@ module _ (committed : ℕ → List AleUnit) (logs : ℕ → List Record) (system
             ])
         | inr some ↦ subst (λ units. InOrder name units (executed (logs system ++ next ∷ []))) (sym (filter_map-Some taken_by (logs system) next some.0 some.1))
             (elim (may.runs some.0 some.1) [
-              | inl nothing ↦ subst (InOrder name (received (logs system) ++ some.0 ∷ [])) (sym (filter_map-None executed_by (logs system) next nothing)) (in_order-taken name some.0)
+              | inl nothing ↦ subst (InOrder name (received (logs system) ++ some.0 ∷ [])) (sym (filter_map-None executed_by (logs system) next nothing))
+                  (in_order-taken name some.0)
               | inr run ↦ subst (InOrder name (received (logs system) ++ some.0 ∷ [])) (sym (filter_map-Some executed_by (logs system) next some.0.tid run.0))
                   (in_order-run name some.0 run.1 (may.takes some.0 some.1).new)
             ])
@@ -337,7 +359,7 @@ module _ (committed : ℕ → List AleUnit) (logs : ℕ → List Record) (system
 pub All-filter_map : {B : Type 0} (P : B → Type 0) (h : Record → Option B) (log : List Record) (next : Record) → All P (filter_map h log)
     → ((x : B) → h next ≡ Some x → P x) → All P (filter_map h (log ++ next ∷ []))
 All-filter_map P h log next before here =
-    elim (cases_Option (h next)) [
+    elim (none_or_some (h next)) [
       | inl none ↦ subst (All P) (sym (filter_map-None h log next none)) before
       | inr some ↦ subst (All P) (sym (filter_map-Some h log next some.0 some.1)) (All-push P (filter_map h log) some.0 before (here some.0 some.1))
     ]
@@ -366,10 +388,12 @@ Once-joins committed more logs after system next numbered once may joins grows =
     let still_done : (tid : TidOf) → Contains (done_in (logs tid.system)) tid → Contains (done_in (after tid.system)) tid =
     λ tid. IsPrefix-Contains (done_in (logs tid.system)) (done_in (after tid.system)) tid
     (IsPrefix-filter_map done_by (logs tid.system) (after tid.system) (Joins-grows logs after system next joins tid.system)) in
-    let still_committed : (s : ℕ) (unit : AleUnit) → (unit.receiver ≡ s) × Contains (committed unit.sender) unit → (unit.receiver ≡ s) × Contains (more unit.sender) unit =
+    let still_committed : (s : ℕ) (unit : AleUnit) → (unit.receiver ≡ s) × Contains (committed unit.sender) unit
+    → (unit.receiver ≡ s) × Contains (more unit.sender) unit =
     λ s unit is. (is.0, IsPrefix-Contains (committed unit.sender) (more unit.sender) unit (grows unit.sender) is.1) in
     let in_order : (s : ℕ) (log : List Record) → TakenInOrder committed s log → TakenInOrder more s log =
-    λ s log is sender name. IsPrefix-trans (in_queue (Outbound sender s name) (received log)) (in_queue (Outbound sender s name) (committed sender)) (in_queue (Outbound sender s name) (more sender))
+    λ s log is sender name. IsPrefix-trans (in_queue (Outbound sender s name) (received log)) (in_queue (Outbound sender s name) (committed sender))
+    (in_queue (Outbound sender s name) (more sender))
     (is sender name) (IsPrefix-filter (stands_in (Outbound sender s name)) (committed sender) (more sender) (grows sender)) in
     record {
       taken_once = at_each logs after system next joins (λ _ log. TakenOnce log) once.taken_once (taken_once committed logs system next numbered once may);
@@ -379,7 +403,8 @@ Once-joins committed more logs after system next numbered once may joins grows =
       taken_in_order = at_each logs after system next joins (TakenInOrder more)
           (λ s. in_order s (logs s) (once.taken_in_order s))
           (in_order system (logs system ++ next ∷ []) (taken_in_order committed logs system next numbered once may));
-      executed_in_order = at_each logs after system next joins (λ _ log. ExecutedInOrder log) once.executed_in_order (executed_in_order committed logs system next numbered once may);
+      executed_in_order = at_each logs after system next joins (λ _ log. ExecutedInOrder log) once.executed_in_order
+          (executed_in_order committed logs system next numbered once may);
       done_was_taken = at_each logs after system next joins (λ s log. All (WasTaken more after s) (done_in log))
           (λ s. All-weaker (WasTaken committed logs s) (WasTaken more after s) (still_taken s) (done_in (logs s)) (once.done_was_taken s))
           (All-filter_map (WasTaken more after system) done_by (logs system) next
@@ -393,6 +418,7 @@ Once-joins committed more logs after system next numbered once may joins grows =
       ended_was_forgotten = at_each logs after system next joins (λ s log. All (WasForgotten more after s) (ended_in log))
           (λ s. All-weaker (WasForgotten committed logs s) (WasForgotten more after s) (still_forgotten s) (ended_in (logs s)) (once.ended_was_forgotten s))
           (All-filter_map (WasForgotten more after system) ended_by (logs system) next
-          (All-weaker (WasForgotten committed logs system) (WasForgotten more after system) (still_forgotten system) (ended_in (logs system)) (once.ended_was_forgotten system))
+          (All-weaker (WasForgotten committed logs system) (WasForgotten more after system) (still_forgotten system) (ended_in (logs system))
+          (once.ended_was_forgotten system))
           (λ tid ends. still_forgotten system tid (may.ends tid ends)));
     }

@@ -33,14 +33,16 @@ next_behind open_ (p ∷ ps) (y ∷ ys) unit prefix none found closed new =
     elim (cases_Bool (open_ y)) [
       | inl pass ↦
           let same : y ≡ unit = same_Some y unit (sym (cond-true (open_ y) (Some y) (find open_ ys) pass) ∙ found) in
-          absurd (both_ways (is_among unit.tid (p ∷ ps)) new (is_among-Contains unit (p ∷ ps) (subst (λ v. Contains (p ∷ ps) v) (parts.0 ∙ same) (Contains-here p ps))))
+          absurd (both_ways (is_among unit.tid (p ∷ ps)) new
+          (is_among-Contains unit (p ∷ ps) (subst (λ v. Contains (p ∷ ps) v) (parts.0 ∙ same) (Contains-here p ps))))
       | inr miss ↦
           IsPrefix-cons p y (ps ++ unit ∷ []) ys parts.0
           (next_behind open_ ps ys unit parts.1 none.1
           (sym (cond-false (open_ y) (Some y) (find open_ ys) miss) ∙ found)
           (λ v has is_closed. elim (or_cases (is_tid p.tid v.tid) (is_among v.tid ps) (closed v (Contains-there y ys v has) is_closed)) [
             | inl same ↦ absurd (both_ways (is_listed y.tid (tids_of ys)) none.0
-                (sym (is_among-listed y.tid ys) ∙ subst (λ t. is_among t ys ≡ true) (sym (is_tid-true p.tid v.tid same) ∙ ap (λ u. u.tid) parts.0) (is_among-Contains v ys has)))
+                (sym (is_among-listed y.tid ys)
+                ∙ subst (λ t. is_among t ys ≡ true) (sym (is_tid-true p.tid v.tid same) ∙ ap (λ u. u.tid) parts.0) (is_among-Contains v ys has)))
             | inr among ↦ among
           ])
           (or_parts (is_tid p.tid unit.tid) (is_among unit.tid ps) new).1)
@@ -48,16 +50,21 @@ next_behind open_ (p ∷ ps) (y ∷ ys) unit prefix none found closed new =
 
 -- ---- the head of a queue
 
+-- there is a unit, and it has the id
 pub has_tid-Some : (tid : TidOf) (found : Option AleUnit) → has_tid tid found ≡ true → (unit : AleUnit) × (found ≡ Some unit) × (unit.tid ≡ tid)
 has_tid-Some tid None has = cc
 has_tid-Some tid (Some unit) has = (unit, refl, is_tid-true unit.tid tid has)
 
+-- a unit that is through stays so where more ids are through
 pub is_outstanding-fewer : (through more : List TidOf) (unit : AleUnit) → is_outstanding through unit ≡ false → is_outstanding (through ++ more) unit ≡ false
 is_outstanding-fewer through more unit closed =
     not_from_true (is_listed unit.tid (through ++ more))
-    (list_any-append (λ other. is_tid other unit.tid) through more ∙ or_left (is_listed unit.tid through) (is_listed unit.tid more) (not-false (is_listed unit.tid through) closed))
+    (list_any-append (λ other. is_tid other unit.tid) through more
+    ∙ or_left (is_listed unit.tid through) (is_listed unit.tid more) (not-false (is_listed unit.tid through) closed))
 
-pub is_outstanding-more : (through more : List TidOf) (unit : AleUnit) → is_outstanding through unit ≡ true → is_listed unit.tid more ≡ false → is_outstanding (through ++ more) unit ≡ true
+-- a unit stays outstanding where the ids of others are through
+pub is_outstanding-more : (through more : List TidOf) (unit : AleUnit) → is_outstanding through unit ≡ true → is_listed unit.tid more ≡ false
+    → is_outstanding (through ++ more) unit ≡ true
 is_outstanding-more through more unit open_ other =
     not_from_false (is_listed unit.tid (through ++ more)) (is_listed-append unit.tid through more (not-true (is_listed unit.tid through) open_) other)
 
@@ -79,16 +86,20 @@ is_head-keeps through more units behind tid queue other head =
     (is_outstanding-more through more unit parts.1 (subst (λ t. is_listed t more ≡ false) (sym first.2) other))) in
     ap (has_tid tid) (find-longer (λ u. stands_in queue u && is_outstanding (through ++ more) u) units behind unit still) ∙ is_tid-from unit.tid tid first.2
 
+-- a unit heads its outbound queues still, where units come behind and others are through
 pub heads_outbound-keeps : (through more : List TidOf) (units behind : List AleUnit) (unit : AleUnit) → is_listed unit.tid more ≡ false
     → heads_outbound through units unit ≡ true → heads_outbound (through ++ more) (units ++ behind) unit ≡ true
 heads_outbound-keeps through more units behind unit other heads =
-    list_all-weaker (λ name. is_head through units unit.tid (Outbound unit.sender unit.receiver name)) (λ name. is_head (through ++ more) (units ++ behind) unit.tid (Outbound unit.sender unit.receiver name)) unit.outq
+    list_all-weaker (λ name. is_head through units unit.tid (Outbound unit.sender unit.receiver name))
+    (λ name. is_head (through ++ more) (units ++ behind) unit.tid (Outbound unit.sender unit.receiver name)) unit.outq
     (λ name. is_head-keeps through more units behind unit.tid (Outbound unit.sender unit.receiver name) other) heads
 
+-- the same of its inbound queues
 pub heads_inbound-keeps : (through more : List TidOf) (units behind : List AleUnit) (unit : AleUnit) → is_listed unit.tid more ≡ false
     → heads_inbound through units unit ≡ true → heads_inbound (through ++ more) (units ++ behind) unit ≡ true
 heads_inbound-keeps through more units behind unit other heads =
-    list_all-weaker (λ name. is_head through units unit.tid (Inbound name)) (λ name. is_head (through ++ more) (units ++ behind) unit.tid (Inbound name)) unit.inq
+    list_all-weaker (λ name. is_head through units unit.tid (Inbound name))
+    (λ name. is_head (through ++ more) (units ++ behind) unit.tid (Inbound name)) unit.inq
     (λ name. is_head-keeps through more units behind unit.tid (Inbound name) other) heads
 
 -- a name of a list, by the test
@@ -99,7 +110,8 @@ has_name-Contains name names has =
 
 -- a unit that heads its queues heads each queue in which it stands
 pub is_head-outbound : (through : List TidOf) (units : List AleUnit) (unit : AleUnit) (sender destination : ℕ) (name : List ℕ)
-    → heads_outbound through units unit ≡ true → stands_in (Outbound sender destination name) unit ≡ true → is_head through units unit.tid (Outbound sender destination name) ≡ true
+    → heads_outbound through units unit ≡ true → stands_in (Outbound sender destination name) unit ≡ true
+    → is_head through units unit.tid (Outbound sender destination name) ≡ true
 is_head-outbound through units unit sender destination name heads stands =
     let parts = and_parts ((unit.sender == sender) && (unit.receiver == destination)) (has_name name unit.outq) stands in
     let ends = and_parts (unit.sender == sender) (unit.receiver == destination) parts.0 in
@@ -107,8 +119,10 @@ is_head-outbound through units unit sender destination name heads stands =
     let to : unit.receiver ≡ destination = eqb-true unit.receiver destination ends.1 in
     subst (λ s. is_head through units unit.tid (Outbound s destination name) ≡ true) from
     (subst (λ d. is_head through units unit.tid (Outbound unit.sender d name) ≡ true) to
-    (list_all-Contains (λ n. is_head through units unit.tid (Outbound unit.sender unit.receiver n)) unit.outq name heads (has_name-Contains name unit.outq parts.1)))
+    (list_all-Contains (λ n. is_head through units unit.tid (Outbound unit.sender unit.receiver n)) unit.outq name heads
+    (has_name-Contains name unit.outq parts.1)))
 
+-- the same of inbound queues
 pub is_head-inbound : (through : List TidOf) (units : List AleUnit) (unit : AleUnit) (name : List ℕ)
     → heads_inbound through units unit ≡ true → stands_in (Inbound name) unit ≡ true → is_head through units unit.tid (Inbound name) ≡ true
 is_head-inbound through units unit name heads stands =

@@ -9,9 +9,11 @@ use Rattle.unit_core.specs.Queues.{is_listed, is_among, unit_named, tids_of}
 use Rattle.unit_core.specs.Once.{NoneTwice}
 use Rattle.ale_base.proofs.MemberLemmas.{Contains-here, Contains-cons, Contains-nil, list_any-Contains, list_any-found, find-Some}
 
+-- an id is the same as itself
 pub is_tid-same : (a : TidOf) → is_tid a a ≡ true
 is_tid-same a = and_from (a.system == a.system) (a.unit == a.unit) (eq-eqb a.system a.system refl) (eq-eqb a.unit a.unit refl)
 
+-- ids that the test takes for the same are equal
 pub is_tid-true : (a b : TidOf) → is_tid a b ≡ true → a ≡ b
 is_tid-true a b same =
     let parts = and_parts (a.system == b.system) (a.unit == b.unit) same in
@@ -19,30 +21,37 @@ is_tid-true a b same =
     let units : a.unit ≡ b.unit = eqb-true a.unit b.unit parts.1 in
     λ i. record { system = systems i; unit = units i }
 
+-- the test takes equal ids for the same
 pub is_tid-from : (a b : TidOf) → a ≡ b → is_tid a b ≡ true
 is_tid-from a b same = subst (λ t. is_tid a t ≡ true) same (is_tid-same a)
 
+-- the test tells different ids apart
 pub is_tid-other : (a b : TidOf) → a ≢ b → is_tid a b ≡ false
 is_tid-other a b other = false_from_ne_true (is_tid a b) (λ same. other (is_tid-true a b same))
 
 -- ---- an id in a list
 
+-- the test finds an id that is in a list
 pub is_listed-Contains : (tid : TidOf) (tids : List TidOf) → Contains tids tid → is_listed tid tids ≡ true
 is_listed-Contains tid tids has = list_any-Contains (λ other. is_tid other tid) tids tid has (is_tid-same tid)
 
+-- an id that the test finds is in the list
 pub Contains-is_listed : (tid : TidOf) (tids : List TidOf) → is_listed tid tids ≡ true → Contains tids tid
 Contains-is_listed tid tids listed =
     let found = list_any-found (λ other. is_tid other tid) tids listed in
     subst (Contains tids) (is_tid-true found.0 tid found.2) found.1
 
+-- an id is in neither of two lists, so not in both together
 pub is_listed-append : (tid : TidOf) (xs ys : List TidOf) → is_listed tid xs ≡ false → is_listed tid ys ≡ false → is_listed tid (xs ++ ys) ≡ false
 is_listed-append tid xs ys miss none =
     list_any-append (λ other. is_tid other tid) xs ys ∙ or_from (is_listed tid xs) (is_listed tid ys) miss none
 
+-- an id that is not in a list is not in its front
 pub is_listed-front : (tid : TidOf) (xs ys : List TidOf) → is_listed tid (xs ++ ys) ≡ false → is_listed tid xs ≡ false
 is_listed-front tid xs ys miss =
     (or_parts (is_listed tid xs) (is_listed tid ys) (sym (list_any-append (λ other. is_tid other tid) xs ys) ∙ miss)).0
 
+-- an id is not in the list of another one
 pub is_listed-one : (tid other : TidOf) → other ≢ tid → is_listed tid (other ∷ []) ≡ false
 is_listed-one tid other differs = or_from (is_tid other tid) false (is_tid-other other tid differs) refl
 
@@ -53,14 +62,17 @@ pub is_among-listed : (tid : TidOf) (units : List AleUnit) → is_among tid unit
 is_among-listed tid [] = refl
 is_among-listed tid (unit ∷ units) = ap (λ b. is_tid unit.tid tid || b) (is_among-listed tid units)
 
+-- the test finds the id of a unit that is in a list
 pub is_among-Contains : (unit : AleUnit) (units : List AleUnit) → Contains units unit → is_among unit.tid units ≡ true
 is_among-Contains unit units has = list_any-Contains (λ other. is_tid other.tid unit.tid) units unit has (is_tid-same unit.tid)
 
+-- an id that the test finds is that of a unit in the list
 pub Contains-is_among : (tid : TidOf) (units : List AleUnit) → is_among tid units ≡ true → (unit : AleUnit) × Contains units unit × (unit.tid ≡ tid)
 Contains-is_among tid units among =
     let found = list_any-found (λ unit. is_tid unit.tid tid) units among in
     (found.0, found.1, is_tid-true found.0.tid tid found.2)
 
+-- a unit that is found by an id is in the list and has that id
 pub unit_named-Some : (tid : TidOf) (units : List AleUnit) (unit : AleUnit) → unit_named tid units ≡ Some unit → Contains units unit × (unit.tid ≡ tid)
 unit_named-Some tid units unit named =
     let found = find-Some (λ u. is_tid u.tid tid) units unit named in
@@ -68,6 +80,7 @@ unit_named-Some tid units unit named =
 
 -- ---- no id twice
 
+-- no id is twice in a list with a new one behind it
 pub NoneTwice-push : (tids : List TidOf) (tid : TidOf) → NoneTwice tids → is_listed tid tids ≡ false → NoneTwice (tids ++ tid ∷ [])
 NoneTwice-push [] tid none new = (refl, tt)
 NoneTwice-push (t ∷ ts) tid none new =
@@ -109,7 +122,8 @@ unit_named-Contains (u ∷ us) unit none has =
     ]
 
 -- what is kept of a list in which no id stands twice
-is_listed-filter : (p : AleUnit → Bool) (tid : TidOf) (units : List AleUnit) → is_listed tid (tids_of units) ≡ false → is_listed tid (tids_of (filter p units)) ≡ false
+is_listed-filter : (p : AleUnit → Bool) (tid : TidOf) (units : List AleUnit) → is_listed tid (tids_of units) ≡ false
+    → is_listed tid (tids_of (filter p units)) ≡ false
 is_listed-filter p tid [] miss = refl
 is_listed-filter p tid (u ∷ us) miss =
     let parts = or_parts (is_tid u.tid tid) (is_listed tid (tids_of us)) miss in
@@ -118,6 +132,7 @@ is_listed-filter p tid (u ∷ us) miss =
       | inr out ↦ rw out (is_listed-filter p tid us parts.1)
     ]
 
+-- no id is twice among the units that are kept of a list where none is
 pub NoneTwice-filter : (p : AleUnit → Bool) (units : List AleUnit) → NoneTwice (tids_of units) → NoneTwice (tids_of (filter p units))
 NoneTwice-filter p [] none = tt
 NoneTwice-filter p (u ∷ us) none =

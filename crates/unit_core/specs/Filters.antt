@@ -71,9 +71,11 @@ mark_after way tid before _ = before
 abbrev pub mark_of : Way → TidOf → List Record → Option Cause
 mark_of way tid log = fold (mark_after way tid) None log
 
+-- whether a unit is marked in this direction
 abbrev pub is_marked : Way → TidOf → List Record → Bool
 is_marked way tid log = is_some (mark_of way tid log)
 
+-- whether two directions are the same
 abbrev pub is_way : Way → Way → Bool
 is_way Outgoing Outgoing = true
 is_way Incoming Incoming = true

@@ -1,4 +1,8 @@
+-- what a log says of its units
 pub mod Filters
-pub mod Facts
+-- units in queues, and at their heads
 pub mod Queues
+-- the exactly-once law
 pub mod Once
+-- what private functions cite
+pub mod steps

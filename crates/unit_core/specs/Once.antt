@@ -52,7 +52,8 @@ ForgottenWasDone logs system = All (λ tid. Contains (done_in (logs tid.system))
 -- ended was forgotten: each unit that is ended at its sender was forgotten by its receiver
 abbrev pub EndedWasForgotten : (ℕ → List AleUnit) → (ℕ → List Record) → ℕ → Type 0
 EndedWasForgotten committed logs system =
-    All (λ tid. (unit : AleUnit) × (unit.tid ≡ tid) × Contains (committed system) unit × Contains (forgotten_in (logs unit.receiver)) tid) (ended_in (logs system))
+    All (λ tid. (unit : AleUnit) × (unit.tid ≡ tid) × Contains (committed system) unit × Contains (forgotten_in (logs unit.receiver)) tid)
+    (ended_in (logs system))
 
 -- the exactly-once law, over the log of each system and the units that each committed
 pub record Once (committed : ℕ → List AleUnit) (logs : ℕ → List Record) : Type 0 where

@@ -49,6 +49,7 @@ in_queue queue units = filter (stands_in queue) units
 abbrev pub head_of : List TidOf → List AleUnit → Queue → Option AleUnit
 head_of through units queue = find (λ unit. stands_in queue unit && is_outstanding through unit) units
 
+-- whether there is a unit, and it has this id
 abbrev pub has_tid : TidOf → Option AleUnit → Bool
 has_tid tid (Some unit) = is_tid unit.tid tid
 has_tid tid None = false
@@ -57,9 +58,10 @@ has_tid tid None = false
 abbrev pub is_head : List TidOf → List AleUnit → TidOf → Queue → Bool
 is_head through units tid queue = has_tid tid (head_of through units queue)
 
--- whether a unit heads each of its queues at its sender, and at its receiver
+-- whether a unit heads each of its queues at its sender
 abbrev pub heads_outbound : List TidOf → List AleUnit → AleUnit → Bool
 heads_outbound through units unit = list_all (λ name. is_head through units unit.tid (Outbound unit.sender unit.receiver name)) unit.outq
 
+-- whether a unit heads each of its queues at its receiver
 abbrev pub heads_inbound : List TidOf → List AleUnit → AleUnit → Bool
 heads_inbound through units unit = list_all (λ name. is_head through units unit.tid (Inbound name)) unit.inq

@@ -1,8 +1,10 @@
+//! A unit of work.
+
 use crate::RawUnitDoc;
 use ale_base::{Fixed, Items, QueueName, SystemNo, Tid};
 use std::alloc::AllocError;
 
-/// A unit of work: the documents that one system sends to another in one call, under one transaction id. It stands in
+/// A unit of work: the documents that one system sends to another in one call, under one transaction id. It is in
 /// outbound queues of its sender, and in inbound queues of its receiver.
 #[derive(Debug, PartialEq, Eq, Drop)]
 pub struct AleUnit {
@@ -14,9 +16,9 @@ pub struct AleUnit {
     pub receiver: SystemNo,
     /// The function that executes it.
     pub function: Fixed<30>,
-    /// The outbound queues in which it stands.
+    /// The outbound queues that it is in.
     pub outq: Items<QueueName>,
-    /// The inbound queues in which it stands. A unit with none is executed at once.
+    /// The inbound queues that it is in. A unit with none is executed at once.
     pub inq: Items<QueueName>,
     /// The documents, in order.
     pub docs: Items<RawUnitDoc>,

@@ -1,8 +1,10 @@
+//! The units and ids that a log tells of.
+
 ghost use Rattle.std.specs.Prelude.{◌≡◌, IfOk};
 ghost use Rattle.std.specs.Option.{option_copied};
 ghost use Rattle.std.specs.List.{filter_map};
 ghost use Rattle.unit_core.specs.Filters.{received, taken_by, executed, done_in, ended_in, forgotten_in};
-ghost use Rattle.unit_core.specs.Facts.{told_by};
+ghost use Rattle.unit_core.specs.steps.Facts.{told_by};
 
 use crate::{AleUnit, Record};
 use ale_base::{OutOfMemory, Tid};
@@ -51,7 +53,7 @@ pub fn forgotten_in(alloc: Global, log: &[Record]) -> Result<Vec<Tid>, OutOfMemo
 
 /// What a record may tell of the unit of an id.
 #[derive(Clone, Copy)]
-pub enum Fact {
+pub(crate) enum Fact {
     Executed,
     Done,
     Ended,

@@ -20,6 +20,3 @@ pub use queue::{
 };
 pub use raw_unit_doc::RawUnitDoc;
 pub use records::Record;
-
-#[cfg(test)]
-mod tests;

@@ -1,3 +1,5 @@
+//! Marks of units and stopped queues, each by the last record of it in a log.
+
 ghost use Rattle.std.specs.Prelude.{◌≡◌, ℕ, Bool};
 ghost use Rattle.unit_core.specs.Filters.{mark_of, mark_after, is_marked, is_stopped, stopped_after};
 

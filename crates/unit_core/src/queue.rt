@@ -1,3 +1,5 @@
+//! Units by their ids, and a unit at the head of its queues.
+
 ghost use Rattle.std.specs.Prelude.{◌≡◌, Bool};
 ghost use Rattle.std.specs.Option.{option_copied};
 ghost use Rattle.unit_core.specs.Queues.{is_listed, is_among, unit_named, has_name, are_different, stands_in, head_of, is_head, heads_outbound, heads_inbound};
@@ -19,7 +21,7 @@ pub enum Queue {
     },
 }
 
-/// Whether an id stands in a list.
+/// Whether an id is in a list.
 pub fn is_listed(tid: Tid, tids: &[Tid]) -> bool
     ensures { result ≡ is_listed tid tids.now }
 {
@@ -79,7 +81,7 @@ fn head_of<'a>(through: &[Tid], units: &'a [AleUnit], queue: &Queue) -> Option<&
     units.iter().find(|unit| stands_in(queue, unit) && !is_listed(unit.tid, through))
 }
 
-/// Whether the unit stands in a queue.
+/// Whether the unit is in a queue.
 fn stands_in(queue: &Queue, unit: &AleUnit) -> bool
     ensures { result ≡ stands_in queue.now unit.now }
 {
@@ -95,7 +97,7 @@ fn stands_in(queue: &Queue, unit: &AleUnit) -> bool
     }
 }
 
-/// Whether no name stands twice in a list.
+/// Whether no name is in a list twice.
 pub fn are_different(names: &[QueueName]) -> bool
     ensures { result ≡ are_different names.now }
 {

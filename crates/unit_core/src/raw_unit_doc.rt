@@ -1,3 +1,5 @@
+//! A document of a unit.
+
 use ale_base::Items;
 use idoc_record::{Control, Data};
 use std::alloc::AllocError;

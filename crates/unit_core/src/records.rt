@@ -1,3 +1,5 @@
+//! The records of a log.
+
 use crate::{AleUnit, RawUnitDoc};
 use ale_base::{DocNum, FieldValue, Items, Mark, OutOfMemory, QueueName, Tid, Way};
 
@@ -41,7 +43,8 @@ pub enum Record {
     Direct {
         unit: AleUnit,
     },
-    /// A unit that was taken in can't be executed: its function is not offered. It waits until it is retried.
+    /// A unit that was taken in can't be executed, since its receiver does not offer its function. It waits until it is
+    /// retried.
     Fail {
         tid: Tid,
     },

@@ -1,4 +1,4 @@
--- What a record tells of the unit of an id.
+-- What a record tells of the unit of an id: the step of `executed`, `done_in`, `ended_in` and `forgotten_in`.
 use Rattle.std.specs.Prelude.{Option}
 use Rattle.ale_base.specs.Tid.{TidOf}
 use Rattle.unit_core.specs.declared.records.Record.{Record}
