@@ -1,4 +1,4 @@
--- Claims: their numbers and units differ, and each stands still where a record is not its unit's own.
+-- Claims: their numbers and units differ, where one goes and where one more is made.
 use Rattle.std.specs.Prelude.{Contains, All, filter}
 use Rattle.std.proofs.Common.{◌≡◌, ◌≢◌, ℕ, ◌<◌, ◌==◌, Bool, true, false, not, cond, ◌&&◌, Some, None, List, [], ◌∷◌, ◌++◌, inl, inr, refl, sym, ap, subst, ◌∙◌, arith}
 use Rattle.std.proofs.lemmas.Bool.{cases_Bool, cond-true, cond-false, and_parts, and_from, or_parts, both_ways, eqb-true, ne_eqb, false_from_ne_true}
@@ -17,11 +17,13 @@ use Rattle.trfc_protocol.specs.Safe.{AreApart}
 pub All-from_Contains : {X : Type 0} (P : X → Type 0) (xs : List X) → ((x : X) → Contains xs x → P x) → All P xs
 All-from_Contains P xs each = All-weaker (Contains xs) P each xs (All-contains_itself xs)
 
+-- a kind is the same as itself
 pub is_kind-same : (kind : HeldKind) → is_kind kind kind ≡ true
 is_kind-same Out = refl
 is_kind-same In = refl
 is_kind-same Direct = refl
 
+-- kinds that the test takes for the same are equal
 pub is_kind-true : (a b : HeldKind) → is_kind a b ≡ true → a ≡ b
 is_kind-true Out Out same = refl
 is_kind-true In In same = refl
@@ -34,21 +36,27 @@ is_kind-true Direct Out same = cc
 is_kind-true Direct In same = cc
 
 -- a claim of this kind and unit is among them
-pub is_claimed-Contains : (kind : HeldKind) (tid : TidOf) (claims : List Held) (held : Held) → Contains claims held → held.kind ≡ kind → held.tid ≡ tid → is_claimed kind tid claims ≡ true
+pub is_claimed-Contains : (kind : HeldKind) (tid : TidOf) (claims : List Held) (held : Held) → Contains claims held → held.kind ≡ kind → held.tid ≡ tid
+    → is_claimed kind tid claims ≡ true
 is_claimed-Contains kind tid claims held has same_kind same_tid =
     list_any-Contains (λ h. is_kind h.kind kind && is_tid h.tid tid) claims held has
-    (and_from (is_kind held.kind kind) (is_tid held.tid tid) (subst (λ k. is_kind k kind ≡ true) (sym same_kind) (is_kind-same kind)) (is_tid-from held.tid tid same_tid))
+    (and_from (is_kind held.kind kind) (is_tid held.tid tid) (subst (λ k. is_kind k kind ≡ true) (sym same_kind) (is_kind-same kind))
+    (is_tid-from held.tid tid same_tid))
 
-pub not_claimed : (kind : HeldKind) (tid : TidOf) (claims : List Held) → is_claimed kind tid claims ≡ false → (held : Held) → Contains claims held → held.kind ≡ kind → held.tid ≢ tid
+-- where no claim of a kind holds a unit, each claim of that kind is of another unit
+pub not_claimed : (kind : HeldKind) (tid : TidOf) (claims : List Held) → is_claimed kind tid claims ≡ false → (held : Held) → Contains claims held
+    → held.kind ≡ kind → held.tid ≢ tid
 not_claimed kind tid claims none held has same_kind same_tid =
     both_ways (is_claimed kind tid claims) none (is_claimed-Contains kind tid claims held has same_kind same_tid)
 
+-- a claim that is found by its number is in the list and has that number
 pub claim_of-Some : (number : ℕ) (claims : List Held) (held : Held) → claim_of number claims ≡ Some held → Contains claims held × (held.number ≡ number)
 claim_of-Some number claims held found =
     let is = find-Some (λ h. h.number == number) claims held found in (is.0, eqb-true held.number number is.1)
 
 -- ---- one claim goes
 
+-- the claims that are left where the one of a number goes
 abbrev pub without : ℕ → List Held → List Held
 without number claims = filter (λ held. not (held.number == number)) claims
 
@@ -65,13 +73,15 @@ claim_of-without number other (h ∷ hs) none =
           ]
     ]
 
-is_claimed-without : (number : ℕ) (kind : HeldKind) (tid : TidOf) (claims : List Held) → is_claimed kind tid claims ≡ false → is_claimed kind tid (without number claims) ≡ false
+is_claimed-without : (number : ℕ) (kind : HeldKind) (tid : TidOf) (claims : List Held) → is_claimed kind tid claims ≡ false
+    → is_claimed kind tid (without number claims) ≡ false
 is_claimed-without number kind tid claims none =
     false_from_ne_true (is_claimed kind tid (without number claims)) (λ some.
     let found = list_any-found (λ h. is_kind h.kind kind && is_tid h.tid tid) (without number claims) some in
     let back = Contains-filter_back (λ h. not (h.number == number)) claims found.0 found.1 in
     both_ways (is_claimed kind tid claims) none (list_any-Contains (λ h. is_kind h.kind kind && is_tid h.tid tid) claims found.0 back.0 found.2))
 
+-- claims that differ do so where one goes
 pub AreApart-without : (number : ℕ) (claims : List Held) → AreApart claims → AreApart (without number claims)
 AreApart-without number [] apart = tt
 AreApart-without number (h ∷ hs) apart =
@@ -82,7 +92,8 @@ AreApart-without number (h ∷ hs) apart =
     ]
 
 -- no other claim of its kind has the unit of the claim that goes
-pub alone : (number : ℕ) (claims : List Held) (held other : Held) → AreApart claims → claim_of number claims ≡ Some held → Contains (without number claims) other
+pub alone : (number : ℕ) (claims : List Held) (held other : Held) → AreApart claims → claim_of number claims ≡ Some held
+    → Contains (without number claims) other
     → other.kind ≡ held.kind → other.tid ≢ held.tid
 alone number [] held other apart found has same_kind same_tid = absurd (Contains-nil other has)
 alone number (h ∷ hs) held other apart found has same_kind same_tid =
@@ -95,17 +106,20 @@ alone number (h ∷ hs) held other apart found has same_kind same_tid =
           (is_claimed-Contains h.kind h.tid hs other back.0 (same_kind ∙ sym (ap (λ (g : Held). g.kind) is)) (same_tid ∙ sym (ap (λ (g : Held). g.tid) is)))
       | inr differs ↦
           let later : claim_of number hs ≡ Some held = sym (cond-false (h.number == number) (Some h) (claim_of number hs) differs) ∙ found in
-          let kept : Contains (h ∷ without number hs) other = subst (λ b. Contains (cond (not b) (h ∷ without number hs) (without number hs)) other) differs has in
+          let kept : Contains (h ∷ without number hs) other = subst
+          (λ b. Contains (cond (not b) (h ∷ without number hs) (without number hs)) other) differs has in
           elim (Contains-cons h (without number hs) other kept) [
             | inl is ↦ both_ways (is_claimed h.kind h.tid hs) apart.1
-                (is_claimed-Contains h.kind h.tid hs held (claim_of-Some number hs held later).0 (sym same_kind ∙ sym (ap (λ (g : Held). g.kind) is)) (sym same_tid ∙ sym (ap (λ (g : Held). g.tid) is)))
+                (is_claimed-Contains h.kind h.tid hs held (claim_of-Some number hs held later).0 (sym same_kind ∙ sym (ap (λ (g : Held). g.kind) is))
+                (sym same_tid ∙ sym (ap (λ (g : Held). g.tid) is)))
             | inr behind ↦ alone number hs held other apart.2 later behind same_kind same_tid
           ]
     ]
 
 -- ---- one claim more
 
-claim_of-push : (number : ℕ) (claims : List Held) (new : Held) → claim_of number claims ≡ None → new.number ≢ number → claim_of number (claims ++ new ∷ []) ≡ None
+claim_of-push : (number : ℕ) (claims : List Held) (new : Held) → claim_of number claims ≡ None → new.number ≢ number
+    → claim_of number (claims ++ new ∷ []) ≡ None
 claim_of-push number [] new none differs = cond-false (new.number == number) (Some new) None (ne_eqb new.number number differs)
 claim_of-push number (h ∷ hs) new none differs =
     elim (cases_Bool (h.number == number)) [
@@ -114,7 +128,8 @@ claim_of-push number (h ∷ hs) new none differs =
           ∙ claim_of-push number hs new (sym (cond-false (h.number == number) (Some h) (claim_of number hs) other) ∙ none) differs
     ]
 
-is_claimed-push : (kind : HeldKind) (tid : TidOf) (claims : List Held) (new : Held) → is_claimed kind tid claims ≡ false → ((new.kind ≡ kind) → (new.tid ≡ tid) → ⊥)
+is_claimed-push : (kind : HeldKind) (tid : TidOf) (claims : List Held) (new : Held) → is_claimed kind tid claims ≡ false
+    → ((new.kind ≡ kind) → (new.tid ≡ tid) → ⊥)
     → is_claimed kind tid (claims ++ new ∷ []) ≡ false
 is_claimed-push kind tid claims new none differs =
     false_from_ne_true (is_claimed kind tid (claims ++ new ∷ [])) (λ some.
@@ -123,9 +138,11 @@ is_claimed-push kind tid claims new none differs =
     let parts = and_parts (is_kind found.0.kind kind) (is_tid found.0.tid tid) found.2 in
     elim (Contains-push_cases claims new found.0 found.1) [
       | inl before ↦ both_ways (is_claimed kind tid claims) none (list_any-Contains test claims found.0 before found.2)
-      | inr is ↦ differs (ap (λ (h : Held). h.kind) is ∙ is_kind-true found.0.kind kind parts.0) (ap (λ (h : Held). h.tid) is ∙ is_tid-true found.0.tid tid parts.1)
+      | inr is ↦ differs (ap (λ (h : Held). h.kind) is ∙ is_kind-true found.0.kind kind parts.0)
+          (ap (λ (h : Held). h.tid) is ∙ is_tid-true found.0.tid tid parts.1)
     ])
 
+-- claims that differ do so where one more is made, under a greater number, of a unit that no claim of its kind holds
 pub AreApart-push : (claims : List Held) (new : Held) → AreApart claims → ((held : Held) → Contains claims held → held.number < new.number)
     → is_claimed new.kind new.tid claims ≡ false → AreApart (claims ++ new ∷ [])
 AreApart-push [] new apart below none = (refl, refl, tt)
@@ -133,6 +150,7 @@ AreApart-push (h ∷ hs) new apart below none =
     let parts = or_parts (is_kind h.kind new.kind && is_tid h.tid new.tid) (is_claimed new.kind new.tid hs) none in
     let first : h.number < new.number = below h (Contains-here h hs) in (
       claim_of-push h.number hs new apart.0 (λ same. omega arith),
-      is_claimed-push h.kind h.tid hs new apart.1 (λ same_kind same_tid. not_claimed new.kind new.tid (h ∷ hs) none h (Contains-here h hs) (sym same_kind) (sym same_tid)),
+      is_claimed-push h.kind h.tid hs new apart.1
+          (λ same_kind same_tid. not_claimed new.kind new.tid (h ∷ hs) none h (Contains-here h hs) (sym same_kind) (sym same_tid)),
       AreApart-push hs new apart.2 (λ held has. below held (Contains-there h hs held has)) parts.1,
     )

@@ -18,11 +18,12 @@ use Rattle.trfc_protocol.specs.declared.world.SystemState.{SystemState}
 use Rattle.trfc_protocol.specs.Meaning.{Meaning}
 use Rattle.trfc_protocol.specs.Legal.{IsLegal}
 use Rattle.trfc_protocol.specs.Worlds.{state_of, log_or_none, log_of, committed_by}
-use Rattle.trfc_protocol.specs.Safe.{Stands, Safe}
+use Rattle.trfc_protocol.specs.Safe.{Holds, Safe, IsSafe}
 use Rattle.trfc_protocol.specs.Start.{started_state, started}
 
 -- the k-th system from number a on
-started_get : (a n k : ℕ) → (slice_get (map started_state (range_with_len a n)) k ≡ None) ⊎ ((k < n) × (slice_get (map started_state (range_with_len a n)) k ≡ Some (started_state (a + k))))
+started_get : (a n k : ℕ) → (slice_get (map started_state (range_with_len a n)) k ≡ None) ⊎
+    ((k < n) × (slice_get (map started_state (range_with_len a n)) k ≡ Some (started_state (a + k))))
 started_get a zero k = inl refl
 started_get a (suc n) zero = let same : a ≡ a + 0 = omega arith in inr (omega arith, ap (λ s. Some (started_state s)) same)
 started_get a (suc n) (suc k) =
@@ -32,7 +33,8 @@ started_get a (suc n) (suc k) =
       | inr some ↦ inr (omega arith, some.1 ∙ ap (λ s. Some (started_state s)) moved)
     ]
 
-started_of : (n system : ℕ) → (state_of (map started_state (range_with_len 1 n)) system ≡ None) ⊎ (state_of (map started_state (range_with_len 1 n)) system ≡ Some (started_state system))
+started_of : (n system : ℕ) → (state_of (map started_state (range_with_len 1 n)) system ≡ None) ⊎
+    (state_of (map started_state (range_with_len 1 n)) system ≡ Some (started_state system))
 started_of n zero = inl refl
 started_of n (suc k) =
     let moved : 1 + k ≡ suc k = omega arith in
@@ -54,7 +56,8 @@ started_known n (suc k) least most = known 1 n k (omega arith) ∙ moved
     moved : Some (started_state (1 + k)) ≡ Some (started_state (suc k))
     moved = let same : 1 + k ≡ suc k = omega arith in ap (λ s. Some (started_state s)) same
 
-none_taken : (n : ℕ) (tids : List TidOf) (text : List ℕ) (system : ℕ) → All (λ tid. Contains (tids_of (received (take n (Genesis system text ∷ [])))) tid) (executed (take n (Genesis system text ∷ [])))
+none_taken : (n : ℕ) (tids : List TidOf) (text : List ℕ) (system : ℕ)
+    → All (λ tid. Contains (tids_of (received (take n (Genesis system text ∷ [])))) tid) (executed (take n (Genesis system text ∷ [])))
 none_taken zero tids text system = All-nil _
 none_taken (suc zero) tids text system = All-nil _
 none_taken (suc (suc n)) tids text system = All-nil _
@@ -67,7 +70,7 @@ module _ {R : Type 0} (meaning : Meaning) (rules : R) where
   abbrev first : World R
   first = started meaning rules
 
-  -- what holds of no records and of a Genesis alone holds of each log
+  -- what due of no records and of a Genesis alone due of each log
   each_log : (P : ℕ → List Record → Type 0) → ((s : ℕ) → P s []) → ((s : ℕ) → P s (Genesis s [] ∷ [])) → (s : ℕ) → P s (log_of first s)
   each_log P none one s =
       elim (started_of meaning.systems s) [
@@ -90,6 +93,7 @@ module _ {R : Type 0} (meaning : Meaning) (rules : R) where
     ended_was_forgotten = each_log (λ s log. All (WasForgotten (committed_by meaning first) (log_of first) s) (ended_in log)) (λ _. All-nil _) (λ _. All-nil _);
   }
 
+  -- the world at first is safe
   pub Safe-started : Safe meaning first
   Safe-started = record {
     systems = length-map-range_with_len started_state 1 meaning.systems;
@@ -97,7 +101,7 @@ module _ {R : Type 0} (meaning : Meaning) (rules : R) where
     begun = λ s least most empty. begun_log s (log_of first s) (ap log_or_none (started_known meaning.systems s least most)) empty;
     once = first_once;
     settled = All-map (λ (state : SystemState). state.rest ≡ None) started_state (range_with_len 1 meaning.systems) (λ k d within. refl);
-    stand = All-nil (Stands meaning first);
+    hold = All-nil (Holds meaning first);
     apart = tt;
   }
     where
@@ -105,6 +109,7 @@ module _ {R : Type 0} (meaning : Meaning) (rules : R) where
       begun_log s [] same empty = cc
       begun_log s (x ∷ xs) same empty = cc
 
-pub Safe-start : {R : Type 0} (meaning : R → Meaning) (rules : R) (world : World R) → world ≡ started (meaning rules) rules → Safe (meaning world.rules) world
+-- so is a world that is that one
+pub Safe-start : {R : Type 0} (meaning : R → Meaning) (rules : R) (world : World R) → world ≡ started (meaning rules) rules → IsSafe meaning world
 Safe-start {R} meaning rules world same =
     subst (λ (w : World R). Safe (meaning w.rules) w) (sym same) (Safe-started (meaning rules) rules)

@@ -40,6 +40,7 @@ module _ {R : Type 0} (rules : Meaning) (world : World R) where
   answered unit answer.Run = claimed world unit.tid unit.receiver Direct
   answered unit _ = world
 
+  -- a unit that may arrive is answered
   abbrev pub arrives : Option AleUnit → World R
   arrives None = world
   arrives (Some unit) = if may_arrive rules world unit then answered unit (answer_to rules world unit) else world
@@ -49,37 +50,38 @@ module _ {R : Type 0} (rules : Meaning) (world : World R) where
   claims_inbound tid None = world
   claims_inbound tid (Some unit) = if is_offered_inbound world unit.receiver tid then claimed world tid unit.receiver In else world
 
+  -- the work of a claim ends: its system appends a record, and the claim goes
+  abbrev pub closes : Held → Record → World R
+  closes held next = released (appended world held.system next) held.number
+
   -- a direct run ends: the unit is taken in and executed in one record
   abbrev pub ends_run : Held → Option AleUnit → World R
   ends_run held None = world
   ends_run held (Some unit) =
-      if offers_now rules world held.system unit.function
-      then appended (released world held.number) held.system (log.Direct unit) else world
+      if offers_now rules world held.system unit.function then closes held (log.Direct unit) else world
 
-  -- an execution ends, where the function is offered
+  -- an execution ends, where the system offers the function
   abbrev pub finishes_by : Held → HeldKind → World R
   finishes_by held In =
-      if offers_received_now rules world held.system held.tid then appended (released world held.number) held.system (log.Execute held.tid) else world
+      if offers_received_now rules world held.system held.tid then closes held (log.Execute held.tid) else world
   finishes_by held Direct = ends_run held (committed_unit rules world held.tid)
   finishes_by held Out = world
 
+  -- the same of the claim of a number, where there is one
   abbrev pub finishes : Option Held → World R
   finishes None = world
   finishes (Some held) = finishes_by held held.kind
 
-  -- an execution fails, where the function is not offered
+  -- an execution fails, where the system does not offer the function
   abbrev pub fails_by : Held → HeldKind → World R
   fails_by held In =
-      if offers_received_now rules world held.system held.tid then world else appended (released world held.number) held.system (log.Fail held.tid)
+      if offers_received_now rules world held.system held.tid then world else closes held (log.Fail held.tid)
   fails_by held _ = world
 
+  -- the same of the claim of a number, where there is one
   abbrev pub fails : Option Held → World R
   fails None = world
   fails (Some held) = fails_by held held.kind
-
-  -- the unit's claim goes, and its sender appends a record
-  abbrev pub closes : Held → Record → World R
-  closes held next = appended (released world held.number) held.system next
 
   -- the sender learns that the receiver has the unit, or can't execute it, or is busy with it
   abbrev pub replied : Held → CoreAnswer → Option AleUnit → World R
@@ -92,10 +94,12 @@ module _ {R : Type 0} (rules : Meaning) (world : World R) where
       if is_empty unit.inq && not (offers_now rules world unit.receiver unit.function)
       then closes held (log.Mark held.tid Sysfail) else world
 
+  -- a reply is one to a shipment
   abbrev pub replies_by : Held → CoreAnswer → HeldKind → World R
   replies_by held given Out = replied held given (committed_unit rules world held.tid)
   replies_by held given _ = world
 
+  -- the same of the claim of a number, where there is one
   abbrev pub replies : CoreAnswer → Option Held → World R
   replies given None = world
   replies given (Some held) = replies_by held given held.kind
@@ -105,6 +109,7 @@ module _ {R : Type 0} (rules : Meaning) (world : World R) where
   loses_by held Out = closes held (log.Mark held.tid Cpicerr)
   loses_by held _ = world
 
+  -- the same of the claim of a number, where there is one
   abbrev pub loses : Option Held → World R
   loses None = world
   loses (Some held) = loses_by held held.kind

@@ -2,6 +2,8 @@
 -- protocol decides all others.
 use Rattle.std.specs.Prelude.{◌≡◌, ℕ, ◌+◌, ◌<◌, ◌≤◌, ⊤, Bool, true, false, not, ◌==◌, ◌&&◌, nat_le, Option, Some, None, List, [], ◌∷◌, ◌++◌, length, slice_index_or}
 use Rattle.ale_base.specs.Tid.{TidOf}
+use Rattle.ale_base.specs.declared.system_no.TheConstants.SystemNo.{MAX}
+use Rattle.ale_base.specs.declared.tid.TheConstants.Tid.{MAX_UNIT}
 use Rattle.ale_base.specs.declared.way.Way.{Way}
 use Rattle.ale_base.specs.declared.way.Way.TheVariants.{Outgoing, Incoming}
 use Rattle.unit_core.specs.declared.ale_unit.AleUnit.{AleUnit}
@@ -12,6 +14,7 @@ use Rattle.unit_core.specs.Queues.{is_listed, is_among, unit_named, is_outstandi
 use Rattle.ale_base.specs.Prefix.{IsPrefix}
 use Rattle.trfc_protocol.specs.Meaning.{Meaning}
 
+-- whether a list has no elements
 abbrev pub is_empty : {A : Type 0} → List A → Bool
 is_empty [] = true
 is_empty (x ∷ xs) = false
@@ -31,14 +34,14 @@ abbrev pub is_free_inbound : List Record → TidOf → Bool
 is_free_inbound log tid =
     is_free (executed log) (is_marked Incoming tid log) (heads_inbound (executed log) (received log)) (unit_named tid (received log))
 
--- whether the unit is there and its function is offered
-abbrev pub is_offered : (List ℕ → Bool) → Option AleUnit → Bool
-is_offered offers None = false
-is_offered offers (Some unit) = offers unit.function
+-- whether the unit is there, and its function is one of these
+abbrev pub offers_that_of : (List ℕ → Bool) → Option AleUnit → Bool
+offers_that_of offers None = false
+offers_that_of offers (Some unit) = offers unit.function
 
 -- whether a system offers the function of a unit that it received
 abbrev pub offers_received : Meaning → ℕ → List Record → TidOf → Bool
-offers_received rules system log tid = is_offered (rules.offers system log) (unit_named tid (received log))
+offers_received rules system log tid = offers_that_of (rules.offers system log) (unit_named tid (received log))
 
 -- whether the unit is there and outstanding
 abbrev pub is_open : List TidOf → Option AleUnit → Bool
@@ -73,7 +76,11 @@ may_follow_others rules system log (Forget tid) = is_among tid (received log) &&
 may_follow_others rules system log (Stop way destination name) = is_destination rules.systems system way destination
 may_follow_others rules system log (Start way destination name) = is_destination rules.systems system way destination
 may_follow_others rules system log (Retry way tid) = is_open_at rules system log way tid
-may_follow_others rules system log next = rules.allows system log next
+may_follow_others rules system log (Commit origin docs) = rules.allows system log (Commit origin docs)
+may_follow_others rules system log Dispatch = rules.allows system log Dispatch
+may_follow_others rules system log (Put kind key fields) = rules.allows system log (Put kind key fields)
+may_follow_others rules system log (App doc) = rules.allows system log (App doc)
+may_follow_others rules system log (Repost doc) = rules.allows system log (Repost doc)
 
 -- whether a record may begin a log
 abbrev pub may_begin : ℕ → Record → Bool
@@ -111,6 +118,7 @@ is_operators (App doc) = true
 is_operators (Repost doc) = true
 is_operators _ = false
 
+-- the record that begins a log
 abbrev pub is_genesis : Record → Bool
 is_genesis (Genesis number text) = true
 is_genesis _ = false
@@ -126,15 +134,27 @@ pub record IsUnitAt (systems system k : ℕ) (unit : AleUnit) : Type 0 where
   pub outbound_names : are_different unit.outq ≡ true
   pub inbound_names : are_different unit.inq ≡ true
 
+-- a legal log goes on by a record that may follow it
+pub record GoesOn (rules : Meaning) (system : ℕ) (log : List Record) (next : Record) : Type 0 where
+  pub legal : IsLegal rules system log
+  pub may : may_follow rules system log next ≡ true
+
 -- the laws of the rules
 pub record IsLawful (rules : Meaning) : Type 0 where
+  -- there are 1 to 16 systems
   pub systems_least : 1 ≤ rules.systems
-  pub systems_most : rules.systems ≤ 16
+  pub systems_most : rules.systems ≤ MAX
+  -- a log of no records commits no units
+  pub nothing_at_first : (system : ℕ) → rules.committed system [] ≡ []
   -- the units of a legal log are numbered from 1, and there are at most 65,536
-  pub numbered : (system : ℕ) (log : List Record) → IsLegal rules system log → (k : ℕ) (d : AleUnit) → k < length (rules.committed system log) → IsUnitAt rules.systems system k (slice_index_or (rules.committed system log) k d)
-  pub most : (system : ℕ) (log : List Record) → IsLegal rules system log → length (rules.committed system log) ≤ 65536
+  pub numbered : (system : ℕ) (log : List Record) → IsLegal rules system log → (k : ℕ) (d : AleUnit) → k < length (rules.committed system log)
+      → IsUnitAt rules.systems system k (slice_index_or (rules.committed system log) k d)
+  pub most : (system : ℕ) (log : List Record) → IsLegal rules system log → length (rules.committed system log) ≤ MAX_UNIT
   -- a record that commits adds units behind those before it, and every other record leaves them
-  pub commits : (system : ℕ) (log : List Record) (next : Record) → IsLegal rules system log → may_follow rules system log next ≡ true → is_commit next ≡ true → IsPrefix (rules.committed system log) (rules.committed system (log ++ next ∷ []))
-  pub commits_nothing : (system : ℕ) (log : List Record) (next : Record) → IsLegal rules system log → may_follow rules system log next ≡ true → is_commit next ≡ false → rules.committed system (log ++ next ∷ []) ≡ rules.committed system log
+  pub commits : (system : ℕ) (log : List Record) (next : Record) → GoesOn rules system log next → is_commit next ≡ true
+      → IsPrefix (rules.committed system log) (rules.committed system (log ++ next ∷ []))
+  pub commits_nothing : (system : ℕ) (log : List Record) (next : Record) → GoesOn rules system log next → is_commit next ≡ false
+      → rules.committed system (log ++ next ∷ []) ≡ rules.committed system log
   -- a record behind the first leaves what is offered
-  pub offers_stay : (system : ℕ) (log : List Record) (next : Record) (function : List ℕ) → IsLegal rules system log → may_follow rules system log next ≡ true → is_genesis next ≡ false → rules.offers system (log ++ next ∷ []) function ≡ rules.offers system log function
+  pub offers_stay : (system : ℕ) (log : List Record) (next : Record) (function : List ℕ) → GoesOn rules system log next → is_genesis next ≡ false
+      → rules.offers system (log ++ next ∷ []) function ≡ rules.offers system log function

@@ -1,9 +1,17 @@
+-- what the rules of a landscape say
 pub mod Meaning
+-- which record may follow a log, and the laws of the rules
 pub mod Legal
+-- the state of all systems, and what changes it
 pub mod Worlds
+-- which unit is offered, and how its arrival is answered
 pub mod Offered
+-- the events
 pub mod Happens
+-- what holds of the world at every moment
 pub mod Safe
+-- the world at first
 pub mod Start
+-- rules that list each system's units, and their laws
 pub mod ListedRules
 pub mod ListedRulesLemmas

@@ -1,6 +1,8 @@
 -- Rules that list each system's units beforehand.
 use Rattle.std.specs.Prelude.{ℕ, zero, suc, ◌+◌, Bool, true, false, not, ◌==◌, ◌&&◌, nat_le, nat_lt, nat_eq, List, [], ◌∷◌, length, take, codes, slice_index_or, if◌then◌else◌}
 use Rattle.std.specs.Cmp.Lexicographic.{pointwise}
+use Rattle.ale_base.specs.declared.system_no.TheConstants.SystemNo.{MAX}
+use Rattle.ale_base.specs.declared.tid.TheConstants.Tid.{MAX_UNIT}
 use Rattle.unit_core.specs.declared.ale_unit.AleUnit.{AleUnit}
 use Rattle.unit_core.specs.declared.records.Record.{Record}
 use Rattle.unit_core.specs.declared.records.Record.TheVariants.{Commit}
@@ -24,17 +26,18 @@ are_units systems system k (unit ∷ units) = is_unit systems system k unit && a
 abbrev pub are_lists : ℕ → ℕ → List (List AleUnit) → Bool
 are_lists systems system [] = true
 are_lists systems system (units ∷ lists) =
-    nat_le (length units) 65536 && are_units systems system 1 units && are_lists systems (system + 1) lists
+    nat_le (length units) MAX_UNIT && are_units systems system 1 units && are_lists systems (system + 1) lists
 
 -- whether these are the units of one to sixteen systems
 abbrev pub are_listed : List (List AleUnit) → Bool
-are_listed lists = nat_le 1 (length lists) && nat_le (length lists) 16 && are_lists (length lists) 1 lists
+are_listed lists = nat_le 1 (length lists) && nat_le (length lists) MAX && are_lists (length lists) 1 lists
 
--- the list of a system
+-- the list of a system, and none where there is no such system
 abbrev pub list_of : List (List AleUnit) → ℕ → List AleUnit
 list_of lists zero = []
 list_of lists (suc k) = slice_index_or lists k []
 
+-- whether the record is a Commit
 abbrev pub is_commit_record : Record → Bool
 is_commit_record (Commit origin docs) = true
 is_commit_record _ = false

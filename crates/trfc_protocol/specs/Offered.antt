@@ -12,7 +12,7 @@ use Rattle.trfc_protocol.specs.declared.held.HeldKind.TheVariants.{Out, In, Dire
 use Rattle.trfc_protocol.specs.declared.answer.Answer.{Answer}
 use Rattle.trfc_protocol.specs.declared.answer.Answer.TheVariants.{Down, Known, Busy, SysFail, Run, New}
 use Rattle.trfc_protocol.specs.Meaning.{Meaning}
-use Rattle.trfc_protocol.specs.Legal.{is_empty, is_free_outbound, is_free_inbound, is_offered}
+use Rattle.trfc_protocol.specs.Legal.{is_empty, is_free_outbound, is_free_inbound, offers_that_of}
 use Rattle.trfc_protocol.specs.Worlds.{log_of, is_up, committed_by, committed_unit, offers_now, is_claimed}
 
 -- one of the unit's outbound queues is stopped
@@ -58,7 +58,7 @@ may_arrive rules world unit =
 
 -- whether a system offers the function of a unit that it received
 abbrev pub offers_received_now : {R : Type 0} → Meaning → World R → ℕ → TidOf → Bool
-offers_received_now rules world system tid = is_offered (offers_now rules world system) (unit_named tid (received (log_of world system)))
+offers_received_now rules world system tid = offers_that_of (offers_now rules world system) (unit_named tid (received (log_of world system)))
 
 -- how the receiver answers the arrival of a unit that it has not forgotten: the first line that applies
 abbrev pub answer_to : {R : Type 0} → Meaning → World R → AleUnit → Answer

@@ -13,7 +13,8 @@ use Rattle.trfc_protocol.specs.Legal.{IsLegal, is_empty, is_free_outbound, is_fr
 use Rattle.trfc_protocol.specs.Worlds.{log_of, is_up, offers_now, committed_by, committed_unit, is_claimed, claim_of}
 use Rattle.trfc_protocol.specs.Offered.{heads_at_sender}
 
--- a direct run may end: the unit has no inbound queue and an offered function, was not received, and heads its queues
+-- a direct run is due: the unit has no inbound queue and a function that its receiver offers, was not received, and heads its
+-- outbound queues
 abbrev pub is_direct : {R : Type 0} → Meaning → World R → ℕ → Option AleUnit → Bool
 is_direct rules world system None = false
 is_direct rules world system (Some unit) =
@@ -23,17 +24,17 @@ is_direct rules world system (Some unit) =
     && not (is_among unit.tid (received (log_of world system)))
     && heads_at_sender rules world unit
 
--- what a claim was made for still holds
-abbrev pub still_holds : {R : Type 0} → Meaning → World R → Held → HeldKind → Bool
-still_holds rules world held Out = (held.system == held.tid.system)
+-- the unit of a claim is due: it may be sent, executed, or run as it arrives
+abbrev pub is_due : {R : Type 0} → Meaning → World R → Held → HeldKind → Bool
+is_due rules world held Out = (held.system == held.tid.system)
     && is_free_outbound (committed_by rules world held.system) (log_of world held.system) held.tid
-still_holds rules world held In = is_free_inbound (log_of world held.system) held.tid
-still_holds rules world held Direct = is_direct rules world held.system (committed_unit rules world held.tid)
+is_due rules world held In = is_free_inbound (log_of world held.system) held.tid
+is_due rules world held Direct = is_direct rules world held.system (committed_unit rules world held.tid)
 
--- a claim stands where its system is up, and what it was made for still holds
-pub record Stands {R : Type 0} (rules : Meaning) (world : World R) (held : Held) : Type 0 where
+-- a claim holds where its system is up, its unit is due, and its number was given
+pub record Holds {R : Type 0} (rules : Meaning) (world : World R) (held : Held) : Type 0 where
   pub up : is_up world held.system ≡ true
-  pub holds : still_holds rules world held held.kind ≡ true
+  pub due : is_due rules world held held.kind ≡ true
   pub number : held.number < world.next_number
 
 -- claims differ in their numbers, and no unit has two of one kind
@@ -41,7 +42,7 @@ abbrev pub AreApart : List Held → Type 0
 AreApart [] = ⊤
 AreApart (held ∷ others) = (claim_of held.number others ≡ None) × (is_claimed held.kind held.tid others ≡ false) × AreApart others
 
--- the exactly-once law holds of legal logs, and each claim stands. No system has a record that it may find at its
+-- the logs are legal and keep the exactly-once law, and each claim holds. No system has a record that it may find at its
 -- opening, since none has fallen
 pub record Safe {R : Type 0} (rules : Meaning) (world : World R) : Type 0 where
   pub systems : length world.systems ≡ rules.systems
@@ -49,5 +50,9 @@ pub record Safe {R : Type 0} (rules : Meaning) (world : World R) : Type 0 where
   pub begun : (system : ℕ) → 1 ≤ system → system ≤ rules.systems → log_of world system ≢ []
   pub once : Once (committed_by rules world) (log_of world)
   pub settled : All (λ state. state.rest ≡ None) world.systems
-  pub stand : All (Stands rules world) world.claims
+  pub hold : All (Holds rules world) world.claims
   pub apart : AreApart world.claims
+
+-- a world is safe by its own rules
+abbrev pub IsSafe : {R : Type 0} → (R → Meaning) → World R → Type 0
+IsSafe meaning world = Safe (meaning world.rules) world

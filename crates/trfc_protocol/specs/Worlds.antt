@@ -17,10 +17,12 @@ abbrev pub state_of : List SystemState → ℕ → Option SystemState
 state_of systems zero = None
 state_of systems (suc k) = slice_get systems k
 
+-- the log of a state, and no records where there is none
 abbrev pub log_or_none : Option SystemState → List Record
 log_or_none (Some state) = state.log
 log_or_none None = []
 
+-- whether there is a state and it is up
 abbrev pub up_or_not : Option SystemState → Bool
 up_or_not (Some state) = state.up
 up_or_not None = false
@@ -33,34 +35,33 @@ log_of world system = log_or_none (state_of world.systems system)
 abbrev pub is_up : {R : Type 0} → World R → ℕ → Bool
 is_up world system = up_or_not (state_of world.systems system)
 
--- the units that a system committed
-abbrev pub committed_at : Meaning → ℕ → Option SystemState → List AleUnit
-committed_at rules system (Some state) = rules.committed system state.log
-committed_at rules system None = []
-
+-- the units that a system committed; a system that the landscape does not have has no records, and so none
 abbrev pub committed_by : {R : Type 0} → Meaning → World R → ℕ → List AleUnit
-committed_by rules world system = committed_at rules system (state_of world.systems system)
+committed_by rules world system = rules.committed system (log_of world system)
 
 -- the unit of this id, as its sender committed it
 abbrev pub committed_unit : {R : Type 0} → Meaning → World R → TidOf → Option AleUnit
 committed_unit rules world tid = unit_named tid (committed_by rules world tid.system)
 
+-- whether a system offers a function; one that the landscape does not have offers none
+abbrev pub offers_at : Meaning → ℕ → Option SystemState → List ℕ → Bool
+offers_at rules system (Some state) function = rules.offers system state.log function
+offers_at rules system None function = false
+
 -- whether a system offers a function now
-abbrev pub offered_at : Meaning → ℕ → Option SystemState → List ℕ → Bool
-offered_at rules system (Some state) function = rules.offers system state.log function
-offered_at rules system None function = false
-
 abbrev pub offers_now : {R : Type 0} → Meaning → World R → ℕ → List ℕ → Bool
-offers_now rules world system = offered_at rules system (state_of world.systems system)
+offers_now rules world system = offers_at rules system (state_of world.systems system)
 
--- a record was appended to the log of a system
+-- a system with one more record in its log
 abbrev pub with_record : Record → SystemState → SystemState
 with_record next state = record state { log = state.log ++ next ∷ [] }
 
+-- a record was appended to the log at a place, where a state is there
 abbrev pub appended_at : {R : Type 0} → World R → ℕ → Record → Option SystemState → World R
 appended_at world k next None = world
 appended_at world k next (Some state) = record world { systems = slice_set world.systems k (with_record next state) }
 
+-- a record was appended to the log of a system, where the landscape has it
 abbrev pub appended : {R : Type 0} → World R → ℕ → Record → World R
 appended world system next = appended_at world (system - 1) next (state_of world.systems system)
 
@@ -76,6 +77,7 @@ claimed world tid system kind =
 abbrev pub released : {R : Type 0} → World R → ℕ → World R
 released world number = record world { claims = filter (λ held. not (held.number == number)) world.claims }
 
+-- whether two kinds are the same
 abbrev pub is_kind : HeldKind → HeldKind → Bool
 is_kind Out Out = true
 is_kind In In = true

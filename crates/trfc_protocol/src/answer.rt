@@ -1,3 +1,5 @@
+//! The answers of a receiver.
+
 /// How a receiver answers the arrival of a unit.
 #[derive(Clone, Copy, Debug, PartialEq, Eq)]
 pub enum Answer {
@@ -7,7 +9,7 @@ pub enum Answer {
     Known,
     /// A direct run of the unit is under way.
     Busy,
-    /// The unit has no inbound queue, and its function is not offered.
+    /// The unit has no inbound queue, and the receiver does not offer its function.
     SysFail,
     /// The unit has no inbound queue: a direct run begins.
     Run,

@@ -1,3 +1,5 @@
+//! Events, and what they carry.
+
 use ale_base::{SystemNo, Tid};
 use unit_core::Record;
 
@@ -25,7 +27,7 @@ pub enum Event {
     Finish {
         number: u64,
     },
-    /// The work of a claim ends: the unit's function is not offered.
+    /// The work of a claim ends: its system does not offer the unit's function.
     Fail {
         number: u64,
     },

@@ -1,3 +1,5 @@
+//! Claims.
+
 use ale_base::{SystemNo, Tid};
 
 /// What a claim is for.
@@ -11,7 +13,7 @@ pub enum HeldKind {
     Direct,
 }
 
-/// A claim: while it stands nobody else works on the unit in this way.
+/// A claim: as long as there is one, nobody else works on the unit in this way.
 #[derive(Clone, Copy, Debug, PartialEq, Eq)]
 pub struct Held {
     /// Its number. No two claims have one number.

@@ -1,3 +1,5 @@
+//! Which record may follow a legal log.
+
 ghost use Rattle.std.specs.Prelude.{◌≡◌, ◌≤◌, ◌&&◌, not, IfOk};
 ghost use Rattle.unit_core.specs.Filters.{received, done_in, ended_in, forgotten_in};
 ghost use Rattle.unit_core.specs.Queues.{is_listed, is_among};
@@ -13,7 +15,7 @@ use unit_core::{
 };
 
 /// Whether a record may follow a legal log.
-pub fn may_follow<R: Rules>(
+pub(crate) fn may_follow<R: Rules>(
     alloc: Global,
     rules: &R,
     system: SystemNo,
@@ -92,7 +94,7 @@ fn may_follow_others<R: Rules>(
 }
 
 /// Whether the unit of this id may be sent: it is not done, not marked, and heads its outbound queues.
-pub fn is_free_outbound<R: Rules>(
+pub(crate) fn is_free_outbound<R: Rules>(
     alloc: Global,
     rules: &R,
     system: SystemNo,
@@ -117,7 +119,7 @@ pub fn is_free_outbound<R: Rules>(
 
 /// Whether the unit of this id may be executed: it was received, is not executed, not marked, and heads its inbound
 /// queues.
-pub fn is_free_inbound(alloc: Global, log: &[Record], tid: Tid) -> Result<bool, OutOfMemory>
+pub(crate) fn is_free_inbound(alloc: Global, log: &[Record], tid: Tid) -> Result<bool, OutOfMemory>
     ensures { IfOk result (λ free. free ≡ is_free_inbound log.now tid) }
 {
     let units = received(alloc, log)?;
@@ -133,7 +135,7 @@ pub fn is_free_inbound(alloc: Global, log: &[Record], tid: Tid) -> Result<bool, 
 }
 
 /// Whether a system offers the function of a unit that it received.
-pub fn offers_received<R: Rules>(
+pub(crate) fn offers_received<R: Rules>(
     alloc: Global,
     rules: &R,
     system: SystemNo,
@@ -142,7 +144,7 @@ pub fn offers_received<R: Rules>(
 ) -> Result<bool, OutOfMemory>
     requires known { system ≤ (R.meaning rules.now).systems }
     requires legal { IsLegal (R.meaning rules.now) system log.now }
-    ensures { IfOk result (λ offered. offered ≡ offers_received (R.meaning rules.now) system log.now tid) }
+    ensures { IfOk result (λ offers. offers ≡ offers_received (R.meaning rules.now) system log.now tid) }
 {
     let units = received(alloc, log)?;
     match unit_named(tid, units.as_slice()) {
@@ -165,7 +167,7 @@ fn is_new(
 }
 
 /// Whether a unit may be ended: it is done, and not ended.
-pub fn may_end(alloc: Global, log: &[Record], tid: Tid) -> Result<bool, OutOfMemory>
+pub(crate) fn may_end(alloc: Global, log: &[Record], tid: Tid) -> Result<bool, OutOfMemory>
     ensures { IfOk result (λ may. may ≡ (is_listed tid (done_in log.now) && not (is_listed tid (ended_in log.now)))) }
 {
     let done = done_in(alloc, log)?;
@@ -216,14 +218,14 @@ fn is_open_at<R: Rules>(
 }
 
 /// Whether the record commits units.
-pub fn is_commit(entry: &Record) -> bool
+pub(crate) fn is_commit(entry: &Record) -> bool
     ensures { result ≡ is_commit entry.now }
 {
     matches!(entry, Record::Commit { .. } | Record::Dispatch)
 }
 
 /// Whether the record is one of an operator or of the application.
-pub fn is_operators(entry: &Record) -> bool
+pub(crate) fn is_operators(entry: &Record) -> bool
     ensures { result ≡ is_operators entry.now }
 {
     matches!(

@@ -26,6 +26,3 @@ pub use listed_rules::ListedRules;
 pub use rules::Rules;
 pub use steps::{run_events, step};
 pub use world::{SystemState, World};
-
-#[cfg(test)]
-mod tests;

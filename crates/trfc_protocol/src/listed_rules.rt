@@ -1,8 +1,10 @@
+//! Rules that list each system's units.
+
 ghost use Rattle.std.specs.Prelude.{◌≡◌, ◌≤◌, IsTrue, length};
 ghost use Rattle.trfc_protocol.specs.ListedRules.{are_listed, is_unit, are_units, are_lists, is_commit_record, commits_of};
 
 use crate::Rules;
-use ale_base::{Fixed, Items, OutOfMemory, SystemNo};
+use ale_base::{Fixed, Items, OutOfMemory, SystemNo, Tid};
 use std::alloc::Global;
 use unit_core::{AleUnit, Record, are_different};
 
@@ -20,9 +22,6 @@ impl ListedRules {
     ghost use Rattle.std.specs.Prelude.{◌≡◌, ◌↔◌, IsTrue, IsSome, IfSome};
     ghost use Rattle.std.specs.Option.{option_copied};
     ghost use Rattle.trfc_protocol.specs.ListedRules.{are_listed, list_of};
-
-    /// The most units of a system.
-    pub const MAX_UNITS: usize = 65_536;
 
     /// The function that is offered.
     pub const FUNCTION: &'static [u8] = b"IDOC_INBOUND_ASYNCHRONOUS";
@@ -124,11 +123,11 @@ fn is_commit_record(entry: &Record) -> bool
 
 /// Whether these are the units of the systems from the first on.
 fn are_lists(systems: usize, lists: &[Items<AleUnit>]) -> bool
-    requires { length lists.now ≤ 16 }
+    requires { length lists.now ≤ SystemNo.MAX }
     ensures { result ≡ are_lists systems 1 lists.now }
 {
     for (place, units) in lists.iter().enumerate() {
-        if units.len() > ListedRules::MAX_UNITS
+        if units.len() > Tid::MAX_UNIT as usize
             || !are_units(systems, place + 1, units.as_slice())
         {
             return false;
@@ -139,7 +138,7 @@ fn are_lists(systems: usize, lists: &[Items<AleUnit>]) -> bool
 
 /// Whether these are the units of a system from the first on.
 fn are_units(systems: usize, system: usize, units: &[AleUnit]) -> bool
-    requires { length units.now ≤ 65536 }
+    requires { length units.now ≤ Tid.MAX_UNIT }
     ensures { result ≡ are_units systems system 1 units.now }
 {
     for (place, unit) in units.iter().enumerate() {

@@ -1,3 +1,5 @@
+//! What a system committed and offers, which unit is offered, and how an arrival is answered.
+
 ghost use Rattle.std.specs.Prelude.{◌≡◌};
 ghost use Rattle.trfc_protocol.specs.Offered.{is_stopped_outbound, is_stopped_inbound};
 
@@ -14,11 +16,11 @@ impl<R: Rules> World<R> {
     ghost use Rattle.std.specs.Prelude.{true, ◌≡◌, IfOk};
     ghost use Rattle.trfc_protocol.specs.Worlds.{log_of, state_of, offers_now, committed_by, committed_unit};
     ghost use Rattle.trfc_protocol.specs.Offered.{is_offered_outbound, is_offered_inbound, heads_at_sender, may_arrive, answer_to, offers_received_now};
-    ghost use Rattle.trfc_protocol.specs.Safe.{Safe};
+    ghost use Rattle.trfc_protocol.specs.Safe.{IsSafe};
 
-    /// The units that a system committed, in order.
+    /// The units that a system committed, in order. There are none where the landscape has no system of this number.
     pub fn committed_by(&self, alloc: Global, system: SystemNo) -> Result<Vec<AleUnit>, OutOfMemory>
-        requires { Safe (R.meaning self.now.rules) self.now }
+        requires { IsSafe R.meaning self.now }
         ensures { IfOk result (λ units. units.items ≡ committed_by (R.meaning self.now.rules) self.now system) }
     {
         if !self.is_known(system) {
@@ -29,7 +31,7 @@ impl<R: Rules> World<R> {
 
     /// The unit of this id, as its sender committed it. None exactly where it did not.
     pub fn committed_unit(&self, alloc: Global, tid: Tid) -> Result<Option<AleUnit>, OutOfMemory>
-        requires { Safe (R.meaning self.now.rules) self.now }
+        requires { IsSafe R.meaning self.now }
         ensures { IfOk result (λ unit. unit ≡ committed_unit (R.meaning self.now.rules) self.now tid) }
     {
         let units = self.committed_by(alloc, tid.system())?;
@@ -42,7 +44,7 @@ impl<R: Rules> World<R> {
     /// Whether the unit is offered at its sender: the sender is up, the unit is outstanding, not marked and not claimed,
     /// it heads each of its outbound queues, and none of these is stopped.
     pub fn is_offered_outbound(&self, alloc: Global, tid: Tid) -> Result<bool, OutOfMemory>
-        requires { Safe (R.meaning self.now.rules) self.now }
+        requires { IsSafe R.meaning self.now }
         ensures { IfOk result (λ offered. offered ≡ is_offered_outbound (R.meaning self.now.rules) self.now tid) }
     {
         let system = tid.system();
@@ -90,8 +92,8 @@ impl<R: Rules> World<R> {
         system: SystemNo,
         unit: &AleUnit,
     ) -> Result<bool, OutOfMemory>
-        requires { Safe (R.meaning self.now.rules) self.now }
-        ensures { IfOk result (λ offered. offered ≡ offers_now (R.meaning self.now.rules) self.now system unit.now.function) }
+        requires { IsSafe R.meaning self.now }
+        ensures { IfOk result (λ offers. offers ≡ offers_now (R.meaning self.now.rules) self.now system unit.now.function) }
     {
         if !self.is_known(system) {
             return Ok(false);
@@ -107,8 +109,8 @@ impl<R: Rules> World<R> {
         system: SystemNo,
         tid: Tid,
     ) -> Result<bool, OutOfMemory>
-        requires { Safe (R.meaning self.now.rules) self.now }
-        ensures { IfOk result (λ offered. offered ≡ offers_received_now (R.meaning self.now.rules) self.now system tid) }
+        requires { IsSafe R.meaning self.now }
+        ensures { IfOk result (λ offers. offers ≡ offers_received_now (R.meaning self.now.rules) self.now system tid) }
     {
         let units = received(alloc, self.log(system))?;
         match unit_named(tid, units.as_slice()) {
@@ -119,7 +121,7 @@ impl<R: Rules> World<R> {
 
     /// Whether the unit heads its outbound queues at its sender.
     fn heads_at_sender(&self, alloc: Global, unit: &AleUnit) -> Result<bool, OutOfMemory>
-        requires { Safe (R.meaning self.now.rules) self.now }
+        requires { IsSafe R.meaning self.now }
         ensures { IfOk result (λ heads. heads ≡ heads_at_sender (R.meaning self.now.rules) self.now unit.now) }
     {
         let sender = unit.tid.system();
@@ -131,7 +133,7 @@ impl<R: Rules> World<R> {
     /// Whether a committed unit may arrive: its receiver has not forgotten it, and has received it or it heads its
     /// outbound queues.
     pub fn may_arrive(&self, alloc: Global, unit: &AleUnit) -> Result<bool, OutOfMemory>
-        requires { Safe (R.meaning self.now.rules) self.now }
+        requires { IsSafe R.meaning self.now }
         ensures { IfOk result (λ may. may ≡ may_arrive (R.meaning self.now.rules) self.now unit.now) }
     {
         let log = self.log(unit.receiver);
@@ -145,10 +147,10 @@ impl<R: Rules> World<R> {
 
     /// How the receiver answers the arrival of a unit that may arrive, so of one that it has not forgotten: the first of
     /// these that applies. `Down` where it is down, `Known` where it received the unit, `Busy` where a direct run of it
-    /// is claimed, `SysFail` where it has no inbound queue and its function is not offered, `Run` where it has no inbound
+    /// is claimed, `SysFail` where it has no inbound queue and the receiver does not offer its function, `Run` where it has no inbound
     /// queue, and `New` otherwise.
     pub fn answer_to(&self, alloc: Global, unit: &AleUnit) -> Result<Answer, OutOfMemory>
-        requires safe { Safe (R.meaning self.now.rules) self.now }
+        requires safe { IsSafe R.meaning self.now }
         requires arrives { may_arrive (R.meaning self.now.rules) self.now unit.now ≡ true }
         ensures { IfOk result (λ answer. answer ≡ answer_to (R.meaning self.now.rules) self.now unit.now) }
     {
@@ -166,10 +168,7 @@ impl<R: Rules> World<R> {
         if !unit.inq.is_empty() {
             return Ok(Answer::New);
         }
-        if self
-            .rules
-            .offers(alloc, receiver, self.log(receiver), &unit.function)?
-        {
+        if self.offers(alloc, receiver, unit)? {
             Ok(Answer::Run)
         } else {
             Ok(Answer::SysFail)

@@ -1,3 +1,5 @@
+//! What the protocol asks of the rules by which logs are read.
+
 ghost use Rattle.std.specs.Prelude.{◌≡◌, ◌≤◌, IfOk};
 ghost use Rattle.trfc_protocol.specs.Meaning.{Meaning};
 ghost use Rattle.trfc_protocol.specs.Legal.{IsLegal, IsLawful};
@@ -49,7 +51,7 @@ pub trait Rules: Drop {
     ) -> Result<bool, OutOfMemory>
         requires known { system ≤ (meaning self.now).systems }
         requires legal { IsLegal (meaning self.now) system log.now }
-        ensures { IfOk result (λ offered. offered ≡ (meaning self.now).offers system log.now function.now) };
+        ensures { IfOk result (λ offers. offers ≡ (meaning self.now).offers system log.now function.now) };
 
     // The laws of the rules: how units are numbered, which records commit them, and that what is offered stays.
     ghost lawful: { (rules : Self) → IsLawful (meaning rules) };

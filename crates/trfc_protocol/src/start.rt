@@ -1,3 +1,5 @@
+//! The world at first.
+
 ghost use Rattle.std.specs.Prelude.{◌≡◌, IfOk};
 ghost use Rattle.trfc_protocol.specs.Start.{started_state};
 
@@ -9,12 +11,12 @@ use unit_core::Record;
 impl<R: Rules> World<R> {
     ghost use Rattle.std.specs.Prelude.{◌≡◌, IfOk};
     ghost use Rattle.trfc_protocol.specs.Start.{started};
-    ghost use Rattle.trfc_protocol.specs.Safe.{Safe};
+    ghost use Rattle.trfc_protocol.specs.Safe.{IsSafe};
 
     /// The world at first: each system is up, and its log is its Genesis with an empty text. Claims are numbered from 1.
     pub fn start(alloc: Global, rules: R) -> Result<World<R>, OutOfMemory>
         ensures started { IfOk result (λ world. world ≡ started (R.meaning rules) rules) }
-        ensures safe { IfOk result (λ world. Safe (R.meaning world.rules) world) }
+        ensures safe { IfOk result (IsSafe R.meaning) }
     {
         let count = rules.systems();
         let mut systems = Items::new(alloc);

@@ -1,6 +1,8 @@
+//! One step of a world, and a run of many.
+
 ghost use Rattle.std.specs.Prelude.{◌≡◌, IfOk};
 ghost use Rattle.trfc_protocol.specs.Happens.{happens, run};
-ghost use Rattle.trfc_protocol.specs.Safe.{Safe};
+ghost use Rattle.trfc_protocol.specs.Safe.{IsSafe};
 
 use crate::{Event, Rules, World};
 use ale_base::OutOfMemory;
@@ -13,10 +15,10 @@ pub fn step<R: Rules>(
     world: World<R>,
     event: &Event,
 ) -> Result<World<R>, OutOfMemory>
-    requires { Safe (R.meaning world.rules) world }
+    requires { IsSafe R.meaning world }
     ensures happens { IfOk result (λ after. after ≡ happens (R.meaning world.rules) world event.now) }
     ensures rules { IfOk result (λ after. after.rules ≡ world.rules) }
-    ensures safe { IfOk result (λ after. Safe (R.meaning after.rules) after) }
+    ensures safe { IfOk result (IsSafe R.meaning) }
 {
     let mut world = world;
     world.happen(alloc, event)?;
@@ -29,10 +31,10 @@ pub fn run_events<R: Rules>(
     world: World<R>,
     events: &[Event],
 ) -> Result<World<R>, OutOfMemory>
-    requires { Safe (R.meaning world.rules) world }
+    requires { IsSafe R.meaning world }
     ensures happens { IfOk result (λ after. after ≡ run R.meaning world events.now) }
     ensures rules { IfOk result (λ after. after.rules ≡ world.rules) }
-    ensures safe { IfOk result (λ after. Safe (R.meaning after.rules) after) }
+    ensures safe { IfOk result (IsSafe R.meaning) }
 {
     let mut world = world;
     for event in events {

@@ -1,3 +1,5 @@
+//! A world: the logs of all systems and the claims of their workers, what is read off it, and the three ways to change it.
+
 ghost use Rattle.std.specs.Prelude.{◌≡◌};
 
 use crate::{Held, HeldKind};
@@ -15,23 +17,40 @@ pub struct SystemState {
     pub rest: Option<Record>,
 }
 
-/// All systems of a landscape, and the claims that stand.
+impl SystemState {
+    ghost use Rattle.std.specs.Prelude.{◌≡◌, OnOk, OnErr};
+    ghost use Rattle.trfc_protocol.specs.Worlds.{with_record};
+
+    /// Adds a record to the log.
+    fn add(&mut self, next: Record) -> Result<(), OutOfMemory>
+        ensures ok { OnOk result (self.new ≡ with_record next self.old) }
+        ensures err { OnErr result (self.new ≡ self.old) }
+    {
+        self.log.push(next)
+    }
+}
+
+/// All systems of a landscape, and the claims of their workers.
+///
+/// Its methods, by file: here a system, its log and a claim; in `start` the world at first; in `offered` what a system
+/// committed and offers, which unit is offered, and how an arrival is answered; in `happens` and below what each event makes
+/// of the world, for `step` alone.
 #[derive(Drop)]
 pub struct World<R> {
     /// The rules by which the logs are read.
     pub rules: R,
     /// The systems. The first has number 1.
     pub systems: Items<SystemState>,
-    /// The claims that stand, in the order in which they were made.
+    /// The claims, in the order in which they were made.
     pub claims: Items<Held>,
-    /// How often a system fell. It stands still at the greatest number.
+    /// How often a system fell. It does not rise past the greatest number.
     pub falls: u64,
     /// The number of the next claim.
     pub next_number: u64,
 }
 
 impl<R> World<R> {
-    ghost use Rattle.std.specs.Prelude.{◌≡◌, is_some, OnOk};
+    ghost use Rattle.std.specs.Prelude.{◌≡◌, is_some, OnOk, OnErr};
     ghost use Rattle.std.specs.Option.{option_copied};
     ghost use Rattle.trfc_protocol.specs.Worlds.{state_of, log_of, is_up, is_claimed, claim_of, appended, claimed, released};
 
@@ -86,25 +105,28 @@ impl<R> World<R> {
         self.claims.iter().find(|held| held.number == number)
     }
 
-    /// Appends a record to the log of a system.
+    /// Appends a record to the log of a system. After an `Err` nothing changed.
     pub(crate) fn append(&mut self, system: SystemNo, next: Record) -> Result<(), OutOfMemory>
-        ensures { OnOk result (self.new ≡ appended self.old system next) }
+        ensures ok { OnOk result (self.new ≡ appended self.old system next) }
+        ensures err { OnErr result (self.new ≡ self.old) }
     {
         let at = system.get() as usize - 1;
         if at < self.systems.len() {
-            self.systems.at_mut(at).log.push(next)?;
+            self.systems.at_mut(at).add(next)?;
         }
         Ok(())
     }
 
-    /// Makes a claim, under the next number. There is no number left where that is the greatest.
+    /// Makes a claim, under the next number. There is no number left where that is the greatest. After an `Err` nothing
+    /// changed.
     pub(crate) fn claim(
         &mut self,
         tid: Tid,
         system: SystemNo,
         kind: HeldKind,
     ) -> Result<(), OutOfMemory>
-        ensures { OnOk result (self.new ≡ claimed self.old tid system kind) }
+        ensures ok { OnOk result (self.new ≡ claimed self.old tid system kind) }
+        ensures err { OnErr result (self.new ≡ self.old) }
     {
         let number = self.next_number;
         if number == u64::MAX {

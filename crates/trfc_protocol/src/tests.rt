@@ -1,5 +1,0 @@
-mod once;
-mod plain;
-mod protocol;
-mod scene;
-mod walk;
