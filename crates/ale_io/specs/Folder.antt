@@ -1,14 +1,11 @@
 -- Files in memory.
-use Rattle.std.specs.Prelude.{ℕ, List, Option, None, Some, find, nat_eq}
-use Rattle.std.specs.Cmp.Lexicographic.{pointwise}
+use Rattle.std.specs.Prelude.{ℕ, List, find}
+use Rattle.std.specs.Option.{option_map_or}
+use Rattle.ale_base.specs.Text.{is_text}
 use Rattle.ale_io.specs.Told.{Told, no_file, file}
 use Rattle.ale_io.specs.declared.map_files.StoredFile.{StoredFile}
 
--- what is told of a file that was found, or not
-abbrev pub told_by : Option StoredFile → Told
-told_by None = no_file
-told_by (Some stored) = file stored.bytes
-
--- the first file of the name is the one that counts
+-- what is told of a name: the bytes of the first file that has it, which is the one that counts
 abbrev pub told_of : List StoredFile → List ℕ → Told
-told_of files name = told_by (find (λ stored. pointwise nat_eq stored.name name) files)
+told_of files name =
+    option_map_or (λ stored. file stored.bytes) (find (λ stored. is_text stored.name name) files) no_file

@@ -1,3 +1,7 @@
+-- what is known of a file, and of files in memory
 pub mod Told
-pub mod Written
 pub mod Folder
+-- what a sink holds after a call
+pub mod Written
+-- what a call does to a count of faults
+pub mod FaultCount

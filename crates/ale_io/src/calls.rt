@@ -1,5 +1,8 @@
-ghost use Rattle.std.specs.Prelude.{◌≡◌, ◌+◌, ◌-◌, ◌^◌, ◌≤◌, ◌↔◌, [], min, Contains, IsTrue, if◌then◌else◌};
+//! The calls of an implementation in memory, some of which are chosen to fail.
+
+ghost use Rattle.std.specs.Prelude.{◌≡◌, ◌+◌, ◌-◌, ◌^◌, ◌↔◌, [], min, Contains, IsTrue, false, ◌≤◌};
 ghost use Rattle.ale_base.specs.Faults.{Rose};
+ghost use Rattle.ale_io.specs.FaultCount.{IsCounted, CountsOne};
 
 use ale_base::Items;
 use std::alloc::Global;
@@ -40,10 +43,8 @@ impl Calls {
         ensures made { self.new.made ≡ min (self.old.made + 1) (2 ^ 64 - 1) }
         ensures chosen { IsTrue result ↔ Contains self.old.failing self.new.made }
         ensures failing { self.new.failing ≡ self.old.failing }
-        ensures faults { self.new.faults
-            ≡ (if result then min (self.old.faults + 1) (2 ^ 64 - 1) else self.old.faults) }
-        ensures counted { self.old.faults ≤ self.new.faults }
-        ensures rose { IsTrue result → Rose self.old.faults self.new.faults }
+        ensures one_fault { CountsOne (IsTrue result) self.old.faults self.new.faults }
+        ensures faults { IsCounted (IsTrue result) (result ≡ false) self.old.faults self.new.faults }
     {
         self.made = self.made.saturating_add(1);
         let fails = self.failing.as_slice().contains(&self.made);

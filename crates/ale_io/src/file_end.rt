@@ -1,3 +1,5 @@
+//! Why a file was not read.
+
 use thiserror::Error;
 
 /// Why a file was not read. What was to be filled is as it was before.

@@ -1,6 +1,8 @@
-ghost use Rattle.std.specs.Prelude.{◌≡◌, ℕ, List, [], ◌++◌, ◌<◌, ◌≤◌, length, OnOk, OnErr, IsErrOf};
+//! The trait of the files that the program may read.
+
+ghost use Rattle.std.specs.Prelude.{◌≡◌, ℕ, List, [], ◌++◌, ◌<◌, ◌≤◌, length, IsOk, OnOk, OnErr, IsErrOf};
 ghost use Rattle.ale_io.specs.Told.{Told, MayHold, MayLack};
-ghost use Rattle.ale_base.specs.Faults.{Rose};
+ghost use Rattle.ale_io.specs.FaultCount.{IsCounted};
 
 use crate::FileEnd;
 
@@ -22,11 +24,8 @@ pub trait Files {
         ensures missing { IsErrOf result FileEnd.Missing → MayLack (told self.old name.now) }
         ensures too_long { IsErrOf result FileEnd.TooLong →
             (bytes : List ℕ) × MayHold (told self.old name.now) bytes × (limit < length bytes) }
-        ensures failed { IsErrOf result FileEnd.Failed → Rose (faults self.old) (faults self.new) }
         ensures err { OnErr result (into.new.items ≡ into.old.items) }
         ensures no_name { name.now ≡ [] → IsErrOf result FileEnd.Failed }
-
         ensures kept { (other : List ℕ) → told self.new other ≡ told self.old other }
-        ensures counted { faults self.old ≤ faults self.new }
-        ensures quiet { OnOk result (faults self.new ≡ faults self.old) };
+        ensures faults { IsCounted (IsErrOf result FileEnd.Failed) (IsOk result) (faults self.old) (faults self.new) };
 }

@@ -2,7 +2,8 @@
 //!
 //! Contract: a call says what it read or wrote where the implementation tells its contents, and it answers `Failed` or
 //! `SinkFailed` only where the implementation's count of faults rises in that call. The definitions are in `specs/`:
-//! `Told` (what is known of a file), `Faults`, `Written`.
+//! `Told` (what is known of a file), `Written` (what a sink holds after a call), `FaultCount` (what a call does to a
+//! count of faults), `Folder` (files in memory).
 #![tactic(auto)]
 
 mod calls;
@@ -18,6 +19,3 @@ pub use files::Files;
 pub use map_files::{MapFiles, StoredFile};
 pub use sink::{Sink, SinkFailed};
 pub use vec_sink::VecSink;
-
-#[cfg(test)]
-mod tests;

@@ -1,3 +1,5 @@
+//! Files in memory.
+
 use crate::{Calls, FileEnd, Files};
 use ale_base::Items;
 
@@ -20,13 +22,13 @@ pub struct MapFiles {
 }
 
 impl MapFiles {
-    ghost use Rattle.std.specs.Prelude.{◌≡◌, find, nat_eq};
+    ghost use Rattle.std.specs.Prelude.{◌≡◌, find};
     ghost use Rattle.std.specs.Option.{option_copied};
-    ghost use Rattle.std.specs.Cmp.Lexicographic.{pointwise};
+    ghost use Rattle.ale_base.specs.Text.{is_text};
 
     /// The first file of this name.
     fn stored(&self, name: &str) -> Option<&StoredFile>
-        ensures { option_copied result ≡ find (λ stored. pointwise nat_eq stored.name name.now) self.now.files }
+        ensures { option_copied result ≡ find (λ stored. is_text stored.name name.now) self.now.files }
     {
         self.files
             .iter()
@@ -35,9 +37,9 @@ impl MapFiles {
 }
 
 impl Files for MapFiles {
-    ghost use Rattle.std.specs.Prelude.{◌≡◌, ◌↔◌, ◌⊎◌, ℕ, List, [], ◌+◌, ◌-◌, ◌^◌, ◌++◌, ◌<◌, ◌≤◌, length, min, Contains, OnOk, OnErr, IsErrOf};
+    ghost use Rattle.std.specs.Prelude.{◌≡◌, ◌↔◌, ◌⊎◌, ℕ, List, [], ◌+◌, ◌-◌, ◌^◌, ◌++◌, ◌<◌, ◌≤◌, length, min, Contains, IsOk, OnOk, OnErr, IsErrOf, vec_len, vec_capacity};
     ghost use Rattle.ale_io.specs.Told.{MayHold, MayLack};
-    ghost use Rattle.ale_base.specs.Faults.{Rose};
+    ghost use Rattle.ale_io.specs.FaultCount.{IsCounted, CountsOne};
     ghost use Rattle.ale_io.specs.Folder.{told_of};
 
     ghost told = { λ folder name. told_of folder.files name };
@@ -50,15 +52,17 @@ impl Files for MapFiles {
         ensures missing { IsErrOf result FileEnd.Missing → MayLack (told_of self.old.files name.now) }
         ensures too_long { IsErrOf result FileEnd.TooLong →
             (bytes : List ℕ) × MayHold (told_of self.old.files name.now) bytes × (limit < length bytes) }
-        ensures failed { IsErrOf result FileEnd.Failed → Rose self.old.calls.faults self.new.calls.faults }
         ensures err { OnErr result (into.new.items ≡ into.old.items) }
-        ensures kept { (other : List ℕ) → told_of self.new.files other ≡ told_of self.old.files other }
         ensures no_name { name.now ≡ [] → IsErrOf result FileEnd.Failed }
-        ensures counted { self.old.calls.faults ≤ self.new.calls.faults }
-        ensures quiet { OnOk result (self.new.calls.faults ≡ self.old.calls.faults) }
+        ensures kept { (other : List ℕ) → told_of self.new.files other ≡ told_of self.old.files other }
+        ensures faults { IsCounted (IsErrOf result FileEnd.Failed) (IsOk result) self.old.calls.faults self.new.calls.faults }
 
-        // It fails exactly at the calls that are to fail, and with no name.
+        // It fails exactly at the calls that are to fail, and with no name, and counts one fault there and none else.
         ensures chosen { IsErrOf result FileEnd.Failed ↔ (Contains self.old.calls.failing self.new.calls.made ⊎ (name.now ≡ [])) }
+        ensures one_fault { CountsOne (IsErrOf result FileEnd.Failed) self.old.calls.faults self.new.calls.faults }
+        // Memory runs out only where the vector has no room for the file.
+        ensures full { IsErrOf result FileEnd.OutOfMemory → (bytes : List ℕ) × MayHold (told_of self.old.files name.now) bytes
+            × (vec_capacity into.old < vec_len into.old + length bytes) }
         ensures made { self.new.calls.made ≡ min (self.old.calls.made + 1) (2 ^ 64 - 1) }
         ensures failing { self.new.calls.failing ≡ self.old.calls.failing }
     {

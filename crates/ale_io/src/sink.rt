@@ -1,7 +1,9 @@
-ghost use Rattle.std.specs.Prelude.{◌≡◌, ℕ, List, Option, ◌≤◌, OnOk, OnErr};
+//! The trait of what takes the program's text.
+
+ghost use Rattle.std.specs.Prelude.{ℕ, List, Option, IsOk, IsErr, OnOk, OnErr};
 ghost use Rattle.std.specs.Io.KnownBytes.{Appends};
-ghost use Rattle.ale_base.specs.Faults.{Rose};
 ghost use Rattle.ale_io.specs.Written.{AppendsFront};
+ghost use Rattle.ale_io.specs.FaultCount.{IsCounted};
 
 use thiserror::Error;
 
@@ -23,7 +25,5 @@ pub trait Sink {
     fn put(&mut self, bytes: &[u8]) -> Result<(), SinkFailed>
         ensures ok { OnOk result (Appends (contents self.old) (contents self.new) bytes.now) }
         ensures err { OnErr result (AppendsFront (contents self.old) (contents self.new) bytes.now) }
-        ensures failed { OnErr result (Rose (faults self.old) (faults self.new)) }
-        ensures counted { faults self.old ≤ faults self.new }
-        ensures quiet { OnOk result (faults self.new ≡ faults self.old) };
+        ensures faults { IsCounted (IsErr result) (IsOk result) (faults self.old) (faults self.new) };
 }

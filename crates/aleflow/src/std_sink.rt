@@ -28,10 +28,10 @@ impl<W: Write> StdSink<W> {
 }
 
 impl<W: Write> Sink for StdSink<W> {
-    ghost use Rattle.std.specs.Prelude.{◌≡◌, ◌≤◌, None, OnOk, OnErr};
+    ghost use Rattle.std.specs.Prelude.{None, IsOk, IsErr, OnOk, OnErr};
     ghost use Rattle.std.specs.Io.KnownBytes.{Appends};
-    ghost use Rattle.ale_base.specs.Faults.{Rose};
     ghost use Rattle.ale_io.specs.Written.{AppendsFront};
+    ghost use Rattle.ale_io.specs.FaultCount.{IsCounted};
 
     ghost contents = { λ _. None };
 
@@ -40,9 +40,7 @@ impl<W: Write> Sink for StdSink<W> {
     fn put(&mut self, bytes: &[u8]) -> Result<(), SinkFailed>
         ensures ok { OnOk result (Appends None None bytes.now) }
         ensures err { OnErr result (AppendsFront None None bytes.now) }
-        ensures failed { OnErr result (Rose self.old.faults self.new.faults) }
-        ensures counted { self.old.faults ≤ self.new.faults }
-        ensures quiet { OnOk result (self.new.faults ≡ self.old.faults) }
+        ensures faults { IsCounted (IsErr result) (IsOk result) self.old.faults self.new.faults }
 
         // What the writer holds grew by the bytes, where it tells.
         ensures written { OnOk result (Appends (W.contents self.old.out) (W.contents self.new.out) bytes.now) }
