@@ -6,7 +6,7 @@ use Rattle.std.proofs.lemmas.Grind.{flat_map-append}
 use Rattle.std.proofs.lemmas.List.{map-append}
 use Rattle.std.proofs.lemmas.List.Sums.{sum_by-append}
 use Rattle.idoc_record.specs.Control.{IsControlLine}
-use Rattle.idoc_record.specs.Data.{Segment, IsDataLine}
+use Rattle.idoc_record.specs.Data.{DataRecord, IsDataLine}
 use Rattle.ale_host.specs.declared.documents.Document.{Document}
 use Rattle.ale_host.specs.DocumentFile.{FileRecord, control, segment, records_of, IsLineOf, IsPlain, segment_count, begun, with_segment, AreDocuments}
 use Rattle.ale_base.proofs.SnocLemmas.{Snoc, none, some, snoc, AllByRecursion-snoc, AllByRecursion-front, AllZip-snoc, AllZip-front, AllZip-long}
@@ -17,7 +17,7 @@ records-begun : (documents : List Document) (bytes : List ℕ) → flat_map reco
 records-begun documents bytes = flat_map-append records_of documents (begun bytes ∷ [])
 
 -- the records with a segment behind them
-records-with_segment : (front : List Document) (document : Document) (new : Segment)
+records-with_segment : (front : List Document) (document : Document) (new : DataRecord)
     → flat_map records_of (front ++ with_segment document new ∷ []) ≡ flat_map records_of (front ++ document ∷ []) ++ segment new ∷ []
 records-with_segment front document new =
     let last = records_of document ++ [] in
@@ -33,7 +33,7 @@ records-with_segment front document new =
 sum-snoc : (documents : List Document) (document : Document) → sum_by segment_count (documents ++ document ∷ []) ≡ sum_by segment_count documents + segment_count document
 sum-snoc documents document = omega (arith, sum_by-append segment_count documents (document ∷ []))
 
-count-with_segment : (document : Document) (new : Segment) → segment_count (with_segment document new) ≡ segment_count document + 1
+count-with_segment : (document : Document) (new : DataRecord) → segment_count (with_segment document new) ≡ segment_count document + 1
 count-with_segment document new = simp length-append
 
 -- a control record begins a document
@@ -48,7 +48,7 @@ AreDocuments-begun lines documents line bytes are plain is room = record {
 }
 
 -- a data record goes on with the last document
-pub AreDocuments-with_segment : (lines : List (List ℕ)) (front : List Document) (document : Document) (line : List ℕ) (new : Segment)
+pub AreDocuments-with_segment : (lines : List (List ℕ)) (front : List Document) (document : Document) (line : List ℕ) (new : DataRecord)
     → AreDocuments lines (front ++ document ∷ []) → IsPlain line → IsDataLine line new → segment_count document < 10000
     → sum_by segment_count (front ++ document ∷ []) < 1000000 → AreDocuments (lines ++ line ∷ []) (front ++ with_segment document new ∷ [])
 AreDocuments-with_segment lines front document line new are plain is room within = record {
@@ -62,11 +62,11 @@ AreDocuments-with_segment lines front document line new are plain is room within
 }
 
 -- records that begin with a data record are those of no documents
-starts_apart : (others : List FileRecord) (new : Segment) (documents : List Document) → segment new ∷ others ≡ flat_map records_of documents → ⊥
+starts_apart : (others : List FileRecord) (new : DataRecord) (documents : List Document) → segment new ∷ others ≡ flat_map records_of documents → ⊥
 starts_apart others new [] same = cc
 starts_apart others new (document ∷ documents) same = cc
 
-same_segments : (xs ys : List Segment) (a b : List Document) → map segment xs ++ flat_map records_of a ≡ map segment ys ++ flat_map records_of b → (xs ≡ ys) × (flat_map records_of a ≡ flat_map records_of b)
+same_segments : (xs ys : List DataRecord) (a b : List Document) → map segment xs ++ flat_map records_of a ≡ map segment ys ++ flat_map records_of b → (xs ≡ ys) × (flat_map records_of a ≡ flat_map records_of b)
 same_segments [] [] a b same = (refl, same)
 same_segments [] (y ∷ ys) a b same = absurd (starts_apart (map segment ys ++ flat_map records_of b) y a (sym same))
 same_segments (x ∷ xs) [] a b same = absurd (starts_apart (map segment xs ++ flat_map records_of a) x b same)
@@ -97,11 +97,11 @@ same_documents lines a b are_a are_b =
 pub data FollowsFrom (lines : List (List ℕ)) (line : List ℕ) (documents : List Document) : Type 0 where
   begins : (bytes : List ℕ) (before : List Document) → AreDocuments lines before → IsControlLine line bytes → length before < 4096
       → documents ≡ before ++ begun bytes ∷ [] → FollowsFrom lines line documents
-  goes_on : (front : List Document) (document : Document) (new : Segment) → AreDocuments lines (front ++ document ∷ []) → IsDataLine line new
+  goes_on : (front : List Document) (document : Document) (new : DataRecord) → AreDocuments lines (front ++ document ∷ []) → IsDataLine line new
       → segment_count document < 10000 → sum_by segment_count (front ++ document ∷ []) < 1000000
       → documents ≡ front ++ with_segment document new ∷ [] → FollowsFrom lines line documents
 
-follows_last : (lines : List (List ℕ)) (line : List ℕ) (front : List Document) (bytes : List ℕ) (segments : List Segment) → Snoc segments
+follows_last : (lines : List (List ℕ)) (line : List ℕ) (front : List Document) (bytes : List ℕ) (segments : List DataRecord) → Snoc segments
     → AreDocuments (lines ++ line ∷ []) (front ++ record { control = bytes; segments = segments } ∷ [])
     → FollowsFrom lines line (front ++ record { control = bytes; segments = segments } ∷ [])
 follows_last lines line front bytes _ none are =

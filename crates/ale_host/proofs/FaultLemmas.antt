@@ -6,9 +6,10 @@ use Rattle.ale_base.specs.TrimmedLemmas.{length-trimmed}
 use Rattle.idoc_record.specs.declared.control_field.ControlField.TheVariants.{Tabnam, Docnum, Direct}
 use Rattle.idoc_record.specs.declared.fault.RecordFault.{RecordFault}
 use Rattle.idoc_record.specs.declared.fault.RecordFault.TheVariants as record_fault
-use Rattle.idoc_record.specs.Parts.{told_length, text_at}
+use Rattle.idoc_record.specs.Parts.{text_at}
+use Rattle.ale_base.specs.Text.{told_length}
 use Rattle.idoc_record.specs.Control.{IsControlLine, field_of, control_read, is_control_table, is_number, is_direction}
-use Rattle.idoc_record.specs.Data.{Segment, IsDataLine, data_read, is_no_segment, sdata}
+use Rattle.idoc_record.specs.Data.{DataRecord, IsDataLine, data_read, is_no_segment, sdata}
 use Rattle.ale_host.specs.declared.line_fault.LineFault.{LineFault}
 use Rattle.ale_host.specs.declared.line_fault.LineFault.TheVariants.{TooLong, WrongTable, BadNumber}
 use Rattle.ale_host.specs.DocumentFile.{IsControlKind, control_text, segment_name, fault_of, HasControlFault, over_524, no_number, no_direction, HasDataFault, over_1063, no_segment}
@@ -26,8 +27,8 @@ control_cause false true true false n bytes its same names = inr (inr (refl, ref
 control_cause false true true true n bytes its same names = absurd (cc)
 
 -- and which of the tests of a data record
-data_cause : (long none : Bool) (n : ℕ) (segment : Segment) (its : RecordFault)
-    → ◌≡◌ {A = Result Segment RecordFault} (if long then Err (record_fault.TooLong n) else (if none then Err record_fault.WrongTable else Ok segment)) (Err its)
+data_cause : (long none : Bool) (n : ℕ) (segment : DataRecord) (its : RecordFault)
+    → ◌≡◌ {A = Result DataRecord RecordFault} (if long then Err (record_fault.TooLong n) else (if none then Err record_fault.WrongTable else Ok segment)) (Err its)
     → ((long ≡ true) × (record_fault.TooLong n ≡ its)) ⊎ ((long ≡ false) × (none ≡ true) × (record_fault.WrongTable ≡ its))
 data_cause true none n segment its same = inl (refl, cc)
 data_cause false true n segment its same = inr (refl, refl, cc)
@@ -71,7 +72,7 @@ no_control-fault line _ bytes (no_direction short number other) is =
     let direction : is_direction (control_text line Direct) ≡ true = subst (λ (control : List ℕ). is_direction (field_of control Direct) ≡ true) is.bytes is.kept.direction in
     false≢true (sym other ∙ direction)
 
-pub no_data-fault : (line : List ℕ) (fault : LineFault) (new : Segment) → HasDataFault line fault → IsDataLine line new → ⊥
+pub no_data-fault : (line : List ℕ) (fault : LineFault) (new : DataRecord) → HasDataFault line fault → IsDataLine line new → ⊥
 no_data-fault line _ new (over_1063 over) is = absurd (omega (arith, is.fits))
 no_data-fault line _ new (no_segment short none) is =
     let named : not (is_no_segment (segment_name line)) ≡ true = subst (λ (name : List ℕ). not (is_no_segment name) ≡ true) is.segnam is.kept.segnam in

@@ -9,7 +9,7 @@ use Rattle.ale_base.specs.Blanks.{before_trimmed, trimmed, padded}
 use Rattle.ale_base.specs.TrimmedLemmas.{trimmed-take-padded, padded-trimmed, length-trimmed}
 use Rattle.idoc_record.specs.declared.control_field.ControlField.TheVariants.{Tabnam}
 use Rattle.idoc_record.specs.Control.{IsControlLine, is_control_table, field_of}
-use Rattle.idoc_record.specs.Data.{Segment, IsDataLine, is_no_segment}
+use Rattle.idoc_record.specs.Data.{DataRecord, IsDataLine, is_no_segment}
 use Rattle.ale_host.specs.DocumentFile.{FileRecord, control, segment, IsLineOf, is_blank, IsControlKind, control_text}
 
 -- a text begins with the byte that it is trimmed to begin with
@@ -59,7 +59,7 @@ control_table line kind =
     (bytes_decides (trimmed (take 10 (padded 524 text))) (codes "EDI_DC40")).1 (trimmed-take-padded 10 524 text ∙ trimmed-take-trimmed 10 line ∙ kind)
 
 -- and a data record is none
-pub data_kind : (line : List ℕ) (data_record : Segment) → IsDataLine line data_record → IsControlKind line → ⊥
+pub data_kind : (line : List ℕ) (data_record : DataRecord) → IsDataLine line data_record → IsControlKind line → ⊥
 data_kind line data_record is kind =
     let text = trimmed line in
     let named : is_no_segment data_record.segnam ≡ true =
@@ -68,7 +68,7 @@ data_kind line data_record is kind =
     absurd (false≢true differs)
 
 -- no line is a control record and a data record
-pub one_kind : (line bytes : List ℕ) (data_record : Segment) → IsControlLine line bytes → IsDataLine line data_record → ⊥
+pub one_kind : (line bytes : List ℕ) (data_record : DataRecord) → IsControlLine line bytes → IsDataLine line data_record → ⊥
 one_kind line bytes data_record is_control is_data = data_kind line data_record is_data (control_kind line bytes is_control)
 
 -- of a blank line nothing is left
@@ -85,7 +85,7 @@ no_control_is_blank line bytes blank is =
     let some : [] ≡ codes "EDI_DC40" = sym none ∙ trimmed-take-trimmed 10 line ∙ control_kind line bytes is in
     absurd (cc)
 
-pub no_data_is_blank : (line : List ℕ) (data_record : Segment) → is_blank line ≡ true → IsDataLine line data_record → ⊥
+pub no_data_is_blank : (line : List ℕ) (data_record : DataRecord) → is_blank line ≡ true → IsDataLine line data_record → ⊥
 no_data_is_blank line data_record blank is =
     let none : trimmed (take 30 (trimmed line)) ≡ [] = ap (λ text. trimmed (take 30 text)) (trimmed-is_blank line blank) in
     let named : data_record.segnam ≡ [] = is.segnam ∙ trimmed-take-padded 30 1063 (trimmed line) ∙ none in

@@ -7,7 +7,7 @@ use Rattle.idoc_record.specs.declared.control_field.ControlField.TheVariants.{Do
 use Rattle.idoc_record.specs.declared.fault.RecordFault.{RecordFault}
 use Rattle.idoc_record.specs.declared.fault.RecordFault.TheVariants as record_fault
 use Rattle.idoc_record.specs.Parts.{text_at}
-use Rattle.idoc_record.specs.Data.{Segment, IsDataLine, segnam, is_no_segment}
+use Rattle.idoc_record.specs.Data.{DataRecord, IsDataLine, segnam, is_no_segment}
 use Rattle.idoc_record.specs.Control.{IsControlLine, field_of, is_number, is_direction}
 use Rattle.ale_host.specs.declared.documents.Document.{Document}
 use Rattle.ale_host.specs.declared.line_fault.LineFault.{LineFault}
@@ -16,7 +16,7 @@ use Rattle.ale_host.specs.declared.line_fault.LineFault.TheVariants.{LineTooLong
 -- a record of a document file
 pub data FileRecord : Type 0 where
   control : List ℕ → FileRecord
-  segment : Segment → FileRecord
+  segment : DataRecord → FileRecord
 
 -- a document is its control record, and the data records of its segments behind it
 abbrev pub records_of : Document → List FileRecord
@@ -41,11 +41,11 @@ abbrev pub begun : List ℕ → Document
 begun bytes = record { control = bytes; segments = [] }
 
 -- the document with one more segment
-abbrev pub with_segment : Document → Segment → Document
+abbrev pub with_segment : Document → DataRecord → Document
 with_segment document new = record document { segments = document.segments ++ new ∷ [] }
 
 -- the last document has one more segment
-pub record AddsToLast (before after : List Document) (new : Segment) : Type 0 where
+pub record AddsToLast (before after : List Document) (new : DataRecord) : Type 0 where
   pub front : List Document
   pub document : Document
   pub was : before ≡ front ++ document ∷ []
@@ -77,7 +77,7 @@ pub record BeginsDocument (before after : List Document) (line : List ℕ) : Typ
 
 -- the line is a data record of one more segment of the last document
 pub record GoesOn (before after : List Document) (line : List ℕ) : Type 0 where
-  pub segment : Segment
+  pub segment : DataRecord
   pub is : IsDataLine line segment
   pub short : length line ≤ 4096
   pub adds : AddsToLast before after segment

@@ -1,23 +1,19 @@
 -- The control record EDI_DC40.
-use Rattle.std.specs.Prelude.{◌≡◌, ℕ, ◌≤◌, List, [], length, Bool, ◌||◌, not, IsTrue, ⊤, nat_eq, nat_lt, codes, Result, Ok, Err, if◌then◌else◌}
+use Rattle.std.specs.Prelude.{◌≡◌, ℕ, ◌≤◌, List, [], length, Bool, ◌||◌, not, IsTrue, ⊤, nat_lt, codes, Result, Ok, Err, if◌then◌else◌}
 use Rattle.std.specs.Char.{is_ascii_digit}
 use Rattle.std.specs.List.{list_all}
-use Rattle.std.specs.Cmp.Lexicographic.{pointwise}
 use Rattle.ale_base.specs.Blanks.{trimmed, padded}
+use Rattle.ale_base.specs.Text.{is_text, told_length}
 use Rattle.idoc_record.specs.declared.control_field.ControlField.{ControlField}
 use Rattle.idoc_record.specs.declared.control_field.ControlField.TheVariants.{Tabnam, Docnum, Direct}
 use Rattle.idoc_record.specs.declared.fault.RecordFault.{RecordFault}
 use Rattle.idoc_record.specs.declared.fault.RecordFault.TheVariants.{TooLong, WrongTable, BadNumber}
 use Rattle.idoc_record.specs.ControlField.{span_of}
-use Rattle.idoc_record.specs.Parts.{text_at, told_length}
+use Rattle.idoc_record.specs.Parts.{text_at}
 
 -- the text of a field of a control record, without the blanks at its end
 abbrev pub field_of : List ℕ → ControlField → List ℕ
 field_of control field = text_at (span_of field) control
-
--- the two texts are the same
-abbrev pub is_text : List ℕ → List ℕ → Bool
-is_text text other = pointwise nat_eq text other
 
 -- the name of the table of control records
 abbrev pub is_control_table : List ℕ → Bool

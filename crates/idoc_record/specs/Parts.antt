@@ -1,5 +1,5 @@
 -- Parts of records.
-use Rattle.std.specs.Prelude.{ℕ, ◌+◌, ◌-◌, ◌^◌, List, ◌++◌, take, drop, min}
+use Rattle.std.specs.Prelude.{ℕ, ◌+◌, List, ◌++◌, take, drop}
 use Rattle.ale_base.specs.Blanks.{trimmed, padded}
 use Rattle.idoc_record.specs.declared.span.Span.{Span}
 
@@ -14,7 +14,3 @@ text_at place bytes = trimmed (part place bytes)
 -- the record with this text, and blanks behind it, at a place
 abbrev pub with_text : Span → List ℕ → List ℕ → List ℕ
 with_text place text bytes = take place.offset bytes ++ (padded place.length text ++ drop (place.offset + place.length) bytes)
-
--- a length as a fault tells it, at most the greatest number of 32 bits
-abbrev pub told_length : ℕ → ℕ
-told_length n = min n (2 ^ 32 - 1)

@@ -1,9 +1,11 @@
+//! The control record, and how a line is read as one.
+
 ghost use Rattle.std.specs.Prelude.{◌≡◌, ◌↔◌, ℕ, List, Ok};
 ghost use Rattle.idoc_record.specs.Control.{IsControlLine, control_read, control_of, field_of, is_number, is_direction};
 
-use crate::parts::{put_padded, told_length};
+use crate::parts::put_padded;
 use crate::{ControlField, RecordFault};
-use ale_base::trimmed;
+use ale_base::{told_length, trimmed};
 use std::alloc::AllocError;
 use std::marker::Model;
 

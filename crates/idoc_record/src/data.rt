@@ -1,11 +1,12 @@
-ghost use Rattle.std.specs.Prelude.{◌≡◌, ◌≢◌, ◌≤◌, length, Ok, Err, IfOk, IfErr};
+//! The data record, and how a line is read as one.
+
+ghost use Rattle.std.specs.Prelude.{◌≡◌, ◌≢◌, ◌≤◌, length, Ok, Err};
 ghost use Rattle.ale_base.specs.Blanks.{padded};
 ghost use Rattle.idoc_record.specs.Parts.{text_at};
-ghost use Rattle.idoc_record.specs.Data.{Segment, IsDataLine, data_read, segnam, sdata, is_no_segment};
+ghost use Rattle.idoc_record.specs.Data.{DataRecord, IsDataLine, data_read, segnam, sdata, is_no_segment};
 
 use crate::RecordFault;
-use crate::parts::told_length;
-use ale_base::{Fixed, Items, trimmed};
+use ale_base::{Fixed, Items, told_length, trimmed};
 use std::alloc::{AllocError, Global};
 use std::marker::Model;
 
@@ -20,13 +21,13 @@ pub struct Data {
 }
 
 impl Model for Data {
-    ghost use Rattle.idoc_record.specs.Data.{Segment, IsSegment};
+    ghost use Rattle.idoc_record.specs.Data.{DataRecord, IsDataRecord};
 
-    ghost Value = { Segment };
+    ghost Value = { DataRecord };
 
     ghost view = { λ d. record { segnam = d.segnam; sdata = d.sdata } };
 
-    ghost invariant = { λ d. IsSegment (record { segnam = d.segnam; sdata = d.sdata }) };
+    ghost invariant = { λ d. IsDataRecord (record { segnam = d.segnam; sdata = d.sdata }) };
 
     ghost inverse = { λ d. record { segnam = d.segnam; sdata = d.sdata } };
 }
@@ -45,7 +46,7 @@ impl Data {
 impl Clone for Data {
     ghost use Rattle.std.specs.Prelude.{◌≡◌};
 
-    ghost is_clone = { λ segment copy. copy ≡ segment };
+    ghost is_clone = { λ data_record copy. copy ≡ data_record };
 
     fn clone(&self) -> Result<Data, AllocError> {
         Ok(Data {
@@ -60,9 +61,9 @@ impl Clone for Data {
 /// The faults, in this order: `TooLong` where more than 1,063 bytes are left, and `WrongTable` where SEGNAM is blank or
 /// begins with `EDI_`.
 pub fn read_data(alloc: Global, bytes: &[u8]) -> Result<Data, RecordFault>
-    ensures found { (segment : Segment) → result ≡ Ok segment → IsDataLine bytes.now segment }
-    ensures only { (segment : Segment) → IsDataLine bytes.now segment
-        → result ≢ Err RecordFault.OutOfMemory → result ≡ Ok segment }
+    ensures found { (data_record : DataRecord) → result ≡ Ok data_record → IsDataLine bytes.now data_record }
+    ensures only { (data_record : DataRecord) → IsDataLine bytes.now data_record
+        → result ≢ Err RecordFault.OutOfMemory → result ≡ Ok data_record }
     ensures first_fault { result ≢ Err RecordFault.OutOfMemory → result ≡ data_read bytes.now }
 {
     let text = trimmed(bytes);
@@ -73,21 +74,11 @@ pub fn read_data(alloc: Global, bytes: &[u8]) -> Result<Data, RecordFault>
     if is_no_segment(segnam.trimmed()) {
         return Err(RecordFault::WrongTable);
     }
-    let sdata = copied(alloc, sdata_of(text))?;
+    let sdata = Items::from_slice(alloc, sdata_of(text))?;
     Ok(Data { segnam, sdata })
 }
 
-fn copied(alloc: Global, bytes: &[u8]) -> Result<Items<u8>, RecordFault>
-    ensures ok { IfOk result (λ copy. copy ≡ bytes.now) }
-    ensures err { IfErr result (λ fault. fault ≡ RecordFault.OutOfMemory) }
-{
-    match Vec::from_slice(alloc, bytes) {
-        Ok(copy) => Ok(Items::from_vec(copy)),
-        Err(_) => Err(RecordFault::OutOfMemory),
-    }
-}
-
-/// The name of the segment.
+/// The name of the segment in a line without the blanks at its end.
 fn segnam_of(text: &[u8]) -> Fixed<30>
     ensures { result ≡ text_at segnam (padded 1063 text.now) }
 {
@@ -98,7 +89,7 @@ fn segnam_of(text: &[u8]) -> Fixed<30>
     }
 }
 
-/// The data of the segment, without the blanks at their end.
+/// The data of the segment in such a line, without the blanks at their end.
 fn sdata_of(text: &[u8]) -> &[u8]
     requires { length text.now ≤ 1063 }
     ensures { result.now ≡ text_at sdata (padded 1063 text.now) }
@@ -109,6 +100,7 @@ fn sdata_of(text: &[u8]) -> &[u8]
     trimmed(&text[Data::SDATA_OFFSET..])
 }
 
+/// Whether a name is blank, or that of another table of the interface.
 fn is_no_segment(name: &[u8]) -> bool
     ensures { result ≡ is_no_segment name.now }
 {

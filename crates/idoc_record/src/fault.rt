@@ -1,4 +1,7 @@
+//! Why a line is no record.
+
 use crate::ControlField;
+use ale_base::OutOfMemory;
 use thiserror::Error;
 
 /// Why a line is no record.
@@ -17,4 +20,15 @@ pub enum RecordFault {
     /// A request for memory was refused.
     #[error("out of memory")]
     OutOfMemory,
+}
+
+impl From<OutOfMemory> for RecordFault {
+    ghost use Rattle.std.specs.Prelude.{◌≡◌};
+    ghost use Rattle.idoc_record.specs.declared.fault.RecordFault.TheVariants.{OutOfMemory};
+
+    ghost from_gives = { λ _ fault. fault ≡ OutOfMemory };
+
+    fn from(_: OutOfMemory) -> RecordFault {
+        RecordFault::OutOfMemory
+    }
 }

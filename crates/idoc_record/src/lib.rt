@@ -1,7 +1,8 @@
 //! The fixed records of the IDoc interface: the control record EDI_DC40 and the data record EDI_DD40.
 //!
 //! Contract: a line is read exactly where it is such a record, and the first fault in the stated order is named
-//! exactly where it comes. The definitions are in `specs/`: `ControlField` (the layout), `Control`, `Data`.
+//! exactly where it comes. The definitions are in `specs/`: `ControlField` (the layout), `Parts` (texts at places),
+//! `Control`, `Data`.
 #![tactic(auto)]
 
 mod control;
@@ -16,6 +17,3 @@ pub use control_field::ControlField;
 pub use data::{Data, read_data};
 pub use fault::RecordFault;
 pub use span::Span;
-
-#[cfg(test)]
-mod tests;

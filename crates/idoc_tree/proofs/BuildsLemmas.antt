@@ -7,8 +7,8 @@ use Rattle.std.proofs.Common.{◌≡◌, ℕ, zero, suc, ◌+◌, ◌≤◌, ◌
 use Rattle.std.proofs.lemmas.Option.{same_Some}
 use Rattle.std.proofs.lemmas.List.{take_more, take_all, length-take-le}
 use Rattle.ale_base.proofs.SnocLemmas.{Snoc, none, some, snoc}
-use Rattle.idoc_record.specs.Data.{Segment}
-use Rattle.idoc_record.specs.Parts.{told_length}
+use Rattle.idoc_record.specs.Data.{DataRecord}
+use Rattle.ale_base.specs.Text.{told_length}
 use Rattle.segment_defs.specs.declared.segment_type.SegmentType.{SegmentType}
 use Rattle.segment_defs.specs.declared.definitions.Definitions.{Definitions}
 use Rattle.segment_defs.specs.declared.idoc_type.TypePlace.{TypePlace}
@@ -28,14 +28,14 @@ use Rattle.ale_base.proofs.ListLemmas.{slice_get-within}
 use Rattle.idoc_tree.proofs.SpellsLemmas.{Grows-stands, SpellsInOrder-last, Spells-none, none-stands}
 
 -- what a step may be wrong with, by the fault that it answers
-abbrev pub IsWrong : Definitions → List TypePlace → ℕ → Forest → Segment → SyntaxFault → Type 0
+abbrev pub IsWrong : Definitions → List TypePlace → ℕ → Forest → DataRecord → SyntaxFault → Type 0
 IsWrong definitions entries number forest line (UnknownSegment told) = (told ≡ told_length number) × IsUnknown definitions forest line
 IsWrong definitions entries number forest line (Misplaced told) = (told ≡ told_length number) × Faulty definitions (IsMisplaced entries) forest line
 IsWrong definitions entries number forest line (TooMany told) = (told ≡ told_length number) × Faulty definitions (IsTooMany entries) forest line
 IsWrong definitions entries number forest line (Missing name told) = ⊥
 IsWrong definitions entries number forest line OutOfMemory = ⊥
 
-module _ (definitions : Definitions) (entries : List TypePlace) (number : ℕ) (line : Segment) (forest : Forest) where
+module _ (definitions : Definitions) (entries : List TypePlace) (number : ℕ) (line : DataRecord) (forest : Forest) where
   abbrev Wrong : SyntaxFault → Type 0
   Wrong fault = IsWrong definitions entries number forest line fault
 
@@ -147,7 +147,7 @@ name_in (Some type) = type.name
 
 module _ (definitions : Definitions) (entries : List TypePlace) where
   -- the forest with the segments of all lines more, the first of which has this number, or the first fault
-  abbrev pub grown_all : ℕ → Forest → List Segment → Result Forest SyntaxFault
+  abbrev pub grown_all : ℕ → Forest → List DataRecord → Result Forest SyntaxFault
   grown_all number forest [] = Ok forest
   grown_all number forest (line ∷ lines) = go_on (grown definitions entries number line forest) (λ next. grown_all (suc number) next lines)
 
@@ -156,17 +156,17 @@ module _ (definitions : Definitions) (entries : List TypePlace) where
   missing_of (Some lack) forest = Err (Missing (name_in (slice_get definitions.types lack.0)) (told_length lack.1))
 
   -- the forest of all lines if it lacks nothing, or the first fault
-  abbrev pub answer : List Segment → Result Forest SyntaxFault
+  abbrev pub answer : List DataRecord → Result Forest SyntaxFault
   answer lines = go_on (grown_all 1 no_trees lines) (λ forest. missing_of (first_lack entries (families None forest)) forest)
 
-  after_some : (number : ℕ) (first : Result Forest SyntaxFault) (lines more : List Segment) (forest : Forest) → ((next : Forest) → grown_all (suc number) next lines ≡ Ok forest → grown_all (suc number) next (lines ++ more) ≡ grown_all (suc number + length lines) forest more) → go_on first (λ next. grown_all (suc number) next lines) ≡ Ok forest → go_on first (λ next. grown_all (suc number) next (lines ++ more)) ≡ grown_all (number + suc (length lines)) forest more
+  after_some : (number : ℕ) (first : Result Forest SyntaxFault) (lines more : List DataRecord) (forest : Forest) → ((next : Forest) → grown_all (suc number) next lines ≡ Ok forest → grown_all (suc number) next (lines ++ more) ≡ grown_all (suc number + length lines) forest more) → go_on first (λ next. grown_all (suc number) next lines) ≡ Ok forest → go_on first (λ next. grown_all (suc number) next (lines ++ more)) ≡ grown_all (number + suc (length lines)) forest more
   after_some number (Ok next) lines more forest rest grew =
       let sum : suc number + length lines ≡ number + suc (length lines) = omega arith in
       rest next grew ∙ ap (λ n. grown_all n forest more) sum
   after_some number (Err fault) lines more forest rest grew = cc
 
   -- lines behind those that gave a forest
-  grown_all-append : (number : ℕ) (start : Forest) (lines more : List Segment) (forest : Forest) → grown_all number start lines ≡ Ok forest → grown_all number start (lines ++ more) ≡ grown_all (number + length lines) forest more
+  grown_all-append : (number : ℕ) (start : Forest) (lines more : List DataRecord) (forest : Forest) → grown_all number start lines ≡ Ok forest → grown_all number start (lines ++ more) ≡ grown_all (number + length lines) forest more
   grown_all-append number start [] more forest grew =
       let none_more : number ≡ number + 0 = omega arith in
       let is : start ≡ forest = cc in
@@ -175,7 +175,7 @@ module _ (definitions : Definitions) (entries : List TypePlace) where
       after_some number (grown definitions entries number line start) lines more forest (λ next. grown_all-append (suc number) next lines more forest) grew
 
   -- lines that stand give their forest
-  stands_grown : IsPreorder 0 [] entries → (count : ℕ) (lines : List Segment) (forest : Forest) → length lines ≡ count → Snoc lines → SpellsInOrder definitions entries lines forest → grown_all 1 no_trees lines ≡ Ok forest
+  stands_grown : IsPreorder 0 [] entries → (count : ℕ) (lines : List DataRecord) (forest : Forest) → length lines ≡ count → Snoc lines → SpellsInOrder definitions entries lines forest → grown_all 1 no_trees lines ≡ Ok forest
   stands_grown kept count _ forest long none stands = ap Ok (sym (Spells-none definitions entries forest stands.spells))
   stands_grown kept zero _ forest long (some front line) stands = absurd (omega (arith, length-append front (line ∷ [])))
   stands_grown kept (suc count) _ forest long (some front line) stands =
@@ -184,27 +184,27 @@ module _ (definitions : Definitions) (entries : List TypePlace) where
       grown_all-append 1 no_trees front (line ∷ []) stood.front (stands_grown kept count front stood.front shorter (snoc front) stood.stands)
       ∙ ap (λ first. go_on first (λ next. grown_all (suc (1 + length front)) next [])) (grown-Grows definitions entries (1 + length front) line stood.front forest stood.grows)
 
-  pub SpellsInOrder-grown : IsPreorder 0 [] entries → (lines : List Segment) (forest : Forest) → SpellsInOrder definitions entries lines forest → grown_all 1 no_trees lines ≡ Ok forest
+  pub SpellsInOrder-grown : IsPreorder 0 [] entries → (lines : List DataRecord) (forest : Forest) → SpellsInOrder definitions entries lines forest → grown_all 1 no_trees lines ≡ Ok forest
   SpellsInOrder-grown kept lines forest = stands_grown kept (length lines) lines forest refl (snoc lines)
 
-  refused_grown : IsPreorder 0 [] entries → (fault : SyntaxFault) (before after : List Segment) (line : Segment) (forest : Forest) → SpellsInOrder definitions entries before forest → IsWrong definitions entries (suc (length before)) forest line fault → grown_all 1 no_trees (before ++ line ∷ after) ≡ Err fault
+  refused_grown : IsPreorder 0 [] entries → (fault : SyntaxFault) (before after : List DataRecord) (line : DataRecord) (forest : Forest) → SpellsInOrder definitions entries before forest → IsWrong definitions entries (suc (length before)) forest line fault → grown_all 1 no_trees (before ++ line ∷ after) ≡ Err fault
   refused_grown kept fault before after line forest stands wrong =
       let count : 1 + length before ≡ suc (length before) = omega arith in
       grown_all-append 1 no_trees before (line ∷ after) forest (SpellsInOrder-grown kept before forest stands)
       ∙ ap (λ n. grown_all n forest (line ∷ after)) count
       ∙ ap (λ first. go_on first (λ next. grown_all (suc (suc (length before))) next after)) (grown-wrong definitions entries (suc (length before)) line forest fault wrong)
 
-  answered : (lines : List Segment) (made : Result Forest SyntaxFault) → grown_all 1 no_trees lines ≡ made → answer lines ≡ go_on made (λ forest. missing_of (first_lack entries (families None forest)) forest)
+  answered : (lines : List DataRecord) (made : Result Forest SyntaxFault) → grown_all 1 no_trees lines ≡ made → answer lines ≡ go_on made (λ forest. missing_of (first_lack entries (families None forest)) forest)
   answered lines made is = ap (λ made. go_on made (λ forest. missing_of (first_lack entries (families None forest)) forest)) is
 
-  refused_answer : IsPreorder 0 [] entries → (fault : SyntaxFault) (lines : List Segment) (told : ℕ) (Wrong : Forest → Segment → Type 0) → ((number : ℕ) (forest : Forest) (line : Segment) → told ≡ told_length number → Wrong forest line → IsWrong definitions entries number forest line fault) → IsRefusedAt definitions entries lines told Wrong → answer lines ≡ Err fault
+  refused_answer : IsPreorder 0 [] entries → (fault : SyntaxFault) (lines : List DataRecord) (told : ℕ) (Wrong : Forest → DataRecord → Type 0) → ((number : ℕ) (forest : Forest) (line : DataRecord) → told ≡ told_length number → Wrong forest line → IsWrong definitions entries number forest line fault) → IsRefusedAt definitions entries lines told Wrong → answer lines ≡ Err fault
   refused_answer kept fault lines told Wrong is_wrong refused =
       answered lines (Err fault) (ap (grown_all 1 no_trees) refused.split
       ∙ refused_grown kept fault refused.before refused.after refused.line refused.forest refused.stands
       (is_wrong (suc (length refused.before)) refused.forest refused.line refused.told refused.wrong))
 
   -- what is made of lines is the answer
-  pub Builds-answer : IsPreorder 0 [] entries → (lines : List Segment) (made : Result Forest SyntaxFault) → Builds definitions entries lines made → answer lines ≡ made
+  pub Builds-answer : IsPreorder 0 [] entries → (lines : List DataRecord) (made : Result Forest SyntaxFault) → Builds definitions entries lines made → answer lines ≡ made
   Builds-answer kept lines (Ok forest) builds =
       answered lines (Ok forest) (SpellsInOrder-grown kept lines forest (record { spells = builds.0; fits = (builds.1).fits }))
       ∙ ap (λ lack. missing_of lack forest) (enough-no_lack entries (families None forest) (builds.1).enough)
@@ -224,11 +224,11 @@ module _ (definitions : Definitions) (entries : List TypePlace) where
   Builds-answer kept lines (Err OutOfMemory) builds = absurd builds
 
   -- of lines one thing is made at most
-  pub one_answer_of : IsPreorder 0 [] entries → (lines : List Segment) (first second : Result Forest SyntaxFault) → Builds definitions entries lines first → Builds definitions entries lines second → first ≡ second
+  pub one_answer_of : IsPreorder 0 [] entries → (lines : List DataRecord) (first second : Result Forest SyntaxFault) → Builds definitions entries lines first → Builds definitions entries lines second → first ≡ second
   one_answer_of kept lines first second one other = sym (Builds-answer kept lines first one) ∙ Builds-answer kept lines second other
 
   -- a fault that a step answers is the first of all lines
-  pub refused_at : (fault : SyntaxFault) (lines before after : List Segment) (line : Segment) (forest : Forest) → lines ≡ before ++ line ∷ after → SpellsInOrder definitions entries before forest → grown definitions entries (suc (length before)) line forest ≡ Err fault → IsFirstFault definitions entries lines fault
+  pub refused_at : (fault : SyntaxFault) (lines before after : List DataRecord) (line : DataRecord) (forest : Forest) → lines ≡ before ++ line ∷ after → SpellsInOrder definitions entries before forest → grown definitions entries (suc (length before)) line forest ≡ Err fault → IsFirstFault definitions entries lines fault
   refused_at fault lines before after line forest split stands wrong =
       told_by fault (grown-Err definitions entries (suc (length before)) line forest fault wrong)
     where
@@ -240,16 +240,16 @@ module _ (definitions : Definitions) (entries : List TypePlace) where
       told_by OutOfMemory is = absurd is
 
   -- lines that stand with nothing missing are a valid forest
-  pub complete : (lines : List Segment) (forest : Forest) → SpellsInOrder definitions entries lines forest → first_lack entries (families None forest) ≡ None → Builds definitions entries lines (Ok forest)
+  pub complete : (lines : List DataRecord) (forest : Forest) → SpellsInOrder definitions entries lines forest → first_lack entries (families None forest) ≡ None → Builds definitions entries lines (Ok forest)
   complete lines forest stands lacks =
       (stands.spells, record { fits = stands.fits; enough = no_lack-enough entries (families None forest) lacks })
 
   -- a step goes on with lines that stand
-  pub grown_stands : IsDistinct nat_eq (map (λ entry. entry.segment) entries) → (lines : List Segment) (line : Segment) (forest after : Forest) (number : ℕ) → grown definitions entries number line forest ≡ Ok after → SpellsInOrder definitions entries lines forest → SpellsInOrder definitions entries (lines ++ line ∷ []) after
+  pub grown_stands : IsDistinct nat_eq (map (λ entry. entry.segment) entries) → (lines : List DataRecord) (line : DataRecord) (forest after : Forest) (number : ℕ) → grown definitions entries number line forest ≡ Ok after → SpellsInOrder definitions entries lines forest → SpellsInOrder definitions entries (lines ++ line ∷ []) after
   grown_stands apart lines line forest after number grew stands =
       Grows-stands definitions entries lines line forest after apart (grown-Ok definitions entries number line forest after grew) stands
 
-module _ (definitions : Definitions) (entries : List TypePlace) (lines : List Segment) (at : ℕ) (line : Segment) (forest : Forest) (within : at < length lines) (here : line ≡ get_or lines at line) (stands : SpellsInOrder definitions entries (take at lines) forest) where
+module _ (definitions : Definitions) (entries : List TypePlace) (lines : List DataRecord) (at : ℕ) (line : DataRecord) (forest : Forest) (within : at < length lines) (here : line ≡ get_or lines at line) (stands : SpellsInOrder definitions entries (take at lines) forest) where
   before_count : length (take at lines) ≡ at
   before_count = omega (arith, length-take-le at lines)
 
@@ -269,7 +269,7 @@ module _ (definitions : Definitions) (entries : List TypePlace) (lines : List Se
       (grown_stands definitions entries apart (take at lines) line forest after (at + 1) grew stands)
 
 -- lines that spell a forest in order, of which a family lacks a type
-pub missing_of_all : (definitions : Definitions) (entries : List TypePlace) (lines : List Segment) (forest : Forest) (segment place : ℕ) (type : SegmentType) (name : List ℕ) (told : ℕ) → SpellsInOrder definitions entries lines forest → first_lack entries (families None forest) ≡ Some (segment, place) → slice_get definitions.types segment ≡ Some type → name ≡ type.name → told ≡ told_length place → IsMissing definitions entries lines name told
+pub missing_of_all : (definitions : Definitions) (entries : List TypePlace) (lines : List DataRecord) (forest : Forest) (segment place : ℕ) (type : SegmentType) (name : List ℕ) (told : ℕ) → SpellsInOrder definitions entries lines forest → first_lack entries (families None forest) ≡ Some (segment, place) → slice_get definitions.types segment ≡ Some type → name ≡ type.name → told ≡ told_length place → IsMissing definitions entries lines name told
 missing_of_all definitions entries lines forest segment place type name told stands lacks type_at named is =
     let family = first_lack-first entries (families None forest) segment place lacks in
     let first = lack_among-first entries family.family entries segment family.lack in
@@ -292,16 +292,16 @@ missing_of_all definitions entries lines forest segment place type name told sta
     }
 
 -- when all lines are gone through, all of them spell the forest
-pub all_stand : (definitions : Definitions) (entries : List TypePlace) (lines : List Segment) (at : ℕ) (forest : Forest) → length lines ≤ at → SpellsInOrder definitions entries (take at lines) forest → SpellsInOrder definitions entries lines forest
+pub all_stand : (definitions : Definitions) (entries : List TypePlace) (lines : List DataRecord) (at : ℕ) (forest : Forest) → length lines ≤ at → SpellsInOrder definitions entries (take at lines) forest → SpellsInOrder definitions entries lines forest
 all_stand definitions entries lines at forest past stands = subst (λ some. SpellsInOrder definitions entries some forest) (take_all at lines past) stands
 
 module _ (definitions : Definitions) (entries : List TypePlace) (apart : IsDistinct nat_eq (map (λ entry. entry.segment) entries)) where
   -- what is to be shown of lines that are gone through up to a point
-  abbrev Rest : List Segment → Result Forest SyntaxFault → Type 0
+  abbrev Rest : List DataRecord → Result Forest SyntaxFault → Type 0
   Rest lines (Ok forest) = SpellsInOrder definitions entries lines forest
   Rest lines (Err fault) = IsFirstFault definitions entries lines fault
 
-  gone_on : (before : List Segment) (line : Segment) (lines : List Segment) (start : Forest) (next : Result Forest SyntaxFault) → SpellsInOrder definitions entries before start → grown definitions entries (suc (length before)) line start ≡ next → ((forest : Forest) → SpellsInOrder definitions entries (before ++ line ∷ []) forest → Rest ((before ++ line ∷ []) ++ lines) (grown_all definitions entries (suc (length (before ++ line ∷ []))) forest lines)) → Rest (before ++ line ∷ lines) (go_on next (λ forest. grown_all definitions entries (suc (suc (length before))) forest lines))
+  gone_on : (before : List DataRecord) (line : DataRecord) (lines : List DataRecord) (start : Forest) (next : Result Forest SyntaxFault) → SpellsInOrder definitions entries before start → grown definitions entries (suc (length before)) line start ≡ next → ((forest : Forest) → SpellsInOrder definitions entries (before ++ line ∷ []) forest → Rest ((before ++ line ∷ []) ++ lines) (grown_all definitions entries (suc (length (before ++ line ∷ []))) forest lines)) → Rest (before ++ line ∷ lines) (go_on next (λ forest. grown_all definitions entries (suc (suc (length before))) forest lines))
   gone_on before line lines start (Err fault) stands grew rest = refused_at definitions entries fault (before ++ line ∷ lines) before lines line start refl stands grew
   gone_on before line lines start (Ok forest) stands grew rest =
       let count : suc (length (before ++ line ∷ [])) ≡ suc (suc (length before)) = omega (arith, length-append before (line ∷ [])) in
@@ -309,12 +309,12 @@ module _ (definitions : Definitions) (entries : List TypePlace) (apart : IsDisti
       (subst (λ all. Rest all (grown_all definitions entries (suc (length (before ++ line ∷ []))) forest lines)) (append_assoc before (line ∷ []) lines)
       (rest forest (grown_stands definitions entries apart before line start forest (suc (length before)) grew stands)))
 
-  grown_rest : (lines before : List Segment) (start : Forest) → SpellsInOrder definitions entries before start → Rest (before ++ lines) (grown_all definitions entries (suc (length before)) start lines)
+  grown_rest : (lines before : List DataRecord) (start : Forest) → SpellsInOrder definitions entries before start → Rest (before ++ lines) (grown_all definitions entries (suc (length before)) start lines)
   grown_rest [] before start stands = subst (λ all. SpellsInOrder definitions entries all start) (sym (append-nil before)) stands
   grown_rest (line ∷ lines) before start stands =
       gone_on before line lines start (grown definitions entries (suc (length before)) line start) stands refl (λ forest more. grown_rest lines (before ++ line ∷ []) forest more)
 
-  answered_rest : (known : AllByRecursion (λ entry. entry.segment < length definitions.types) entries) (lines : List Segment) (made : Result Forest SyntaxFault) → Rest lines made → Builds definitions entries lines (go_on made (λ forest. missing_of definitions entries (first_lack entries (families None forest)) forest))
+  answered_rest : (known : AllByRecursion (λ entry. entry.segment < length definitions.types) entries) (lines : List DataRecord) (made : Result Forest SyntaxFault) → Rest lines made → Builds definitions entries lines (go_on made (λ forest. missing_of definitions entries (first_lack entries (families None forest)) forest))
   answered_rest known lines (Err fault) rest = rest
   answered_rest known lines (Ok forest) rest = judged (first_lack entries (families None forest)) refl
     where
@@ -325,5 +325,5 @@ module _ (definitions : Definitions) (entries : List TypePlace) (apart : IsDisti
           missing_of_all definitions entries lines forest lack.0 lack.1 there.0 (name_in (slice_get definitions.types lack.0)) (told_length lack.1) rest lacks there.1 (ap name_in there.1) refl
 
   -- the answer is what is made of lines, so something is
-  pub answer-Builds : AllByRecursion (λ entry. entry.segment < length definitions.types) entries → (lines : List Segment) → Builds definitions entries lines (answer definitions entries lines)
+  pub answer-Builds : AllByRecursion (λ entry. entry.segment < length definitions.types) entries → (lines : List DataRecord) → Builds definitions entries lines (answer definitions entries lines)
   answer-Builds known lines = answered_rest known lines (grown_all definitions entries 1 no_trees lines) (grown_rest lines [] no_trees (none-stands definitions entries))

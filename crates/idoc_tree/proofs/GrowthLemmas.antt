@@ -2,14 +2,14 @@
 use Rattle.std.proofs.lemmas.Bool.{eq-eqb, ne_eqb}
 use Rattle.std.specs.Prelude.{nat_le}
 use Rattle.std.proofs.Common.{◌≡◌, ℕ, ◌<◌, ◌⊎◌, Bool, true, false, cond, Option, Some, None, Result, Ok, Err, List, [], refl, ap, sym, subst, inl, inr, ◌∙◌, arith}
-use Rattle.idoc_record.specs.Data.{Segment}
+use Rattle.idoc_record.specs.Data.{DataRecord}
 use Rattle.segment_defs.specs.declared.definitions.Definitions.{Definitions}
 use Rattle.segment_defs.specs.declared.idoc_type.TypePlace.{TypePlace}
 use Rattle.segment_defs.specs.IdocType.{place_in, entry_of, type_above, parent_of, IsPreorder}
 use Rattle.segment_defs.proofs.IdocTypeLemmas.{above_before}
 use Rattle.idoc_tree.specs.declared.fault.SyntaxFault.{SyntaxFault}
 use Rattle.idoc_tree.specs.declared.fault.SyntaxFault.TheVariants.{Misplaced, TooMany}
-use Rattle.idoc_record.specs.Parts.{told_length}
+use Rattle.ale_base.specs.Text.{told_length}
 use Rattle.idoc_tree.specs.Forest.{Item, Forest, no_trees, tree, is_bare, leaf, joined, roots, count_of}
 use Rattle.idoc_tree.specs.Spells.{item_of, Hangs}
 use Rattle.idoc_tree.specs.Growing.{siblings, hung, has_later, grown_among, grown_at, grown_by, grown}
@@ -30,13 +30,13 @@ chosen true x y z same = inl (refl, same)
 chosen false x y z same = inr (refl, same)
 
 -- a record that makes the forest grow
-pub record Grows (definitions : Definitions) (entries : List TypePlace) (line : Segment) (forest grown : Forest) : Type 0 where
+pub record Grows (definitions : Definitions) (entries : List TypePlace) (line : DataRecord) (forest grown : Forest) : Type 0 where
   pub item : Item
   pub known : item_of definitions line ≡ Some item
   pub may : MayHang entries item forest
   pub is : grown ≡ hung (type_above entries may.entry) item forest
 
-module _ (definitions : Definitions) (entries : List TypePlace) (number : ℕ) (line : Segment) (forest : Forest) where
+module _ (definitions : Definitions) (entries : List TypePlace) (number : ℕ) (line : DataRecord) (forest : Forest) where
   grows_among : (after : Forest) (item : Item) (entry : TypePlace) (among : Option (List Item)) → item_of definitions line ≡ Some item → entry_of entries item.segment ≡ Some entry → siblings (type_above entries entry) forest ≡ among → grown_among entries number item entry forest among ≡ Ok after → Grows definitions entries line forest after
   grows_among after item entry None known entry_at siblings_are grew = cc
   grows_among after item entry (Some among) known entry_at siblings_are grew =

@@ -8,7 +8,7 @@ use Rattle.std.proofs.lemmas.Bool.Decides.{eqb_tells}
 use Rattle.std.proofs.lemmas.List.{length-take}
 use Rattle.ale_base.specs.Blanks.{before_trimmed, trimmed}
 use Rattle.ale_base.specs.TrimmedLemmas.{trimmed-trimmed, length-trimmed}
-use Rattle.idoc_record.specs.Data.{Segment, IsSegment, is_no_segment}
+use Rattle.idoc_record.specs.Data.{DataRecord, IsDataRecord, is_no_segment}
 use Rattle.segment_defs.specs.declared.version.Version.{Version}
 use Rattle.segment_defs.specs.declared.definitions.Definitions.{Definitions}
 use Rattle.segment_defs.specs.declared.idoc_type.TypePlace.{TypePlace}
@@ -61,19 +61,20 @@ fitted-short definition sdata =
     omega (arith, length-trimmed (take (width_of definition.fields) sdata), length-take (width_of definition.fields) sdata)
 
 -- the data record of a segment is one
-pub line-IsSegment : (definitions : Definitions) (item : Item) (segnam sdata : List ℕ) → AreDefinitions definitions → IsNode definitions item → segnam ≡ trimmed (name_of (version_of definitions item.segment item.version)) → sdata ≡ item.sdata → IsSegment (record { segnam = segnam; sdata = sdata })
-line-IsSegment definitions item segnam sdata kept node is same =
+pub line-IsDataRecord : (definitions : Definitions) (item : Item) (segnam sdata : List ℕ) → AreDefinitions definitions → IsNode definitions item → segnam ≡ trimmed (name_of (version_of definitions item.segment item.version)) → sdata ≡ item.sdata → IsDataRecord (record { segnam = segnam; sdata = sdata })
+line-IsDataRecord definitions item segnam sdata kept node is same =
     let version = version-IsVersion definitions item.segment item.version node.definition kept node.here in
     let name = node.definition.name in
     let own : segnam ≡ name = is ∙ ap (λ v. trimmed (name_of v)) node.here ∙ name-trimmed name (version.named.named.bytes) in
     record {
       named = subst (λ n. length n ≤ 30) (sym own) version.named.named.most;
       segnam = subst (λ n. IsTrue (not (is_no_segment n))) (sym own) (names_segment name version.named);
+      ends = ap trimmed own ∙ name-trimmed name version.named.named.bytes ∙ sym own;
       fits = subst (λ d. length d ≤ 1000) (sym same) node.short;
       sdata = subst (λ d. trimmed d ≡ d) (sym same) node.ends;
     }
 
-pub line-is : (definitions : Definitions) (item : Item) (segnam sdata : List ℕ) → AreDefinitions definitions → IsNode definitions item → segnam ≡ trimmed (name_of (version_of definitions item.segment item.version)) → sdata ≡ item.sdata → ◌≡◌ {A = Segment} (record { segnam = segnam; sdata = sdata }) (line_of definitions item)
+pub line-is : (definitions : Definitions) (item : Item) (segnam sdata : List ℕ) → AreDefinitions definitions → IsNode definitions item → segnam ≡ trimmed (name_of (version_of definitions item.segment item.version)) → sdata ≡ item.sdata → ◌≡◌ {A = DataRecord} (record { segnam = segnam; sdata = sdata }) (line_of definitions item)
 line-is definitions item segnam sdata kept node is same =
     let version = version-IsVersion definitions item.segment item.version node.definition kept node.here in
     let own : segnam ≡ name_of (version_of definitions item.segment item.version) = is ∙ ap (λ v. trimmed (name_of v)) node.here ∙ name-trimmed node.definition.name (version.named.named.bytes) ∙ ap name_of (sym node.here) in
@@ -116,13 +117,13 @@ module _ (definitions : Definitions) (kept : AreDefinitions definitions) where
       )
 
   -- what a record stands for is a segment of the definitions, with data that fit
-  pub item_of-IsNode : (line : Segment) (item : Item) → item_of definitions line ≡ Some item → IsNode definitions item × IsFitted definitions item
+  pub item_of-IsNode : (line : DataRecord) (item : Item) → item_of definitions line ≡ Some item → IsNode definitions item × IsFitted definitions item
   item_of-IsNode line item is =
       let found = option_map-Some (item_found definitions line.sdata) (found_in line.segnam definitions.types) item is in
       let there = found-exists definitions line.segnam (found.0).0 (found.0).1 kept found.1 in
       subst (λ i. IsNode definitions i × IsFitted definitions i) found.2 (found_node line.sdata found.0 there.0 there.1)
 
-  items_nodes : (lines : List Segment) (items : List Item) → map (item_of definitions) lines ≡ map Some items → AllByRecursion (λ item. IsNode definitions item × IsFitted definitions item) items
+  items_nodes : (lines : List DataRecord) (items : List Item) → map (item_of definitions) lines ≡ map Some items → AllByRecursion (λ item. IsNode definitions item × IsFitted definitions item) items
   items_nodes lines [] same = tt
   items_nodes [] (item ∷ items) same = cc
   items_nodes (line ∷ lines) (item ∷ items) same =
@@ -130,12 +131,12 @@ module _ (definitions : Definitions) (kept : AreDefinitions definitions) where
       let rest : map (item_of definitions) lines ≡ map Some items = cc in
       (item_of-IsNode line item first, items_nodes lines items rest)
 
-  spelled_nodes : (entries : List TypePlace) (lines : List Segment) (forest : Forest) → Spells definitions entries lines forest → AllNodes (λ item. IsNode definitions item × IsFitted definitions item) forest
+  spelled_nodes : (entries : List TypePlace) (lines : List DataRecord) (forest : Forest) → Spells definitions entries lines forest → AllNodes (λ item. IsNode definitions item × IsFitted definitions item) forest
   spelled_nodes entries lines forest spells = preorder-AllNodes _ forest (items_nodes lines (preorder forest) spells.segments)
 
   -- so are those of a forest that records spell
-  pub Spells-nodes : (entries : List TypePlace) (lines : List Segment) (forest : Forest) → Spells definitions entries lines forest → AllNodes (IsNode definitions) forest
+  pub Spells-nodes : (entries : List TypePlace) (lines : List DataRecord) (forest : Forest) → Spells definitions entries lines forest → AllNodes (IsNode definitions) forest
   Spells-nodes entries lines forest spells = AllNodes-weaker _ _ forest (λ item both. both.0) (spelled_nodes entries lines forest spells)
 
-  pub Spells-fitted : (entries : List TypePlace) (lines : List Segment) (forest : Forest) → Spells definitions entries lines forest → AllNodes (IsFitted definitions) forest
+  pub Spells-fitted : (entries : List TypePlace) (lines : List DataRecord) (forest : Forest) → Spells definitions entries lines forest → AllNodes (IsFitted definitions) forest
   Spells-fitted entries lines forest spells = AllNodes-weaker _ _ forest (λ item both. both.1) (spelled_nodes entries lines forest spells)

@@ -6,7 +6,7 @@ use Rattle.std.proofs.Common.{◌≡◌, ℕ, zero, suc, ◌≤◌, false, Optio
 use Rattle.std.proofs.lemmas.Option.{same_Some}
 use Rattle.std.proofs.lemmas.List.{map-append}
 use Rattle.ale_base.proofs.SnocLemmas.{Snoc, none, some, snoc, last-injective}
-use Rattle.idoc_record.specs.Data.{Segment}
+use Rattle.idoc_record.specs.Data.{DataRecord}
 use Rattle.segment_defs.specs.declared.definitions.Definitions.{Definitions}
 use Rattle.segment_defs.specs.declared.idoc_type.TypePlace.{TypePlace}
 use Rattle.segment_defs.specs.IdocType.{entry_of, type_above, parent_of, IsPreorder}
@@ -70,7 +70,7 @@ sibling_family P above forest among = hung-family (record { segment = 0; version
 
 module _ (definitions : Definitions) (entries : List TypePlace) where
   -- lines and one more, if that one's segment hangs right
-  pub Grows-spells : (lines : List Segment) (line : Segment) (forest grown : Forest) → Grows definitions entries line forest grown → Spells definitions entries lines forest → Spells definitions entries (lines ++ line ∷ []) grown
+  pub Grows-spells : (lines : List DataRecord) (line : DataRecord) (forest grown : Forest) → Grows definitions entries line forest grown → Spells definitions entries lines forest → Spells definitions entries (lines ++ line ∷ []) grown
   Grows-spells lines line forest grown grows spells =
       let may = grows.may in
       let item = grows.item in
@@ -90,7 +90,7 @@ module _ (definitions : Definitions) (entries : List TypePlace) where
   bare_fits : (item : Item) → Fits entries (none_in item)
   bare_fits item = record { ordered = tt; at_most = AllByRecursion-of (λ (entry : TypePlace). 0 ≤ entry.max) (λ entry. omega arith) entries }
 
-  pub Grows-stands : (lines : List Segment) (line : Segment) (forest grown : Forest) → IsDistinct nat_eq (map (λ entry. entry.segment) entries) → Grows definitions entries line forest grown → SpellsInOrder definitions entries lines forest → SpellsInOrder definitions entries (lines ++ line ∷ []) grown
+  pub Grows-stands : (lines : List DataRecord) (line : DataRecord) (forest grown : Forest) → IsDistinct nat_eq (map (λ entry. entry.segment) entries) → Grows definitions entries line forest grown → SpellsInOrder definitions entries lines forest → SpellsInOrder definitions entries (lines ++ line ∷ []) grown
   Grows-stands lines line forest grown apart grows stands =
       let may = grows.may in
       let item = grows.item in
@@ -104,7 +104,7 @@ module _ (definitions : Definitions) (entries : List TypePlace) where
       }
 
   -- the last segment of a forest, where it hangs, and the forest without it
-  pub record Ended (lines : List Segment) (line : Segment) (forest : Forest) : Type 0 where
+  pub record Ended (lines : List DataRecord) (line : DataRecord) (forest : Forest) : Type 0 where
     pub item : Item
     pub known : item_of definitions line ≡ Some item
     pub front : Forest
@@ -115,12 +115,12 @@ module _ (definitions : Definitions) (entries : List TypePlace) where
     pub siblings_are : siblings above front ≡ Some among
     pub is : forest ≡ hung above item front
 
-  not_bare : (lines : List Segment) (line : Segment) (forest : Forest) → map (item_of definitions) (lines ++ line ∷ []) ≡ map Some (preorder forest) → is_bare forest ≡ false
+  not_bare : (lines : List DataRecord) (line : DataRecord) (forest : Forest) → map (item_of definitions) (lines ++ line ∷ []) ≡ map Some (preorder forest) → is_bare forest ≡ false
   not_bare [] line no_trees same = cc
   not_bare (first ∷ lines) line no_trees same = cc
   not_bare lines line (tree r b a) same = refl
 
-  ended_by : (lines : List Segment) (line : Segment) (forest front : Forest) (item : Item) (above : Option ℕ) (among : List Item) → map (item_of definitions) (lines ++ line ∷ []) ≡ map Some (preorder forest) → Hangs entries None front → parent_of entries item.segment ≡ Some above → siblings above front ≡ Some among → forest ≡ hung above item front → Ended lines line forest
+  ended_by : (lines : List DataRecord) (line : DataRecord) (forest front : Forest) (item : Item) (above : Option ℕ) (among : List Item) → map (item_of definitions) (lines ++ line ∷ []) ≡ map Some (preorder forest) → Hangs entries None front → parent_of entries item.segment ≡ Some above → siblings above front ≡ Some among → forest ≡ hung above item front → Ended lines line forest
   ended_by lines line forest front item above among same hangs parent siblings_are is =
       let parts = last-injective (map (item_of definitions) lines) (map Some (preorder front)) (item_of definitions line) (Some item)
       (sym (map-append (item_of definitions) lines (line ∷ [])) ∙ same ∙ ap (λ f. map Some (preorder f)) is ∙ ap (map Some) (hung-preorder item front among above siblings_are) ∙ map-append Some (preorder front) (item ∷ [])) in
@@ -136,25 +136,25 @@ module _ (definitions : Definitions) (entries : List TypePlace) where
         is = is;
       }
 
-  ended_at : (lines : List Segment) (line : Segment) (front forest : Forest) (item : Item) → map (item_of definitions) (lines ++ line ∷ []) ≡ map Some (preorder forest) → Hangs entries None forest → EndsWith entries None item front forest → Ended lines line forest
+  ended_at : (lines : List DataRecord) (line : DataRecord) (front forest : Forest) (item : Item) → map (item_of definitions) (lines ++ line ∷ []) ≡ map Some (preorder forest) → Hangs entries None forest → EndsWith entries None item front forest → Ended lines line forest
   ended_at lines line front _ item same hangs (a_root _ parent) =
       ended_by lines line (joined front (leaf item)) front item None (roots front) same (Hangs-parts entries None front (leaf item) hangs).0 parent refl refl
   ended_at lines line front forest item same hangs (below _ _ segment among parent stands hung_there) =
       let computed = HangsBelow-open segment item front among forest hung_there in
       ended_by lines line forest front item (Some segment) among same (HangsBelow-hung entries segment item None front among forest hung_there hangs) parent computed.0 (sym computed.1)
 
-  pub Spells-last : IsPreorder 0 [] entries → (lines : List Segment) (line : Segment) (forest : Forest) → Spells definitions entries (lines ++ line ∷ []) forest → Ended lines line forest
+  pub Spells-last : IsPreorder 0 [] entries → (lines : List DataRecord) (line : DataRecord) (forest : Forest) → Spells definitions entries (lines ++ line ∷ []) forest → Ended lines line forest
   Spells-last preorder_kept lines line forest spells =
       let last = has_last entries preorder_kept None forest (not_bare lines line forest spells.segments) spells.hangs in
       ended_at lines line last.front forest last.item spells.segments spells.hangs last.ends
 
   -- the lines before the last one stand, and it makes their forest grow
-  pub record Stood (lines : List Segment) (line : Segment) (forest : Forest) : Type 0 where
+  pub record Stood (lines : List DataRecord) (line : DataRecord) (forest : Forest) : Type 0 where
     pub front : Forest
     pub stands : SpellsInOrder definitions entries lines front
     pub grows : Grows definitions entries line front forest
 
-  pub SpellsInOrder-last : IsPreorder 0 [] entries → (lines : List Segment) (line : Segment) (forest : Forest) → SpellsInOrder definitions entries (lines ++ line ∷ []) forest → Stood lines line forest
+  pub SpellsInOrder-last : IsPreorder 0 [] entries → (lines : List DataRecord) (line : DataRecord) (forest : Forest) → SpellsInOrder definitions entries (lines ++ line ∷ []) forest → Stood lines line forest
   SpellsInOrder-last preorder_kept lines line forest stands =
       let ended = Spells-last preorder_kept lines line forest stands.spells in
       let item = ended.item in
@@ -195,7 +195,7 @@ module _ (definitions : Definitions) (entries : List TypePlace) where
   }
 
   -- lines spell one forest at most
-  one_forest_of : IsPreorder 0 [] entries → (count : ℕ) (lines : List Segment) (first second : Forest) → length lines ≡ count → Snoc lines → Spells definitions entries lines first → Spells definitions entries lines second → first ≡ second
+  one_forest_of : IsPreorder 0 [] entries → (count : ℕ) (lines : List DataRecord) (first second : Forest) → length lines ≡ count → Snoc lines → Spells definitions entries lines first → Spells definitions entries lines second → first ≡ second
   one_forest_of kept count _ first second long none one other = Spells-none first one ∙ sym (Spells-none second other)
   one_forest_of kept zero _ first second long (some front line) one other = absurd (omega (arith, length-append front (line ∷ [])))
   one_forest_of kept (suc count) _ first second long (some front line) one other =
@@ -207,5 +207,5 @@ module _ (definitions : Definitions) (entries : List TypePlace) where
       let same_front : a.front ≡ b.front = one_forest_of kept count front a.front b.front shorter (snoc front) a.spells b.spells in
       a.is ∙ ap (λ above. hung above a.item a.front) same_above ∙ ap (λ i. hung b.above i a.front) same_item ∙ ap (hung b.above b.item) same_front ∙ sym b.is
 
-  pub one_forest : IsPreorder 0 [] entries → (lines : List Segment) (first second : Forest) → Spells definitions entries lines first → Spells definitions entries lines second → first ≡ second
+  pub one_forest : IsPreorder 0 [] entries → (lines : List DataRecord) (first second : Forest) → Spells definitions entries lines first → Spells definitions entries lines second → first ≡ second
   one_forest kept lines first second = one_forest_of kept (length lines) lines first second refl (snoc lines)

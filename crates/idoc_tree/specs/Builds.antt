@@ -1,8 +1,8 @@
 -- What is made of the data records of a document by its IDoc type: its forest, or the first fault.
 use Rattle.std.specs.Prelude.{◌≡◌, ℕ, suc, ◌≤◌, List, ◌∷◌, ◌++◌, length, take, slice_get, true, false, Option, Some, None, Result, Ok, Err}
 use Rattle.std.specs.List.{AllByRecursion}
-use Rattle.idoc_record.specs.Data.{Segment}
-use Rattle.idoc_record.specs.Parts.{told_length}
+use Rattle.idoc_record.specs.Data.{DataRecord}
+use Rattle.ale_base.specs.Text.{told_length}
 use Rattle.segment_defs.specs.declared.segment_type.SegmentType.{SegmentType}
 use Rattle.segment_defs.specs.declared.definitions.Definitions.{Definitions}
 use Rattle.segment_defs.specs.declared.idoc_type.TypePlace.{TypePlace}
@@ -15,7 +15,7 @@ use Rattle.idoc_tree.specs.Valid.{Family, families, Fits, Suffices, HasEnough, L
 use Rattle.idoc_tree.specs.Growing.{siblings, has_later}
 
 -- the lines spell the forest, and its families stand in order, with no type too often
-pub record SpellsInOrder (definitions : Definitions) (entries : List TypePlace) (lines : List Segment) (forest : Forest) : Type 0 where
+pub record SpellsInOrder (definitions : Definitions) (entries : List TypePlace) (lines : List DataRecord) (forest : Forest) : Type 0 where
   pub spells : Spells definitions entries lines forest
   pub fits : AllByRecursion (Fits entries) (families None forest)
 
@@ -45,21 +45,21 @@ pub record IsTooMany (entries : List TypePlace) (forest : Forest) (segment : ℕ
   pub full : entry.max ≤ count_of segment among
 
 -- the name of a record stands for nothing
-abbrev pub IsUnknown : Definitions → Forest → Segment → Type 0
+abbrev pub IsUnknown : Definitions → Forest → DataRecord → Type 0
 IsUnknown definitions forest line = item_of definitions line ≡ None
 
 -- the segment of a record is wrong behind the forest of the records before it
-pub record Faulty (definitions : Definitions) (IsWrong : Forest → ℕ → Type 0) (forest : Forest) (line : Segment) : Type 0 where
+pub record Faulty (definitions : Definitions) (IsWrong : Forest → ℕ → Type 0) (forest : Forest) (line : DataRecord) : Type 0 where
   pub item : Item
   pub known : item_of definitions line ≡ Some item
   pub wrong : IsWrong forest item.segment
 
 -- the records before this one spell a forest in order, and this one is wrong behind it
-pub record IsRefusedAt (definitions : Definitions) (entries : List TypePlace) (lines : List Segment) (number : ℕ)
-    (IsWrong : Forest → Segment → Type 0) : Type 0 where
-  pub before : List Segment
-  pub line : Segment
-  pub after : List Segment
+pub record IsRefusedAt (definitions : Definitions) (entries : List TypePlace) (lines : List DataRecord) (number : ℕ)
+    (IsWrong : Forest → DataRecord → Type 0) : Type 0 where
+  pub before : List DataRecord
+  pub line : DataRecord
+  pub after : List DataRecord
   pub split : lines ≡ before ++ line ∷ after
   pub told : number ≡ told_length (suc (length before))
   pub forest : Forest
@@ -68,7 +68,7 @@ pub record IsRefusedAt (definitions : Definitions) (entries : List TypePlace) (l
 
 -- All records spell a forest in order, but a family lacks a mandatory type: the first family that does, and the first
 -- type that it lacks. The number is that of the family's segment, and 0 for the document.
-pub record IsMissing (definitions : Definitions) (entries : List TypePlace) (lines : List Segment) (name : List ℕ)
+pub record IsMissing (definitions : Definitions) (entries : List TypePlace) (lines : List DataRecord) (name : List ℕ)
     (number : ℕ) : Type 0 where
   pub forest : Forest
   pub stands : SpellsInOrder definitions entries lines forest
@@ -87,7 +87,7 @@ pub record IsMissing (definitions : Definitions) (entries : List TypePlace) (lin
   pub told : number ≡ told_length place
 
 -- the first fault of the data records
-abbrev pub IsFirstFault : Definitions → List TypePlace → List Segment → SyntaxFault → Type 0
+abbrev pub IsFirstFault : Definitions → List TypePlace → List DataRecord → SyntaxFault → Type 0
 IsFirstFault definitions entries lines (UnknownSegment number) =
     IsRefusedAt definitions entries lines number (IsUnknown definitions)
 IsFirstFault definitions entries lines (Misplaced number) =
@@ -98,6 +98,6 @@ IsFirstFault definitions entries lines (Missing name number) = IsMissing definit
 IsFirstFault definitions entries lines OutOfMemory = ⊥
 
 -- what is made of the records: the forest that they spell, if it is valid, and else their first fault
-abbrev pub Builds : Definitions → List TypePlace → List Segment → Result Forest SyntaxFault → Type 0
+abbrev pub Builds : Definitions → List TypePlace → List DataRecord → Result Forest SyntaxFault → Type 0
 Builds definitions entries lines (Ok forest) = Spells definitions entries lines forest × IsValid entries forest
 Builds definitions entries lines (Err fault) = IsFirstFault definitions entries lines fault

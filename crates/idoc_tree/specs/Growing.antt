@@ -2,8 +2,8 @@
 -- below that one, and so on.
 use Rattle.std.specs.Prelude.{◌≡◌, ℕ, ◌==◌, ◌||◌, Bool, true, false, nat_lt, nat_le, List, [], ◌∷◌, Option, Some, None, Result, Ok, Err, if◌then◌else◌}
 use Rattle.std.specs.List.{AllByRecursion}
-use Rattle.idoc_record.specs.Data.{Segment}
-use Rattle.idoc_record.specs.Parts.{told_length}
+use Rattle.idoc_record.specs.Data.{DataRecord}
+use Rattle.ale_base.specs.Text.{told_length}
 use Rattle.segment_defs.specs.declared.definitions.Definitions.{Definitions}
 use Rattle.segment_defs.specs.declared.idoc_type.TypePlace.{TypePlace}
 use Rattle.segment_defs.specs.IdocType.{place_in, entry_of, type_above}
@@ -62,7 +62,7 @@ grown_by entries number forest None = Err (UnknownSegment (told_length number))
 grown_by entries number forest (Some item) = grown_at entries number item forest (entry_of entries item.segment)
 
 -- the forest with the segment of one record more, or the fault of that record
-abbrev pub grown : Definitions → List TypePlace → ℕ → Segment → Forest → Result Forest SyntaxFault
+abbrev pub grown : Definitions → List TypePlace → ℕ → DataRecord → Forest → Result Forest SyntaxFault
 grown definitions entries number line forest = grown_by entries number forest (item_of definitions line)
 
 -- the segments of a type stand behind all others

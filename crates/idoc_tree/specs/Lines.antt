@@ -1,7 +1,7 @@
 -- The data records of a forest.
 use Rattle.std.specs.Prelude.{◌≡◌, ℕ, ◌≤◌, List, [], length, map, Option, Some, None}
 use Rattle.ale_base.specs.Blanks.{trimmed}
-use Rattle.idoc_record.specs.Data.{Segment}
+use Rattle.idoc_record.specs.Data.{DataRecord}
 use Rattle.segment_defs.specs.declared.version.Version.{Version}
 use Rattle.segment_defs.specs.declared.definitions.Definitions.{Definitions}
 use Rattle.segment_defs.specs.Definitions.{version_of}
@@ -25,10 +25,10 @@ name_of None = []
 name_of (Some definition) = definition.name
 
 -- the data record of a segment, which has the name of its definition
-abbrev pub line_of : Definitions → Item → Segment
+abbrev pub line_of : Definitions → Item → DataRecord
 line_of definitions item =
     record { segnam = name_of (version_of definitions item.segment item.version); sdata = item.sdata }
 
 -- the data records of a forest
-abbrev pub lines_of : Definitions → Forest → List Segment
+abbrev pub lines_of : Definitions → Forest → List DataRecord
 lines_of definitions forest = map (line_of definitions) (preorder forest)

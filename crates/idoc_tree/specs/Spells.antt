@@ -1,7 +1,7 @@
 -- What the data records of a document spell: its segments, and how they hang together.
 use Rattle.std.specs.Prelude.{◌≡◌, ℕ, List, [], map, Option, Some, None}
 use Rattle.std.specs.Option.{option_map}
-use Rattle.idoc_record.specs.Data.{Segment}
+use Rattle.idoc_record.specs.Data.{DataRecord}
 use Rattle.segment_defs.specs.declared.version.Version.{Version}
 use Rattle.segment_defs.specs.declared.definitions.Definitions.{Definitions}
 use Rattle.segment_defs.specs.declared.idoc_type.TypePlace.{TypePlace}
@@ -22,7 +22,7 @@ item_found definitions sdata found =
 
 -- The segment that a data record stands for; none where its name stands for nothing. Among definitions that keep their
 -- rules, `found_in` gives what a name stands for.
-abbrev pub item_of : Definitions → Segment → Option Item
+abbrev pub item_of : Definitions → DataRecord → Option Item
 item_of definitions line = option_map (item_found definitions line.sdata) (found_in line.segnam definitions.types)
 
 -- Each segment's type stands in the IDoc type, and the type above it there is that of the segment above it here; none
@@ -33,7 +33,7 @@ Hangs entries above (tree root below after) =
     (parent_of entries root.segment ≡ Some above) × Hangs entries (Some root.segment) below × Hangs entries above after
 
 -- the lines are the preorder of the forest, which hangs together by the IDoc type
-pub record Spells (definitions : Definitions) (entries : List TypePlace) (lines : List Segment) (forest : Forest)
+pub record Spells (definitions : Definitions) (entries : List TypePlace) (lines : List DataRecord) (forest : Forest)
     : Type 0 where
   pub segments : map (item_of definitions) lines ≡ map Some (preorder forest)
   pub hangs : Hangs entries None forest

@@ -1,7 +1,7 @@
 ghost use Rattle.std.specs.Prelude.{◌≡◌, ◌≢◌, ◌≤◌, ℕ, true, false, List, Some, Ok, Err, IsSome, OnOk, IfOk, nat_le};
 ghost use Rattle.std.specs.Option.{option_map};
 ghost use Rattle.std.specs.List.{AllByRecursion};
-ghost use Rattle.idoc_record.specs.Parts.{told_length};
+ghost use Rattle.ale_base.specs.Text.{told_length};
 ghost use Rattle.segment_defs.specs.Definitions.{AreDefinitions, HasVersion};
 ghost use Rattle.segment_defs.specs.IdocType.{IsIdocType};
 ghost use Rattle.idoc_tree.specs.Forest.{no_trees, roots, count_of};

@@ -17,6 +17,3 @@ pub use building::build;
 pub use fault::SyntaxFault;
 pub use lines::flatten;
 pub use node::{Doc, Node};
-
-#[cfg(test)]
-mod tests;

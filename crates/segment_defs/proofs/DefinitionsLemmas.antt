@@ -1,7 +1,7 @@
 -- What a name stands for among segment types, and what is known of the definitions that it stands for.
 use Rattle.std.specs.Prelude.{slice_get, IsSome, Contains, ◌↔◌}
 use Rattle.std.specs.List.{AllByRecursion, AllPairs, IsDistinct, flat_map}
-use Rattle.std.specs.Option.{option_map}
+use Rattle.std.specs.Option.{option_map, option_map_or}
 use Rattle.std.specs.Cmp.Lexicographic.{bytes_decides}
 use Rattle.std.proofs.Common.{◌≡◌, ℕ, zero, suc, ◌+◌, ◌-◌, ◌<◌, ◌≤◌, ◌⊎◌, false, Option, Some, None, List, [], ◌∷◌, ◌++◌, length, length-append, map, take, inl, inr, refl, sym, ap, subst, ◌∙◌, arith}
 use Rattle.std.proofs.lemmas.Bool.{cases_Bool, cond-true, cond-false}
@@ -14,16 +14,16 @@ use Rattle.ale_base.specs.TrimmedLemmas.{trimmed-trimmed, length-trimmed}
 use Rattle.segment_defs.specs.declared.version.Version.{Version}
 use Rattle.segment_defs.specs.declared.segment_type.SegmentType.{SegmentType}
 use Rattle.segment_defs.specs.declared.definitions.Definitions.{Definitions}
-use Rattle.segment_defs.specs.Name.{same_name}
+use Rattle.ale_base.specs.Text.{is_text}
 use Rattle.segment_defs.specs.Version.{IsVersion, width_of, fitted}
 use Rattle.segment_defs.specs.SegmentType.{Continues, IsSegmentType}
-use Rattle.segment_defs.specs.Definitions.{AreDefinitions, StandsFor, names_of, versions_in, versions_of, version_of, version_named, named_in, first_found, found_in, HasVersion}
+use Rattle.segment_defs.specs.Definitions.{AreDefinitions, StandsFor, names_of, versions_of, version_of, version_named, named_in, first_found, found_in, HasVersion}
 use Rattle.ale_base.proofs.OptionLemmas.{option_map-Some, none_or_some}
 use Rattle.ale_base.proofs.ListLemmas.{AllByRecursion-at, IsDistinct-parts, Contains-at, slice_get-within}
 use Rattle.ale_base.proofs.MemberLemmas.{Contains-cons}
 
 -- of names that stand once, none is in the front and behind it
-pub not_in_both : (xs ys : List (List ℕ)) (name : List ℕ) → IsDistinct same_name (xs ++ ys) → Contains xs name → Contains ys name → ⊥
+pub not_in_both : (xs ys : List (List ℕ)) (name : List ℕ) → IsDistinct is_text (xs ++ ys) → Contains xs name → Contains ys name → ⊥
 not_in_both xs ys name apart front behind =
     let i = front.0 in
     let j = length xs + behind.0 in
@@ -44,25 +44,25 @@ version_named-name name [] place found = cc
 version_named-name name (version ∷ versions) place found =
     let P = λ (p : ℕ). (definition : Version) × (slice_get (version ∷ versions) p ≡ Some definition) × (definition.name ≡ name) in
     let rest = option_map suc (version_named name versions) in
-    elim (cases_Bool (same_name version.name name)) [
+    elim (cases_Bool (is_text version.name name)) [
       | inl same ↦
-          let first : 0 ≡ place = same_Some 0 place (sym (cond-true (same_name version.name name) (Some 0) rest same) ∙ found) in
+          let first : 0 ≡ place = same_Some 0 place (sym (cond-true (is_text version.name name) (Some 0) rest same) ∙ found) in
           subst P first (version, refl, (bytes_decides version.name name).0 same)
       | inr other ↦
-          let behind = option_map-Some suc (version_named name versions) place (sym (cond-false (same_name version.name name) (Some 0) rest other) ∙ found) in
+          let behind = option_map-Some suc (version_named name versions) place (sym (cond-false (is_text version.name name) (Some 0) rest other) ∙ found) in
           subst P behind.2 (version_named-name name versions behind.0 behind.1)
     ]
 
 -- what a name stands for in one segment type has it
 named_in-IsNamed : (name : List ℕ) (type : SegmentType) (version : ℕ) → 1 ≤ length type.versions → named_in name type ≡ Some version → (definition : Version) × IsNamed name type version definition
 named_in-IsNamed name type version some found =
-    elim (cases_Bool (same_name type.name name)) [
+    elim (cases_Bool (is_text type.name name)) [
       | inl same ↦
-          let last : length type.versions - 1 ≡ version = same_Some (length type.versions - 1) version (sym (cond-true (same_name type.name name) (Some (length type.versions - 1)) (version_named name type.versions) same) ∙ found) in
+          let last : length type.versions - 1 ≡ version = same_Some (length type.versions - 1) version (sym (cond-true (is_text type.name name) (Some (length type.versions - 1)) (version_named name type.versions) same) ∙ found) in
           let there = slice_get-within type.versions version (omega arith) in
           (there.0, (there.1, inr ((bytes_decides type.name name).0 same, omega arith)))
       | inr other ↦
-          let there = version_named-name name type.versions version (sym (cond-false (same_name type.name name) (Some (length type.versions - 1)) (version_named name type.versions) other) ∙ found) in
+          let there = version_named-name name type.versions version (sym (cond-false (is_text type.name name) (Some (length type.versions - 1)) (version_named name type.versions) other) ∙ found) in
           (there.0, (there.1, inl there.2))
     ]
 
@@ -72,31 +72,31 @@ name-at versions place definition here =
     slice_get-map (λ (version : Version). version.name) versions place ∙ ap (option_map (λ (version : Version). version.name)) here
 
 -- where no name stands twice, a definition is found by its name
-version_named-place : (versions : List Version) (place : ℕ) (definition : Version) → IsDistinct same_name (map (λ version. version.name) versions)
+version_named-place : (versions : List Version) (place : ℕ) (definition : Version) → IsDistinct is_text (map (λ version. version.name) versions)
     → slice_get versions place ≡ Some definition → version_named definition.name versions ≡ Some place
 unfolding IsDistinct
 version_named-place [] place definition apart here = cc
 version_named-place (version ∷ versions) zero definition apart here =
     let same : version.name ≡ definition.name = ap (λ v. v.name) (same_Some version definition here) in
-    cond-true (same_name version.name definition.name) (Some 0) (option_map suc (version_named definition.name versions)) ((bytes_decides version.name definition.name).1 same)
+    cond-true (is_text version.name definition.name) (Some 0) (option_map suc (version_named definition.name versions)) ((bytes_decides version.name definition.name).1 same)
 version_named-place (version ∷ versions) (suc place) definition apart here =
-    let other = AllByRecursion-at (λ name. same_name version.name name ≡ false) (map (λ v. v.name) versions) place definition.name apart.0 (name-at versions place definition here) in
-    cond-false (same_name version.name definition.name) (Some 0) (option_map suc (version_named definition.name versions)) other
+    let other = AllByRecursion-at (λ name. is_text version.name name ≡ false) (map (λ v. v.name) versions) place definition.name apart.0 (name-at versions place definition here) in
+    cond-false (is_text version.name definition.name) (Some 0) (option_map suc (version_named definition.name versions)) other
     ∙ ap (option_map suc) (version_named-place versions place definition apart.1 here)
 
 -- where no name stands twice, the definition that has a name is the one that is found in its type
-named_in-place : (name : List ℕ) (type : SegmentType) (version : ℕ) (definition : Version) → IsDistinct same_name (names_of type) → IsNamed name type version definition → named_in name type ≡ Some version
+named_in-place : (name : List ℕ) (type : SegmentType) (version : ℕ) (definition : Version) → IsDistinct is_text (names_of type) → IsNamed name type version definition → named_in name type ≡ Some version
 unfolding IsDistinct
 named_in-place name type version definition apart named =
     elim named.1 [
       | inl same ↦
-          let other = AllByRecursion-at (λ n. same_name type.name n ≡ false) (map (λ v. v.name) type.versions) version definition.name apart.0 (name-at type.versions version definition named.0) in
+          let other = AllByRecursion-at (λ n. is_text type.name n ≡ false) (map (λ v. v.name) type.versions) version definition.name apart.0 (name-at type.versions version definition named.0) in
           subst (λ n. named_in n type ≡ Some version) same
-          (cond-false (same_name type.name definition.name) (Some (length type.versions - 1)) (version_named definition.name type.versions) other
+          (cond-false (is_text type.name definition.name) (Some (length type.versions - 1)) (version_named definition.name type.versions) other
           ∙ version_named-place type.versions version definition apart.1 named.0)
       | inr newest ↦
           let last : length type.versions - 1 ≡ version = omega (arith, newest.1) in
-          cond-true (same_name type.name name) (Some (length type.versions - 1)) (version_named name type.versions) ((bytes_decides type.name name).1 newest.0) ∙ ap Some last
+          cond-true (is_text type.name name) (Some (length type.versions - 1)) (version_named name type.versions) ((bytes_decides type.name name).1 newest.0) ∙ ap Some last
     ]
 
 -- such a name is among those of the type
@@ -138,14 +138,14 @@ found_in-type name (type ∷ types) segment version found =
 
 -- where no name stands twice, the definition that has a name is the one that is found in all
 found_in-place : (name : List ℕ) (types : List SegmentType) (segment version : ℕ) (type : SegmentType) (definition : Version) → AllByRecursion IsSegmentType types
-    → IsDistinct same_name (flat_map names_of types) → slice_get types segment ≡ Some type → IsNamed name type version definition → found_in name types ≡ Some (segment, version)
+    → IsDistinct is_text (flat_map names_of types) → slice_get types segment ≡ Some type → IsNamed name type version definition → found_in name types ≡ Some (segment, version)
 found_in-place name [] segment version type definition each apart here named = cc
 found_in-place name (other ∷ types) zero version type definition each apart here named =
-    let own = (IsDistinct-parts same_name (names_of other) (flat_map names_of types) apart).0 in
+    let own = (IsDistinct-parts is_text (names_of other) (flat_map names_of types) apart).0 in
     let same : other ≡ type = same_Some other type here in
     ap (λ found. first_found found (found_in name types)) (named_in-place name other version definition own (subst (λ t. IsNamed name t version definition) (sym same) named))
 found_in-place name (other ∷ types) (suc segment) version type definition each apart here named =
-    let found = found_in-place name types segment version type definition each.1 (IsDistinct-parts same_name (names_of other) (flat_map names_of types) apart).2 here named in
+    let found = found_in-place name types segment version type definition each.1 (IsDistinct-parts is_text (names_of other) (flat_map names_of types) apart).2 here named in
     elim (none_or_some (named_in name other)) [
       | inl none ↦ ap (λ own. first_found own (found_in name types)) none ∙ ap (option_map (λ (f : ℕ × ℕ). (suc f.0, f.1))) found
       | inr twice ↦
@@ -233,21 +233,21 @@ none-found definitions name are = (
 )
 
 -- the definitions of a type that keeps its rules continue each other; where there is no type there are none
-versions_in-continued : (found : Option SegmentType) → ((type : SegmentType) → found ≡ Some type → IsSegmentType type) → AllPairs Continues (versions_in found)
-versions_in-continued None is = λ i j d less within. absurd (omega arith)
-versions_in-continued (Some type) is = (is type refl).continued
+versions_found-continued : (found : Option SegmentType) → ((type : SegmentType) → found ≡ Some type → IsSegmentType type) → AllPairs Continues (option_map_or (λ type. type.versions) found [])
+versions_found-continued None is = λ i j d less within. absurd (omega arith)
+versions_found-continued (Some type) is = (is type refl).continued
 
 -- the definitions of a segment type continue each other
 pub versions_of-continued : (definitions : Definitions) (segment : ℕ) → AreDefinitions definitions → AllPairs Continues (versions_of definitions segment)
 versions_of-continued definitions segment are =
-    versions_in-continued (slice_get definitions.types segment) (λ type here. AllByRecursion-at IsSegmentType definitions.types segment type are.each here)
+    versions_found-continued (slice_get definitions.types segment) (λ type here. AllByRecursion-at IsSegmentType definitions.types segment type are.each here)
 
 -- what is found by a name is a definition
 pub found-exists : (definitions : Definitions) (name : List ℕ) (segment version : ℕ) → AreDefinitions definitions
     → found_in name definitions.types ≡ Some (segment, version) → (definition : Version) × (version_of definitions segment version ≡ Some definition)
 found-exists definitions name segment version are found =
     let stands = StandsFor-found definitions name segment version are found in
-    (stands.definition, ap (λ type. slice_get (versions_in type) version) stands.type_at ∙ stands.definition_at)
+    (stands.definition, ap (λ type. slice_get (option_map_or (λ t. t.versions) type []) version) stands.type_at ∙ stands.definition_at)
 
 -- so it has a segment type and a place in it
 pub found-within : (definitions : Definitions) (name : List ℕ) (segment version : ℕ) → AreDefinitions definitions
@@ -264,23 +264,23 @@ found-HasVersion definitions name segment version are found =
     subst IsSome (sym there.1) refl
 
 -- a definition is one of a segment type
-versions_in-type : (found : Option SegmentType) (version : ℕ) (definition : Version) → slice_get (versions_in found) version ≡ Some definition
+versions_found-type : (found : Option SegmentType) (version : ℕ) (definition : Version) → slice_get (option_map_or (λ type. type.versions) found []) version ≡ Some definition
     → (type : SegmentType) × (found ≡ Some type) × (slice_get type.versions version ≡ Some definition)
-versions_in-type None version definition here = cc
-versions_in-type (Some type) version definition here = (type, refl, here)
+versions_found-type None version definition here = cc
+versions_found-type (Some type) version definition here = (type, refl, here)
 
 -- a definition is found by its name
 pub found-definition : (definitions : Definitions) (segment version : ℕ) (definition : Version) → AreDefinitions definitions
     → version_of definitions segment version ≡ Some definition → found_in definition.name definitions.types ≡ Some (segment, version)
 found-definition definitions segment version definition are here =
-    let there = versions_in-type (slice_get definitions.types segment) version definition here in
+    let there = versions_found-type (slice_get definitions.types segment) version definition here in
     found_in-place definition.name definitions.types segment version there.0 definition are.each are.apart there.1 (there.2, inl refl)
 
 -- each definition keeps the rules of one
 pub version-IsVersion : (definitions : Definitions) (segment version : ℕ) (definition : Version) → AreDefinitions definitions
     → version_of definitions segment version ≡ Some definition → IsVersion definition
 version-IsVersion definitions segment version definition are here =
-    let there = versions_in-type (slice_get definitions.types segment) version definition here in
+    let there = versions_found-type (slice_get definitions.types segment) version definition here in
     let is = AllByRecursion-at IsSegmentType definitions.types segment there.0 are.each there.1 in
     AllByRecursion-at IsVersion there.0.versions version definition is.each there.2
 

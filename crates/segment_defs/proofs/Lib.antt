@@ -1,6 +1,12 @@
+-- the width of a definition, by its last field
 pub mod WidthLemmas
-pub mod IdocTypeLemmas
+-- the newest definition that is not after a release
 pub mod NewestLemmas
+-- what a name stands for, and what is known of the definition that it stands for
 pub mod DefinitionsLemmas
+-- the entries of segment types and of their parents
+pub mod IdocTypeLemmas
+-- rules of a list that a loop decides
 pub mod RuleLemmas
+-- the entries above an entry, and a walk upwards over them
 pub mod TypeRuleLemmas

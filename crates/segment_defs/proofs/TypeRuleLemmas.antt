@@ -8,7 +8,7 @@ use Rattle.std.proofs.lemmas.List.{take_more, take-append-drop}
 use Rattle.std.proofs.lemmas.Option.{slice_get_read, slice_get_within, same_Some}
 use Rattle.segment_defs.specs.declared.idoc_type.TypePlace.{TypePlace}
 use Rattle.segment_defs.specs.IdocType.{upward_from, path_of, IsPreorder}
-use Rattle.segment_defs.specs.Path.{path_behind}
+use Rattle.segment_defs.specs.steps.Path.{path_behind}
 use Rattle.ale_base.proofs.ListLemmas.{slice_get-first, drop-first}
 use Rattle.ale_base.proofs.MemberLemmas.{Contains-cons, Contains-there}
 

@@ -1,11 +1,11 @@
 -- The segment types of a landscape, and what a name stands for among them.
 use Rattle.std.specs.Prelude.{◌≡◌, ℕ, suc, ◌-◌, ◌≤◌, ◌⊎◌, List, [], ◌∷◌, length, map, Option, Some, None, option_and_then, slice_get, IsSome, if◌then◌else◌}
 use Rattle.std.specs.List.{AllByRecursion, IsDistinct, flat_map}
-use Rattle.std.specs.Option.{option_map}
+use Rattle.std.specs.Option.{option_map, option_map_or}
 use Rattle.segment_defs.specs.declared.version.Version.{Version}
 use Rattle.segment_defs.specs.declared.segment_type.SegmentType.{SegmentType}
 use Rattle.segment_defs.specs.declared.definitions.Definitions.{Definitions}
-use Rattle.segment_defs.specs.Name.{same_name}
+use Rattle.ale_base.specs.Text.{is_text}
 use Rattle.segment_defs.specs.Version.{field_text}
 use Rattle.segment_defs.specs.SegmentType.{IsSegmentType}
 
@@ -17,15 +17,11 @@ names_of type = type.name ∷ map (λ version. version.name) type.versions
 pub record AreDefinitions (definitions : Definitions) : Type 0 where
   pub few : length definitions.types ≤ 1000
   pub each : AllByRecursion IsSegmentType definitions.types
-  pub apart : IsDistinct same_name (flat_map names_of definitions.types)
+  pub apart : IsDistinct is_text (flat_map names_of definitions.types)
 
 -- the definitions of a segment type, given its number; none where there is no such type
-abbrev pub versions_in : Option SegmentType → List Version
-versions_in None = []
-versions_in (Some type) = type.versions
-
 abbrev pub versions_of : Definitions → ℕ → List Version
-versions_of definitions segment = versions_in (slice_get definitions.types segment)
+versions_of definitions segment = option_map_or (λ type. type.versions) (slice_get definitions.types segment) []
 
 -- a definition, given its number and that of its segment type
 abbrev pub version_of : Definitions → ℕ → ℕ → Option Version
@@ -48,12 +44,12 @@ pub record StandsFor (definitions : Definitions) (name : List ℕ) (segment vers
 abbrev pub version_named : List ℕ → List Version → Option ℕ
 version_named name [] = None
 version_named name (version ∷ versions) =
-    if same_name version.name name then Some 0 else option_map suc (version_named name versions)
+    if is_text version.name name then Some 0 else option_map suc (version_named name versions)
 
 -- the place of the definition that a name stands for in one segment type: the last one for the type's own name
 abbrev pub named_in : List ℕ → SegmentType → Option ℕ
 named_in name type =
-    if same_name type.name name then Some (length type.versions - 1) else version_named name type.versions
+    if is_text type.name name then Some (length type.versions - 1) else version_named name type.versions
 
 -- a definition of the first segment type, or what is found among the others
 abbrev pub first_found : Option ℕ → Option (ℕ × ℕ) → Option (ℕ × ℕ)
@@ -68,4 +64,5 @@ found_in name (type ∷ types) = first_found (named_in name type) (found_in name
 -- the text of a field in the data of a segment; no bytes where this definition has no such field
 abbrev pub text_of : Definitions → ℕ → ℕ → ℕ → List ℕ → List ℕ
 text_of definitions segment version field sdata =
-    field_text (option_and_then (λ definition. slice_get definition.fields field) (version_of definitions segment version)) sdata
+    option_map_or (field_text sdata)
+    (option_and_then (λ definition. slice_get definition.fields field) (version_of definitions segment version)) []

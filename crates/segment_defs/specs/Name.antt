@@ -2,11 +2,6 @@
 use Rattle.std.specs.Prelude.{ℕ, ◌≤◌, ◌==◌, ◌||◌, Bool, not, List, length, IsTrue, nat_eq, codes}
 use Rattle.std.specs.Char.{is_ascii_alphanumeric}
 use Rattle.std.specs.List.{list_all, starts_with}
-use Rattle.std.specs.Cmp.Lexicographic.{pointwise}
-
--- the two names are the same
-abbrev pub same_name : List ℕ → List ℕ → Bool
-same_name name other = pointwise nat_eq name other
 
 -- a byte of a name: a letter, a digit, `_` or `/`
 abbrev pub is_name_byte : ℕ → Bool

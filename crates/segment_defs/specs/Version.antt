@@ -1,10 +1,11 @@
 -- A definition of a segment type: its fields, and what they are in the data of a segment.
-use Rattle.std.specs.Prelude.{◌≡◌, ℕ, ◌+◌, ◌≤◌, List, [], ◌∷◌, length, take, drop, map, Option, Some, None, sum_by}
+use Rattle.std.specs.Prelude.{◌≡◌, ℕ, ◌+◌, ◌≤◌, List, [], ◌∷◌, length, take, drop, map, sum_by}
 use Rattle.std.specs.List.{AllByRecursion, IsDistinct}
 use Rattle.ale_base.specs.Blanks.{trimmed}
 use Rattle.segment_defs.specs.declared.field.Field.{Field}
 use Rattle.segment_defs.specs.declared.version.Version.{Version}
-use Rattle.segment_defs.specs.Name.{same_name, IsName, IsSegmentName}
+use Rattle.ale_base.specs.Text.{is_text}
+use Rattle.segment_defs.specs.Name.{IsName, IsSegmentName}
 
 -- how many bytes the fields take together
 abbrev pub width_of : List Field → ℕ
@@ -25,7 +26,7 @@ pub record IsField (field : Field) : Type 0 where
 pub record AreFields (fields : List Field) : Type 0 where
   pub each : AllByRecursion IsField fields
   pub laid_out : AreLaidOut 0 fields
-  pub apart : IsDistinct same_name (map (λ field. field.name) fields)
+  pub apart : IsDistinct is_text (map (λ field. field.name) fields)
   pub few : length fields ≤ 200
   pub fits : width_of fields ≤ 1000
 
@@ -34,10 +35,9 @@ pub record IsVersion (version : Version) : Type 0 where
   pub named : IsSegmentName version.name
   pub fields : AreFields version.fields
 
--- the text of a field: its bytes in the data of a segment, without the blanks at their end; no bytes without a field
-abbrev pub field_text : Option Field → List ℕ → List ℕ
-field_text None sdata = []
-field_text (Some field) sdata = trimmed (take field.length (drop field.offset sdata))
+-- the text of a field: its bytes in the data of a segment, without the blanks at their end
+abbrev pub field_text : List ℕ → Field → List ℕ
+field_text sdata field = trimmed (take field.length (drop field.offset sdata))
 
 -- the data of a segment as a definition has it: cut at its width, without the blanks at the end
 abbrev pub fitted : Version → List ℕ → List ℕ

@@ -1,3 +1,5 @@
+//! All segment types of a landscape, and what names, releases and fields stand for among them.
+
 ghost use Rattle.std.specs.Prelude.{◌≡◌};
 ghost use Rattle.segment_defs.specs.Definitions.{HasVersion, text_of};
 
@@ -28,6 +30,7 @@ impl Definitions {
         ensures none { (result ≡ None) ↔ (Contains (flat_map names_of self.now.types) name.now → ⊥) }
     {
         for (place, segment) in self.types.iter().enumerate() {
+            // No name is in two types, so the first that has it is the only one.
             if let Some(version) = segment.named(name) {
                 return Some((TypeNo(place as u16), version));
             }
@@ -50,6 +53,7 @@ impl Definitions {
         let mut newest = None;
         for (place, version) in self.types[usize::from(number)].versions.iter().enumerate() {
             if version.release <= release {
+                // Releases ascend, so the last one not after it is the newest.
                 newest = Some(VersionNo(place as u8));
             }
         }

@@ -1,3 +1,5 @@
+//! IDoc types, and the entries of segment types in them.
+
 use crate::TypeNo;
 use ale_base::Items;
 

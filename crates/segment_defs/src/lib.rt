@@ -2,7 +2,7 @@
 //!
 //! Contract: what a name, a release or a field stands for is looked up exactly, in definitions and IDoc types that keep
 //! their rules, and `is_valid` tells whether the rules are kept. The definitions are in `specs/`: `Name`, `Version`,
-//! `SegmentType`, `Definitions`, `IdocType`, `Path`.
+//! `SegmentType`, `Definitions`, `IdocType`; those in `specs/steps/` serve private functions alone.
 #![tactic(auto)]
 
 mod definitions;
@@ -23,6 +23,3 @@ pub use segment_type::SegmentType;
 pub use type_no::TypeNo;
 pub use version::Version;
 pub use version_no::VersionNo;
-
-#[cfg(test)]
-mod tests;

@@ -1,6 +1,9 @@
+//! Whether names, fields, definitions and segment types keep their rules.
+
 ghost use Rattle.std.specs.Prelude.{◌≡◌, ◌≤◌, ◌↔◌, false, length, map, AllPairs, IsTrue};
 ghost use Rattle.std.specs.List.{AllByRecursion, IsDistinct};
-ghost use Rattle.segment_defs.specs.Name.{is_name_byte, same_name, IsName, IsSegmentName};
+ghost use Rattle.ale_base.specs.Text.{is_text};
+ghost use Rattle.segment_defs.specs.Name.{is_name_byte, IsName, IsSegmentName};
 ghost use Rattle.segment_defs.specs.Version.{width_of, AreLaidOut, IsField, AreFields, IsVersion};
 ghost use Rattle.segment_defs.specs.SegmentType.{Continues};
 
@@ -94,7 +97,7 @@ fn are_narrow(fields: &[Field]) -> bool
 
 /// Whether no two of the fields have one name.
 fn fields_differ(fields: &[Field]) -> bool
-    ensures { IsTrue result ↔ IsDistinct same_name (map (λ field. field.name) fields.now) }
+    ensures { IsTrue result ↔ IsDistinct is_text (map (λ field. field.name) fields.now) }
 {
     for (place, field) in fields.iter().enumerate() {
         if !is_no_field(&field.name, &fields[place + 1..]) {
@@ -107,7 +110,7 @@ fn fields_differ(fields: &[Field]) -> bool
 /// Whether none of the fields has this name.
 fn is_no_field(name: &Items<u8>, fields: &[Field]) -> bool
     ensures { IsTrue result
-        ↔ AllByRecursion (λ other. same_name name.now other ≡ false) (map (λ field. field.name) fields.now) }
+        ↔ AllByRecursion (λ other. is_text name.now other ≡ false) (map (λ field. field.name) fields.now) }
 {
     fields.iter().all(|field| *name != field.name)
 }

@@ -1,3 +1,5 @@
+//! A segment type, and what a name stands for in it.
+
 use crate::{Version, VersionNo};
 use ale_base::Items;
 

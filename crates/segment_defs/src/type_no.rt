@@ -1,3 +1,5 @@
+//! Numbers of segment types.
+
 use std::marker::Model;
 
 /// The number of a segment type: its place from 0 among the types of a landscape. Contracts see the number.

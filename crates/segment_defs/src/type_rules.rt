@@ -1,11 +1,13 @@
+//! Whether all segment types together, and IDoc types over them, keep their rules.
+
 ghost use Rattle.std.specs.Prelude.{◌≡◌, ◌≤◌, ◌↔◌, [], false, length, map, nat_eq, slice_get, IsTrue, Contains};
 ghost use Rattle.std.specs.List.{AllByRecursion, IsDistinct, flat_map};
 ghost use Rattle.std.specs.Option.{ForSome};
-ghost use Rattle.segment_defs.specs.Name.{same_name};
+ghost use Rattle.ale_base.specs.Text.{is_text};
 ghost use Rattle.segment_defs.specs.SegmentType.{IsSegmentType};
 ghost use Rattle.segment_defs.specs.Definitions.{names_of};
 ghost use Rattle.segment_defs.specs.IdocType.{path_of, upward_from, IsEntry, IsPreorder, IsRootEntry};
-ghost use Rattle.segment_defs.specs.Path.{path_behind};
+ghost use Rattle.segment_defs.specs.steps.Path.{path_behind};
 
 use crate::rules::is_name;
 use crate::{Definitions, IdocType, SegmentType, TypeNo, TypePlace, Version};
@@ -33,7 +35,7 @@ fn are_valid_types(types: &[SegmentType]) -> bool
 
 /// Whether no name occurs twice among the segment types and their definitions.
 fn types_differ(types: &[SegmentType]) -> bool
-    ensures { IsTrue result ↔ IsDistinct same_name (flat_map names_of types.now) }
+    ensures { IsTrue result ↔ IsDistinct is_text (flat_map names_of types.now) }
 {
     for (place, segment) in types.iter().enumerate() {
         if !are_its_own(segment, &types[place + 1..]) {
@@ -45,8 +47,8 @@ fn types_differ(types: &[SegmentType]) -> bool
 
 /// Whether the names of a segment type differ from each other, and from those of the others.
 fn are_its_own(segment: &SegmentType, others: &[SegmentType]) -> bool
-    ensures { IsTrue result ↔ (IsDistinct same_name (names_of segment.now)
-        × AllByRecursion (λ name. AllByRecursion (λ other. same_name name other ≡ false) (flat_map names_of others.now))
+    ensures { IsTrue result ↔ (IsDistinct is_text (names_of segment.now)
+        × AllByRecursion (λ name. AllByRecursion (λ other. is_text name other ≡ false) (flat_map names_of others.now))
         (names_of segment.now)) }
 {
     names_differ(segment) && is_apart(segment, others)
@@ -54,7 +56,7 @@ fn are_its_own(segment: &SegmentType, others: &[SegmentType]) -> bool
 
 /// Whether the names of a segment type differ from each other.
 fn names_differ(segment: &SegmentType) -> bool
-    ensures { IsTrue result ↔ IsDistinct same_name (names_of segment.now) }
+    ensures { IsTrue result ↔ IsDistinct is_text (names_of segment.now) }
 {
     let versions = segment.versions.as_slice();
     is_no_version(&segment.name, versions) && versions_differ(versions)
@@ -63,7 +65,7 @@ fn names_differ(segment: &SegmentType) -> bool
 /// Whether the names of a segment type differ from those of the others.
 fn is_apart(segment: &SegmentType, others: &[SegmentType]) -> bool
     ensures { IsTrue result
-        ↔ AllByRecursion (λ name. AllByRecursion (λ other. same_name name other ≡ false) (flat_map names_of others.now))
+        ↔ AllByRecursion (λ name. AllByRecursion (λ other. is_text name other ≡ false) (flat_map names_of others.now))
         (names_of segment.now) }
 {
     is_no_type(&segment.name, others) && are_no_types(segment.versions.as_slice(), others)
@@ -71,7 +73,7 @@ fn is_apart(segment: &SegmentType, others: &[SegmentType]) -> bool
 
 /// Whether no two of the definitions have one name.
 fn versions_differ(versions: &[Version]) -> bool
-    ensures { IsTrue result ↔ IsDistinct same_name (map (λ version. version.name) versions.now) }
+    ensures { IsTrue result ↔ IsDistinct is_text (map (λ version. version.name) versions.now) }
 {
     for (place, version) in versions.iter().enumerate() {
         if !is_no_version(&version.name, &versions[place + 1..]) {
@@ -84,7 +86,7 @@ fn versions_differ(versions: &[Version]) -> bool
 /// Whether none of the definitions has this name.
 fn is_no_version(name: &Items<u8>, versions: &[Version]) -> bool
     ensures { IsTrue result
-        ↔ AllByRecursion (λ other. same_name name.now other ≡ false) (map (λ version. version.name) versions.now) }
+        ↔ AllByRecursion (λ other. is_text name.now other ≡ false) (map (λ version. version.name) versions.now) }
 {
     versions.iter().all(|version| *name != version.name)
 }
@@ -92,7 +94,7 @@ fn is_no_version(name: &Items<u8>, versions: &[Version]) -> bool
 /// Whether none of the segment types and of their definitions has this name.
 fn is_no_type(name: &Items<u8>, types: &[SegmentType]) -> bool
     ensures { IsTrue result
-        ↔ AllByRecursion (λ other. same_name name.now other ≡ false) (flat_map names_of types.now) }
+        ↔ AllByRecursion (λ other. is_text name.now other ≡ false) (flat_map names_of types.now) }
 {
     types.iter().all(|segment| is_not_in(name, segment))
 }
@@ -100,7 +102,7 @@ fn is_no_type(name: &Items<u8>, types: &[SegmentType]) -> bool
 /// Whether neither the segment type nor one of its definitions has this name.
 fn is_not_in(name: &Items<u8>, segment: &SegmentType) -> bool
     ensures { IsTrue result
-        ↔ AllByRecursion (λ other. same_name name.now other ≡ false) (names_of segment.now) }
+        ↔ AllByRecursion (λ other. is_text name.now other ≡ false) (names_of segment.now) }
 {
     *name != segment.name && is_no_version(name, segment.versions.as_slice())
 }
@@ -108,7 +110,7 @@ fn is_not_in(name: &Items<u8>, segment: &SegmentType) -> bool
 /// Whether no definition has a name of one of the segment types and of their definitions.
 fn are_no_types(versions: &[Version], types: &[SegmentType]) -> bool
     ensures { IsTrue result
-        ↔ AllByRecursion (λ name. AllByRecursion (λ other. same_name name other ≡ false) (flat_map names_of types.now))
+        ↔ AllByRecursion (λ name. AllByRecursion (λ other. is_text name other ≡ false) (flat_map names_of types.now))
         (map (λ version. version.name) versions.now) }
 {
     versions

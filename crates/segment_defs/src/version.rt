@@ -1,3 +1,5 @@
+//! A definition of a segment type, and data as it has them.
+
 ghost use Rattle.std.specs.Prelude.{◌≡◌};
 
 use crate::Field;

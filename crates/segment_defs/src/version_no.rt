@@ -1,3 +1,5 @@
+//! Numbers of definitions.
+
 use std::marker::Model;
 
 /// The number of a definition: its place from 0 among those of its segment type, the oldest first. Contracts see the

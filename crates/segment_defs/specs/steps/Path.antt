@@ -1,4 +1,5 @@
--- The path of the last of some entries of an IDoc type, from it upwards.
+-- The path of the last of some entries of an IDoc type, from it upwards: the path before the next entry in `IsPreorder`
+-- of `IdocType`.
 use Rattle.std.specs.Prelude.{ℕ, suc, List, [], ◌∷◌}
 use Rattle.segment_defs.specs.declared.idoc_type.TypePlace.{TypePlace}
 use Rattle.segment_defs.specs.IdocType.{path_of}

@@ -14,10 +14,10 @@ read c =
     (subst (λ (t : _). length t ≤ 1063) is_text c.if-text-gt-LEN.false)
     (sym (ap is_no_segment c.trimmed.ensures.text) ∙ sym c.is_no_segment.ensures ∙ c.if-is_no_segment.false)
     (c.segnam_of-segnam.ensures ∙ ap (λ t. text_at segnam (padded 1063 t)) is_text)
-    (c.in_ok-sdata.ensures.ok ∙ c.sdata_of.ensures ∙ ap (λ t. text_at sdata (padded 1063 t)) is_text)
+    (c.in_ok-sdata.ensures ∙ c.sdata_of.ensures ∙ ap (λ t. text_at sdata (padded 1063 t)) is_text)
 
 pub invariant_of-result : goal.invariant_of-result
 invariant_of-result c = (read (goal.at.invariant_of-result c).In_ok-sdata).kept
 
 pub returns-clause-found : goal.returns-clause-found
-returns-clause-found c = λ segment same. subst (IsDataLine c.args.bytes.now) (Ok-injective _ segment same) (read (goal.at.returns-clause-found c).In_ok-sdata)
+returns-clause-found c = λ data_record same. subst (IsDataLine c.args.bytes.now) (Ok-injective _ data_record same) (read (goal.at.returns-clause-found c).In_ok-sdata)

@@ -8,7 +8,7 @@ use Rattle.idoc_tree.specs.Valid.{families}
 use Rattle.idoc_tree.specs.Lacking.{first_lack}
 use Rattle.idoc_tree.specs.Builds.{IsFirstFault, SpellsInOrder}
 use Rattle.ale_base.proofs.ListLemmas.{AllByRecursion-weaker}
-use Rattle.idoc_record.specs.Parts.{told_length}
+use Rattle.ale_base.specs.Text.{told_length}
 use Rattle.idoc_tree.specs.declared.fault.SyntaxFault.TheVariants.{Missing}
 use Rattle.idoc_tree.proofs.LackLemmas.{first_lack-known}
 use Rattle.idoc_tree.proofs.BuildsLemmas.{refused_turn, grown_turn, all_stand, missing_of_all, complete}

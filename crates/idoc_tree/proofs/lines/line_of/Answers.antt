@@ -5,7 +5,7 @@ use Rattle.idoc_tree.specs.declared.node.Node.TheViews.{out-Node}
 use Rattle.idoc_tree.specs.Nodes.{tree_of}
 use Rattle.idoc_tree.specs.Lines.{name_of}
 use Rattle.idoc_tree.proofs.NodeLemmas.{root_of, tree_of-out}
-use Rattle.idoc_tree.proofs.LineLemmas.{line-IsSegment, line-is}
+use Rattle.idoc_tree.proofs.LineLemmas.{line-IsDataRecord, line-is}
 use Rattle.idoc_tree.proofs.lines.line_of.Goals as goal
 use Rattle.idoc_tree.proofs.lines.line_of.Goals.{In_ok-copied-in-Some}
 
@@ -21,7 +21,7 @@ named c =
 pub invariant_of-result : goal.invariant_of-result
 invariant_of-result c =
     let own = (goal.at.invariant_of-result c).In_ok-copied-in-Some in
-    line-IsSegment c.args.definitions.now (tree_of c.args.node.now).root c.in-Some.segnam c.in_ok-copied-in-Some.field-0 c.requires.definitions c.requires.node (named own)
+    line-IsDataRecord c.args.definitions.now (tree_of c.args.node.now).root c.in-Some.segnam c.in_ok-copied-in-Some.field-0 c.requires.definitions c.requires.node (named own)
     (c.in_ok-copied-in-Some.ensures ∙ c.as_slice-in-Some.ensures ∙ ap (λ r. r.sdata) (sym (own_root own)))
 
 pub returns : goal.returns

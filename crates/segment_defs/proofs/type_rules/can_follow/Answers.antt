@@ -1,5 +1,5 @@
 use Rattle.std.proofs.Common.{◌≡◌, ◌≤◌, ◌↔◌, true, [], length, rules}
-use Rattle.segment_defs.specs.Path.{path_behind}
+use Rattle.segment_defs.specs.steps.Path.{path_behind}
 use Rattle.segment_defs.proofs.TypeRuleLemmas.{can_follow-decided}
 use Rattle.segment_defs.proofs.type_rules.can_follow.Goals as goal
 

@@ -1,7 +1,7 @@
 use Rattle.std.proofs.Common.{not, rules, tests, Bool}
 use Rattle.std.proofs.lemmas.Iterator.{YieldsList-from_slice}
 use Rattle.std.proofs.lemmas.Iterator.Search.{all_from_yields_List}
-use Rattle.segment_defs.specs.Name.{same_name}
+use Rattle.ale_base.specs.Text.{is_text}
 use Rattle.segment_defs.specs.declared.version.Version.{Version}
 use Rattle.ale_base.proofs.ListLemmas.{differs-decided}
 use Rattle.segment_defs.proofs.type_rules.is_no_version.Goals as goal
@@ -9,5 +9,5 @@ use Rattle.segment_defs.proofs.type_rules.is_no_version.Goals as goal
 pub returns : goal.returns
 returns c =
     let name = c.args.name.now in
-    let test : Version → Bool = λ version. not (same_name name version.name) in
-    differs-decided same_name (λ version. version.name) name c.args.versions.now c.all.result (all_from_yields_List test _ _ c.all.result c.all.ensures.ran (YieldsList-from_slice c.args.versions.now cc) (λ x b q k. search (rules, tests)))
+    let test : Version → Bool = λ version. not (is_text name version.name) in
+    differs-decided is_text (λ version. version.name) name c.args.versions.now c.all.result (all_from_yields_List test _ _ c.all.result c.all.ensures.ran (YieldsList-from_slice c.args.versions.now cc) (λ x b q k. search (rules, tests)))
