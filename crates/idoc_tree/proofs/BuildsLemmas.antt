@@ -16,13 +16,14 @@ use Rattle.segment_defs.specs.IdocType.{place_in, entry_of, type_above, parent_o
 use Rattle.ale_base.proofs.OptionLemmas.{option_map-Some}
 use Rattle.idoc_tree.specs.declared.fault.SyntaxFault.{SyntaxFault}
 use Rattle.idoc_tree.specs.declared.fault.SyntaxFault.TheVariants.{UnknownSegment, Misplaced, TooMany, Missing, OutOfMemory}
-use Rattle.idoc_tree.specs.Forest.{Item, Forest, no_trees, count_of}
-use Rattle.idoc_tree.specs.Spells.{item_of}
+use Rattle.idoc_tree.specs.Forest.{Segment, Forest, no_trees, count_of}
+use Rattle.idoc_tree.specs.Spells.{segment_of}
 use Rattle.idoc_tree.specs.Valid.{families}
-use Rattle.idoc_tree.specs.Lacking.{first_lack}
-use Rattle.idoc_tree.specs.Growing.{siblings, hung, has_later, grown_among, grown_at, grown_by, grown}
+use Rattle.idoc_tree.specs.steps.Lacking.{first_lack}
+use Rattle.idoc_tree.specs.Siblings.{siblings, has_later}
+use Rattle.idoc_tree.specs.steps.Growing.{hung, grown_among, grown_at, grown_by, grown}
 use Rattle.idoc_tree.specs.Builds.{SpellsInOrder, IsMisplaced, foreign, closed, late, IsTooMany, IsUnknown, Faulty, IsRefusedAt, IsMissing, IsFirstFault, Builds}
-use Rattle.idoc_tree.proofs.GrowthLemmas.{chosen, grown-Ok, grown-Grows}
+use Rattle.idoc_tree.proofs.MayHangLemmas.{chosen, grown-Ok, grown-Grows}
 use Rattle.idoc_tree.proofs.LackLemmas.{no_lack-enough, enough-no_lack, lack_among-first, lack_among-at, first_lack-first, first_lack-at, first_lack-known}
 use Rattle.ale_base.proofs.ListLemmas.{slice_get-within}
 use Rattle.idoc_tree.proofs.SpellsLemmas.{Grows-stands, SpellsInOrder-last, Spells-none, none-stands}
@@ -42,32 +43,32 @@ module _ (definitions : Definitions) (entries : List TypePlace) (number : ℕ) (
   same_fault : (fault other : SyntaxFault) → ◌≡◌ {A = Result Forest SyntaxFault} (Err fault) (Err other) → Wrong fault → Wrong other
   same_fault fault other same wrong = let is : fault ≡ other = cc in subst Wrong is wrong
 
-  above_known : (segment : ℕ) (entry : TypePlace) → entry_of entries segment ≡ Some entry → parent_of entries segment ≡ Some (type_above entries entry)
-  above_known segment entry entry_at = ap (option_map (type_above entries)) entry_at
+  above_known : (type : ℕ) (entry : TypePlace) → entry_of entries type ≡ Some entry → parent_of entries type ≡ Some (type_above entries entry)
+  above_known type entry entry_at = ap (option_map (type_above entries)) entry_at
 
-  wrong_among : (fault : SyntaxFault) (item : Item) (entry : TypePlace) (among : Option (List Item)) → item_of definitions line ≡ Some item → entry_of entries item.segment ≡ Some entry → siblings (type_above entries entry) forest ≡ among → grown_among entries number item entry forest among ≡ Err fault → Wrong fault
-  wrong_among fault item entry None known entry_at siblings_are wrong =
-      same_fault (Misplaced (told_length number)) fault wrong (refl, record { item = item; known = known; wrong = closed (type_above entries entry) (above_known item.segment entry entry_at) siblings_are })
-  wrong_among fault item entry (Some among) known entry_at siblings_are wrong =
-      elim (chosen (has_later entries (place_in entries item.segment) among) _ _ _ wrong) [
+  wrong_among : (fault : SyntaxFault) (segment : Segment) (entry : TypePlace) (among : Option (List Segment)) → segment_of definitions line ≡ Some segment → entry_of entries segment.type ≡ Some entry → siblings (type_above entries entry) forest ≡ among → grown_among entries number segment entry forest among ≡ Err fault → Wrong fault
+  wrong_among fault segment entry None known entry_at siblings_are wrong =
+      same_fault (Misplaced (told_length number)) fault wrong (refl, record { segment = segment; known = known; wrong = closed (type_above entries entry) (above_known segment.type entry entry_at) siblings_are })
+  wrong_among fault segment entry (Some among) known entry_at siblings_are wrong =
+      elim (chosen (has_later entries (place_in entries segment.type) among) _ _ _ wrong) [
         | inl too_late ↦ same_fault (Misplaced (told_length number)) fault too_late.1
-            (refl, record { item = item; known = known; wrong = late (type_above entries entry) among (above_known item.segment entry entry_at) siblings_are too_late.0 })
+            (refl, record { segment = segment; known = known; wrong = late (type_above entries entry) among (above_known segment.type entry entry_at) siblings_are too_late.0 })
         | inr early ↦
-            elim (chosen (nat_le entry.max (count_of item.segment among)) _ _ _ early.1) [
+            elim (chosen (nat_le entry.max (count_of segment.type among)) _ _ _ early.1) [
               | inl full ↦ same_fault (TooMany (told_length number)) fault full.1 (
                 refl,
                 record {
-                  item = item;
+                  segment = segment;
                   known = known;
                   wrong = record {
                     entry = entry;
                     entry_at = entry_at;
                     above = type_above entries entry;
-                    parent = above_known item.segment entry entry_at;
+                    parent = above_known segment.type entry entry_at;
                     among = among;
                     siblings_are = siblings_are;
                     in_time = early.0;
-                    full = leb-true entry.max (count_of item.segment among) full.0;
+                    full = leb-true entry.max (count_of segment.type among) full.0;
                   };
                 },
               )
@@ -75,63 +76,63 @@ module _ (definitions : Definitions) (entries : List TypePlace) (number : ℕ) (
             ]
       ]
 
-  no_parent : (segment : ℕ) → entry_of entries segment ≡ None → parent_of entries segment ≡ None
-  no_parent segment absent = ap (option_map (type_above entries)) absent
+  no_parent : (type : ℕ) → entry_of entries type ≡ None → parent_of entries type ≡ None
+  no_parent type absent = ap (option_map (type_above entries)) absent
 
-  wrong_at : (fault : SyntaxFault) (item : Item) (entry : Option TypePlace) → item_of definitions line ≡ Some item → entry_of entries item.segment ≡ entry → grown_at entries number item forest entry ≡ Err fault → Wrong fault
-  wrong_at fault item None known entry_at wrong =
-      same_fault (Misplaced (told_length number)) fault wrong (refl, record { item = item; known = known; wrong = foreign (no_parent item.segment entry_at) })
-  wrong_at fault item (Some entry) known entry_at wrong =
-      wrong_among fault item entry (siblings (type_above entries entry) forest) known entry_at refl wrong
+  wrong_at : (fault : SyntaxFault) (segment : Segment) (entry : Option TypePlace) → segment_of definitions line ≡ Some segment → entry_of entries segment.type ≡ entry → grown_at entries number segment forest entry ≡ Err fault → Wrong fault
+  wrong_at fault segment None known entry_at wrong =
+      same_fault (Misplaced (told_length number)) fault wrong (refl, record { segment = segment; known = known; wrong = foreign (no_parent segment.type entry_at) })
+  wrong_at fault segment (Some entry) known entry_at wrong =
+      wrong_among fault segment entry (siblings (type_above entries entry) forest) known entry_at refl wrong
 
-  wrong_by : (fault : SyntaxFault) (item : Option Item) → item_of definitions line ≡ item → grown_by entries number forest item ≡ Err fault → Wrong fault
+  wrong_by : (fault : SyntaxFault) (segment : Option Segment) → segment_of definitions line ≡ segment → grown_by entries number forest segment ≡ Err fault → Wrong fault
   wrong_by fault None known wrong = same_fault (UnknownSegment (told_length number)) fault wrong (refl, known)
-  wrong_by fault (Some item) known wrong = wrong_at fault item (entry_of entries item.segment) known refl wrong
+  wrong_by fault (Some segment) known wrong = wrong_at fault segment (entry_of entries segment.type) known refl wrong
 
   -- a fault that a step answers is there
   pub grown-Err : (fault : SyntaxFault) → grown definitions entries number line forest ≡ Err fault → Wrong fault
-  grown-Err fault wrong = wrong_by fault (item_of definitions line) refl wrong
+  grown-Err fault wrong = wrong_by fault (segment_of definitions line) refl wrong
 
-  absent_entry : (segment : ℕ) (entry : Option TypePlace) → entry_of entries segment ≡ entry → parent_of entries segment ≡ None → entry_of entries segment ≡ None
-  absent_entry segment None is none_above = is
-  absent_entry segment (Some entry) is none_above = let there = above_known segment entry is in cc
+  absent_entry : (type : ℕ) (entry : Option TypePlace) → entry_of entries type ≡ entry → parent_of entries type ≡ None → entry_of entries type ≡ None
+  absent_entry type None is none_above = is
+  absent_entry type (Some entry) is none_above = let there = above_known type entry is in cc
 
-  by_entry : (item : Item) (entry : TypePlace) → item_of definitions line ≡ Some item → entry_of entries item.segment ≡ Some entry → grown definitions entries number line forest ≡ grown_among entries number item entry forest (siblings (type_above entries entry) forest)
-  by_entry item entry known entry_at = ap (grown_by entries number forest) known ∙ ap (grown_at entries number item forest) entry_at
+  by_entry : (segment : Segment) (entry : TypePlace) → segment_of definitions line ≡ Some segment → entry_of entries segment.type ≡ Some entry → grown definitions entries number line forest ≡ grown_among entries number segment entry forest (siblings (type_above entries entry) forest)
+  by_entry segment entry known entry_at = ap (grown_by entries number forest) known ∙ ap (grown_at entries number segment forest) entry_at
 
-  grown-misplaced : (item : Item) → item_of definitions line ≡ Some item → IsMisplaced entries forest item.segment → grown definitions entries number line forest ≡ Err (Misplaced (told_length number))
-  grown-misplaced item known (foreign none_above) =
-      ap (grown_by entries number forest) known ∙ ap (grown_at entries number item forest) (absent_entry item.segment (entry_of entries item.segment) refl none_above)
-  grown-misplaced item known (closed above parent siblings_are) =
-      let entry = option_map-Some (type_above entries) (entry_of entries item.segment) above parent in
-      by_entry item entry.0 known entry.1 ∙ ap (λ a. grown_among entries number item entry.0 forest (siblings a forest)) entry.2
-      ∙ ap (grown_among entries number item entry.0 forest) siblings_are
-  grown-misplaced item known (late above among parent siblings_are is_late) =
-      let entry = option_map-Some (type_above entries) (entry_of entries item.segment) above parent in
+  grown-misplaced : (segment : Segment) → segment_of definitions line ≡ Some segment → IsMisplaced entries forest segment.type → grown definitions entries number line forest ≡ Err (Misplaced (told_length number))
+  grown-misplaced segment known (foreign none_above) =
+      ap (grown_by entries number forest) known ∙ ap (grown_at entries number segment forest) (absent_entry segment.type (entry_of entries segment.type) refl none_above)
+  grown-misplaced segment known (closed above parent siblings_are) =
+      let entry = option_map-Some (type_above entries) (entry_of entries segment.type) above parent in
+      by_entry segment entry.0 known entry.1 ∙ ap (λ a. grown_among entries number segment entry.0 forest (siblings a forest)) entry.2
+      ∙ ap (grown_among entries number segment entry.0 forest) siblings_are
+  grown-misplaced segment known (late above among parent siblings_are is_late) =
+      let entry = option_map-Some (type_above entries) (entry_of entries segment.type) above parent in
       let too_late : Result Forest SyntaxFault = Err (Misplaced (told_length number)) in
       let full : Result Forest SyntaxFault = Err (TooMany (told_length number)) in
-      let more : Result Forest SyntaxFault = Ok (hung (type_above entries entry.0) item forest) in
-      by_entry item entry.0 known entry.1 ∙ ap (λ a. grown_among entries number item entry.0 forest (siblings a forest)) entry.2
-      ∙ ap (grown_among entries number item entry.0 forest) siblings_are
-      ∙ ap (λ b. cond b too_late (cond (nat_le (entry.0).max (count_of item.segment among)) full more)) is_late
+      let more : Result Forest SyntaxFault = Ok (hung (type_above entries entry.0) segment forest) in
+      by_entry segment entry.0 known entry.1 ∙ ap (λ a. grown_among entries number segment entry.0 forest (siblings a forest)) entry.2
+      ∙ ap (grown_among entries number segment entry.0 forest) siblings_are
+      ∙ ap (λ b. cond b too_late (cond (nat_le (entry.0).max (count_of segment.type among)) full more)) is_late
 
-  grown-too_many : (item : Item) → item_of definitions line ≡ Some item → IsTooMany entries forest item.segment → grown definitions entries number line forest ≡ Err (TooMany (told_length number))
-  grown-too_many item known many =
+  grown-too_many : (segment : Segment) → segment_of definitions line ≡ Some segment → IsTooMany entries forest segment.type → grown definitions entries number line forest ≡ Err (TooMany (told_length number))
+  grown-too_many segment known many =
       let entry = many.entry in
-      let same : type_above entries entry ≡ many.above = same_Some (type_above entries entry) many.above (sym (above_known item.segment entry many.entry_at) ∙ many.parent) in
+      let same : type_above entries entry ≡ many.above = same_Some (type_above entries entry) many.above (sym (above_known segment.type entry many.entry_at) ∙ many.parent) in
       let too_late : Result Forest SyntaxFault = Err (Misplaced (told_length number)) in
       let full : Result Forest SyntaxFault = Err (TooMany (told_length number)) in
-      let more : Result Forest SyntaxFault = Ok (hung (type_above entries entry) item forest) in
-      by_entry item entry known many.entry_at ∙ ap (λ a. grown_among entries number item entry forest (siblings a forest)) same
-      ∙ ap (grown_among entries number item entry forest) many.siblings_are
-      ∙ ap (λ b. cond b too_late (cond (nat_le entry.max (count_of item.segment many.among)) full more)) many.in_time
-      ∙ ap (λ b. cond b full more) (le-leb entry.max (count_of item.segment many.among) many.full)
+      let more : Result Forest SyntaxFault = Ok (hung (type_above entries entry) segment forest) in
+      by_entry segment entry known many.entry_at ∙ ap (λ a. grown_among entries number segment entry forest (siblings a forest)) same
+      ∙ ap (grown_among entries number segment entry forest) many.siblings_are
+      ∙ ap (λ b. cond b too_late (cond (nat_le entry.max (count_of segment.type many.among)) full more)) many.in_time
+      ∙ ap (λ b. cond b full more) (le-leb entry.max (count_of segment.type many.among) many.full)
 
   -- and a step answers the fault that is there
   pub grown-wrong : (fault : SyntaxFault) → Wrong fault → grown definitions entries number line forest ≡ Err fault
   grown-wrong (UnknownSegment told) wrong = ap (grown_by entries number forest) wrong.1 ∙ ap (λ n. Err (UnknownSegment n)) (sym wrong.0)
-  grown-wrong (Misplaced told) wrong = grown-misplaced (wrong.1).item (wrong.1).known (wrong.1).wrong ∙ ap (λ n. Err (Misplaced n)) (sym wrong.0)
-  grown-wrong (TooMany told) wrong = grown-too_many (wrong.1).item (wrong.1).known (wrong.1).wrong ∙ ap (λ n. Err (TooMany n)) (sym wrong.0)
+  grown-wrong (Misplaced told) wrong = grown-misplaced (wrong.1).segment (wrong.1).known (wrong.1).wrong ∙ ap (λ n. Err (Misplaced n)) (sym wrong.0)
+  grown-wrong (TooMany told) wrong = grown-too_many (wrong.1).segment (wrong.1).known (wrong.1).wrong ∙ ap (λ n. Err (TooMany n)) (sym wrong.0)
   grown-wrong (Missing name told) wrong = absurd wrong
   grown-wrong OutOfMemory wrong = absurd wrong
 
@@ -184,6 +185,7 @@ module _ (definitions : Definitions) (entries : List TypePlace) where
       grown_all-append 1 no_trees front (line ∷ []) stood.front (stands_grown kept count front stood.front shorter (snoc front) stood.stands)
       ∙ ap (λ first. go_on first (λ next. grown_all (suc (1 + length front)) next [])) (grown-Grows definitions entries (1 + length front) line stood.front forest stood.grows)
 
+  -- the records and one more spell a forest in order where the forest grows by it
   pub SpellsInOrder-grown : IsPreorder 0 [] entries → (lines : List DataRecord) (forest : Forest) → SpellsInOrder definitions entries lines forest → grown_all 1 no_trees lines ≡ Ok forest
   SpellsInOrder-grown kept lines forest = stands_grown kept (length lines) lines forest refl (snoc lines)
 
@@ -263,16 +265,17 @@ module _ (definitions : Definitions) (entries : List TypePlace) (lines : List Da
       refused_at definitions entries fault lines (take at lines) (drop (suc at) lines) line forest at_line stands
       (sym (ap (λ n. grown definitions entries n line forest) number) ∙ wrong)
 
+  -- where the next record makes the forest grow, the records up to it spell a forest in order
   pub grown_turn : IsDistinct nat_eq (map (λ entry. entry.segment) entries) → (after : Forest) → grown definitions entries (at + 1) line forest ≡ Ok after → SpellsInOrder definitions entries (take (at + 1) lines) after
   grown_turn apart after grew =
       subst (λ some. SpellsInOrder definitions entries some after) (sym (take_more lines at line within ∙ ap (λ l. take at lines ++ l ∷ []) (sym here)))
       (grown_stands definitions entries apart (take at lines) line forest after (at + 1) grew stands)
 
 -- lines that spell a forest in order, of which a family lacks a type
-pub missing_of_all : (definitions : Definitions) (entries : List TypePlace) (lines : List DataRecord) (forest : Forest) (segment place : ℕ) (type : SegmentType) (name : List ℕ) (told : ℕ) → SpellsInOrder definitions entries lines forest → first_lack entries (families None forest) ≡ Some (segment, place) → slice_get definitions.types segment ≡ Some type → name ≡ type.name → told ≡ told_length place → IsMissing definitions entries lines name told
-missing_of_all definitions entries lines forest segment place type name told stands lacks type_at named is =
-    let family = first_lack-first entries (families None forest) segment place lacks in
-    let first = lack_among-first entries family.family entries segment family.lack in
+pub missing_of_all : (definitions : Definitions) (entries : List TypePlace) (lines : List DataRecord) (forest : Forest) (type place : ℕ) (segment_type : SegmentType) (name : List ℕ) (told : ℕ) → SpellsInOrder definitions entries lines forest → first_lack entries (families None forest) ≡ Some (type, place) → slice_get definitions.types type ≡ Some segment_type → name ≡ segment_type.name → told ≡ told_length place → IsMissing definitions entries lines name told
+missing_of_all definitions entries lines forest type place segment_type name told stands lacks type_at named is =
+    let family = first_lack-first entries (families None forest) type place lacks in
+    let first = lack_among-first entries family.family entries type family.lack in
     record {
       forest = forest;
       stands = stands;
@@ -285,7 +288,7 @@ missing_of_all definitions entries lines forest segment place type name told sta
       entry_at = first.entry_at;
       lacks = first.lacks;
       entries_before = first.before;
-      type = type;
+      type = segment_type;
       type_at = ap (slice_get definitions.types) first.is ∙ type_at;
       named = named;
       told = is;
@@ -321,7 +324,7 @@ module _ (definitions : Definitions) (entries : List TypePlace) (apart : IsDisti
       judged : (lack : Option (ℕ × ℕ)) → first_lack entries (families None forest) ≡ lack → Builds definitions entries lines (missing_of definitions entries lack forest)
       judged None lacks = complete definitions entries lines forest rest lacks
       judged (Some lack) lacks =
-          let there = slice_get-within definitions.types lack.0 (first_lack-known (λ segment. segment < length definitions.types) entries (families None forest) lack.0 lack.1 known lacks) in
+          let there = slice_get-within definitions.types lack.0 (first_lack-known (λ type. type < length definitions.types) entries (families None forest) lack.0 lack.1 known lacks) in
           missing_of_all definitions entries lines forest lack.0 lack.1 there.0 (name_in (slice_get definitions.types lack.0)) (told_length lack.1) rest lacks there.1 (ap name_in there.1) refl
 
   -- the answer is what is made of lines, so something is

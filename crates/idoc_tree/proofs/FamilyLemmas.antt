@@ -8,9 +8,9 @@ use Rattle.std.proofs.lemmas.Option.{same_Some}
 use Rattle.ale_base.proofs.SnocLemmas.{AllByRecursion-snoc, AllByRecursion-front}
 use Rattle.segment_defs.specs.declared.idoc_type.TypePlace.{TypePlace}
 use Rattle.segment_defs.specs.IdocType.{place_in, entry_of}
-use Rattle.idoc_tree.specs.Forest.{Item, Forest, no_trees, tree, roots, map_nodes, count_of}
+use Rattle.idoc_tree.specs.Forest.{Segment, Forest, no_trees, tree, roots, map_nodes, count_of}
 use Rattle.idoc_tree.specs.Valid.{Family, families_below, IsOrdered, Fits, HasEnough, IsValid}
-use Rattle.idoc_tree.specs.Growing.{has_later}
+use Rattle.idoc_tree.specs.Siblings.{has_later}
 use Rattle.idoc_tree.proofs.ForestLemmas.{count_of-append}
 use Rattle.ale_base.proofs.ListLemmas.{AllByRecursion-append, AllByRecursion-parts, AllByRecursion-weaker, AllByRecursion-both, AllByRecursion-at, AllByRecursion-from_map}
 use Rattle.idoc_tree.proofs.HangingLemmas.{more_in}
@@ -27,98 +27,105 @@ entries-own (first ∷ others) apart = (
 )
 
 -- the entry of a segment type is of that type
-entry_at_segment : (first : TypePlace) (others : List TypePlace) (segment : ℕ) (entry : TypePlace) (b : Bool) → first.segment == segment ≡ b → (entry_of others segment ≡ Some entry → entry.segment ≡ segment) → slice_get (first ∷ others) (cond b 0 (suc (place_in others segment))) ≡ Some entry → entry.segment ≡ segment
-entry_at_segment first others segment entry true same rest found = ap (λ (e : TypePlace). e.segment) (sym (same_Some first entry found)) ∙ eqb-true first.segment segment same
-entry_at_segment first others segment entry false same rest found = rest found
+entry_at_segment : (first : TypePlace) (others : List TypePlace) (type : ℕ) (entry : TypePlace) (b : Bool) → first.segment == type ≡ b → (entry_of others type ≡ Some entry → entry.segment ≡ type) → slice_get (first ∷ others) (cond b 0 (suc (place_in others type))) ≡ Some entry → entry.segment ≡ type
+entry_at_segment first others type entry true same rest found = ap (λ (e : TypePlace). e.segment) (sym (same_Some first entry found)) ∙ eqb-true first.segment type same
+entry_at_segment first others type entry false same rest found = rest found
 
-pub entry-segment : (entries : List TypePlace) (segment : ℕ) (entry : TypePlace) → entry_of entries segment ≡ Some entry → entry.segment ≡ segment
-entry-segment [] segment entry found = cc
-entry-segment (first ∷ others) segment entry found =
-    entry_at_segment first others segment entry (first.segment == segment) refl (entry-segment others segment entry) found
+-- the entry of a segment type is of that type
+pub entry-segment : (entries : List TypePlace) (type : ℕ) (entry : TypePlace) → entry_of entries type ≡ Some entry → entry.segment ≡ type
+entry-segment [] type entry found = cc
+entry-segment (first ∷ others) type entry found =
+    entry_at_segment first others type entry (first.segment == type) refl (entry-segment others type entry) found
 
 module _ (entries : List TypePlace) where
   -- none is of a later type
-  abbrev pub NoneLater : ℕ → List Item → Type 0
-  NoneLater place items = AllByRecursion (λ other. place_in entries other.segment ≤ place) items
+  abbrev pub NoneLater : ℕ → List Segment → Type 0
+  NoneLater place segments = AllByRecursion (λ other. place_in entries other.type ≤ place) segments
 
-  pub none_later : (place : ℕ) (items : List Item) → has_later entries place items ≡ false → NoneLater place items
+  -- where the test says no, no segment is of a later type
+  pub none_later : (place : ℕ) (segments : List Segment) → has_later entries place segments ≡ false → NoneLater place segments
   none_later place [] test = tt
-  none_later place (item ∷ items) test =
-      let parts = or_parts (nat_lt place (place_in entries item.segment)) (has_later entries place items) test in
-      (ltb-false place (place_in entries item.segment) parts.0, none_later place items parts.1)
+  none_later place (segment ∷ segments) test =
+      let parts = or_parts (nat_lt place (place_in entries segment.type)) (has_later entries place segments) test in
+      (ltb-false place (place_in entries segment.type) parts.0, none_later place segments parts.1)
 
-  pub has_no_later : (place : ℕ) (items : List Item) → NoneLater place items → has_later entries place items ≡ false
+  -- and where none is, the test says no
+  pub has_no_later : (place : ℕ) (segments : List Segment) → NoneLater place segments → has_later entries place segments ≡ false
   has_no_later place [] all = refl
-  has_no_later place (item ∷ items) all =
-      ap (λ b. b || has_later entries place items) (le-ltb place (place_in entries item.segment) all.0) ∙ has_no_later place items all.1
+  has_no_later place (segment ∷ segments) all =
+      ap (λ b. b || has_later entries place segments) (le-ltb place (place_in entries segment.type) all.0) ∙ has_no_later place segments all.1
 
-  pub IsOrdered-snoc : (items : List Item) (item : Item) → IsOrdered entries items → NoneLater (place_in entries item.segment) items → IsOrdered entries (items ++ item ∷ [])
-  IsOrdered-snoc [] item ordered all = (tt, tt)
-  IsOrdered-snoc (first ∷ items) item ordered all =
-      (AllByRecursion-snoc (λ other. place_in entries first.segment ≤ place_in entries other.segment) items item ordered.0 all.0, IsOrdered-snoc items item ordered.1 all.1)
+  -- segments in order stay so with one more behind them that comes in time
+  pub IsOrdered-snoc : (segments : List Segment) (segment : Segment) → IsOrdered entries segments → NoneLater (place_in entries segment.type) segments → IsOrdered entries (segments ++ segment ∷ [])
+  IsOrdered-snoc [] segment ordered all = (tt, tt)
+  IsOrdered-snoc (first ∷ segments) segment ordered all =
+      (AllByRecursion-snoc (λ other. place_in entries first.type ≤ place_in entries other.type) segments segment ordered.0 all.0, IsOrdered-snoc segments segment ordered.1 all.1)
 
-  pub IsOrdered-front : (items : List Item) (item : Item) → IsOrdered entries (items ++ item ∷ []) → IsOrdered entries items × NoneLater (place_in entries item.segment) items
-  IsOrdered-front [] item ordered = (tt, tt)
-  IsOrdered-front (first ∷ items) item ordered =
-      let parts = AllByRecursion-front (λ other. place_in entries first.segment ≤ place_in entries other.segment) items item ordered.0 in
-      let rest = IsOrdered-front items item ordered.1 in
+  -- segments in order without the last one are so, and the last one came in time
+  pub IsOrdered-front : (segments : List Segment) (segment : Segment) → IsOrdered entries (segments ++ segment ∷ []) → IsOrdered entries segments × NoneLater (place_in entries segment.type) segments
+  IsOrdered-front [] segment ordered = (tt, tt)
+  IsOrdered-front (first ∷ segments) segment ordered =
+      let parts = AllByRecursion-front (λ other. place_in entries first.type ≤ place_in entries other.type) segments segment ordered.0 in
+      let rest = IsOrdered-front segments segment ordered.1 in
       ((parts.0, rest.0), (parts.1, rest.1))
 
-  count_more : (segment max : ℕ) (items : List Item) (item : Item) (b : Bool) → item.segment == segment ≡ b → count_of segment items ≤ max → (b ≡ true → count_of segment items < max) → count_of segment (items ++ item ∷ []) ≤ max
-  count_more segment max items item true same few room =
-      let one : count_of segment (item ∷ []) ≡ 1 = ap (λ b. cond b 1 0) same in
-      omega (arith, count_of-append segment items (item ∷ []), room refl)
-  count_more segment max items item false same few room =
-      let none : count_of segment (item ∷ []) ≡ 0 = ap (λ b. cond b 1 0) same in
-      omega (arith, count_of-append segment items (item ∷ []))
+  count_more : (type max : ℕ) (segments : List Segment) (segment : Segment) (b : Bool) → segment.type == type ≡ b → count_of type segments ≤ max → (b ≡ true → count_of type segments < max) → count_of type (segments ++ segment ∷ []) ≤ max
+  count_more type max segments segment true same few room =
+      let one : count_of type (segment ∷ []) ≡ 1 = ap (λ b. cond b 1 0) same in
+      omega (arith, count_of-append type segments (segment ∷ []), room refl)
+  count_more type max segments segment false same few room =
+      let none : count_of type (segment ∷ []) ≡ 0 = ap (λ b. cond b 1 0) same in
+      omega (arith, count_of-append type segments (segment ∷ []))
 
   -- a family with a segment more that comes in time and for which there is room
-  pub Fits-more : (above : Option ℕ) (among : List Item) (item : Item) (entry : TypePlace) → IsDistinct nat_eq (map (λ entry. entry.segment) entries) → entry_of entries item.segment ≡ Some entry → Fits entries (record { above = above; children = among }) → has_later entries (place_in entries item.segment) among ≡ false → nat_le entry.max (count_of item.segment among) ≡ false → Fits entries (more_in above among item)
-  Fits-more above among item entry apart entry_at fits in_time room =
+  pub Fits-more : (above : Option ℕ) (among : List Segment) (segment : Segment) (entry : TypePlace) → IsDistinct nat_eq (map (λ entry. entry.segment) entries) → entry_of entries segment.type ≡ Some entry → Fits entries (record { above = above; children = among }) → has_later entries (place_in entries segment.type) among ≡ false → nat_le entry.max (count_of segment.type among) ≡ false → Fits entries (more_in above among segment)
+  Fits-more above among segment entry apart entry_at fits in_time room =
       record {
-        ordered = IsOrdered-snoc among item fits.ordered (none_later (place_in entries item.segment) among in_time);
-        at_most = AllByRecursion-weaker _ _ entries (λ other both. count_more other.segment other.max among item (item.segment == other.segment) refl both.0 (λ same.
-            let is = eqb-true item.segment other.segment same in
+        ordered = IsOrdered-snoc among segment fits.ordered (none_later (place_in entries segment.type) among in_time);
+        at_most = AllByRecursion-weaker _ _ entries (λ other both. count_more other.segment other.max among segment (segment.type == other.segment) refl both.0 (λ same.
+            let is = eqb-true segment.type other.segment same in
             let own : entry ≡ other = same_Some entry other (sym entry_at ∙ ap (entry_of entries) is ∙ both.1) in
-            subst (λ (e : TypePlace). count_of other.segment among < e.max) own (subst (λ s. count_of s among < entry.max) is (leb-false entry.max (count_of item.segment among) room))))
+            subst (λ (e : TypePlace). count_of other.segment among < e.max) own (subst (λ s. count_of s among < entry.max) is (leb-false entry.max (count_of segment.type among) room))))
             (AllByRecursion-both (λ other. count_of other.segment among ≤ other.max) (λ other. entry_of entries other.segment ≡ Some other) entries fits.at_most (entries-own entries apart));
       }
 
   -- and back
-  pub Fits-fewer : (above : Option ℕ) (among : List Item) (item : Item) → Fits entries (more_in above among item) → Fits entries (record { above = above; children = among })
-  Fits-fewer above among item fits =
+  pub Fits-fewer : (above : Option ℕ) (among : List Segment) (segment : Segment) → Fits entries (more_in above among segment) → Fits entries (record { above = above; children = among })
+  Fits-fewer above among segment fits =
       record {
-        ordered = (IsOrdered-front among item fits.ordered).0;
-        at_most = AllByRecursion-weaker _ _ entries (λ other most. omega (arith, count_of-append other.segment among (item ∷ []))) fits.at_most;
+        ordered = (IsOrdered-front among segment fits.ordered).0;
+        at_most = AllByRecursion-weaker _ _ entries (λ other most. omega (arith, count_of-append other.segment among (segment ∷ []))) fits.at_most;
       }
 
-  pub Fits-in_time : (above : Option ℕ) (among : List Item) (item : Item) → Fits entries (more_in above among item) → has_later entries (place_in entries item.segment) among ≡ false
-  Fits-in_time above among item fits = has_no_later (place_in entries item.segment) among (IsOrdered-front among item fits.ordered).1
+  -- the last segment of a family that fits came in time
+  pub Fits-in_time : (above : Option ℕ) (among : List Segment) (segment : Segment) → Fits entries (more_in above among segment) → has_later entries (place_in entries segment.type) among ≡ false
+  Fits-in_time above among segment fits = has_no_later (place_in entries segment.type) among (IsOrdered-front among segment fits.ordered).1
 
-  pub Fits-room : (above : Option ℕ) (among : List Item) (item : Item) (entry : TypePlace) → entry_of entries item.segment ≡ Some entry → Fits entries (more_in above among item) → nat_le entry.max (count_of item.segment among) ≡ false
-  Fits-room above among item entry entry_at fits =
-      let most = AllByRecursion-at (λ other. count_of other.segment (among ++ item ∷ []) ≤ other.max) entries (place_in entries item.segment) entry fits.at_most entry_at in
-      let own = subst (λ s. count_of s (among ++ item ∷ []) ≤ entry.max) (entry-segment entries item.segment entry entry_at) most in
-      let one : count_of item.segment (item ∷ []) ≡ 1 = ap (λ b. cond b 1 0) (eq-eqb item.segment item.segment refl) in
-      lt-leb entry.max (count_of item.segment among) (omega (arith, count_of-append item.segment among (item ∷ [])))
+  -- the last segment of a family that fits found room
+  pub Fits-room : (above : Option ℕ) (among : List Segment) (segment : Segment) (entry : TypePlace) → entry_of entries segment.type ≡ Some entry → Fits entries (more_in above among segment) → nat_le entry.max (count_of segment.type among) ≡ false
+  Fits-room above among segment entry entry_at fits =
+      let most = AllByRecursion-at (λ other. count_of other.segment (among ++ segment ∷ []) ≤ other.max) entries (place_in entries segment.type) entry fits.at_most entry_at in
+      let own = subst (λ s. count_of s (among ++ segment ∷ []) ≤ entry.max) (entry-segment entries segment.type entry entry_at) most in
+      let one : count_of segment.type (segment ∷ []) ≡ 1 = ap (λ b. cond b 1 0) (eq-eqb segment.type segment.type refl) in
+      lt-leb entry.max (count_of segment.type among) (omega (arith, count_of-append segment.type among (segment ∷ [])))
 
 -- changes that keep each segment's type
-module _ (entries : List TypePlace) (change : Item → Item) (keeps : (item : Item) → (change item).segment ≡ item.segment) where
-  count_of-map : (segment : ℕ) (items : List Item) → count_of segment (map change items) ≡ count_of segment items
-  count_of-map segment [] = refl
-  count_of-map segment (item ∷ items) =
-      ap (λ s. cond (s == segment) (suc (count_of segment (map change items))) (count_of segment (map change items))) (keeps item)
-      ∙ ap (λ n. cond (item.segment == segment) (suc n) n) (count_of-map segment items)
+module _ (entries : List TypePlace) (change : Segment → Segment) (keeps : (segment : Segment) → (change segment).type ≡ segment.type) where
+  count_of-map : (type : ℕ) (segments : List Segment) → count_of type (map change segments) ≡ count_of type segments
+  count_of-map type [] = refl
+  count_of-map type (segment ∷ segments) =
+      ap (λ s. cond (s == type) (suc (count_of type (map change segments))) (count_of type (map change segments))) (keeps segment)
+      ∙ ap (λ n. cond (segment.type == type) (suc n) n) (count_of-map type segments)
 
-  later-map : (place : ℕ) (items : List Item) → AllByRecursion (λ other. place ≤ place_in entries other.segment) items → AllByRecursion (λ other. place ≤ place_in entries other.segment) (map change items)
+  later-map : (place : ℕ) (segments : List Segment) → AllByRecursion (λ other. place ≤ place_in entries other.type) segments → AllByRecursion (λ other. place ≤ place_in entries other.type) (map change segments)
   later-map place [] all = tt
-  later-map place (item ∷ items) all = (subst (λ s. place ≤ place_in entries s) (sym (keeps item)) all.0, later-map place items all.1)
+  later-map place (segment ∷ segments) all = (subst (λ s. place ≤ place_in entries s) (sym (keeps segment)) all.0, later-map place segments all.1)
 
-  IsOrdered-map : (items : List Item) → IsOrdered entries items → IsOrdered entries (map change items)
+  IsOrdered-map : (segments : List Segment) → IsOrdered entries segments → IsOrdered entries (map change segments)
   IsOrdered-map [] ordered = tt
-  IsOrdered-map (item ∷ items) ordered = (
-    subst (λ s. AllByRecursion (λ other. place_in entries s ≤ place_in entries other.segment) (map change items)) (sym (keeps item)) (later-map (place_in entries item.segment) items ordered.0),
-    IsOrdered-map items ordered.1,
+  IsOrdered-map (segment ∷ segments) ordered = (
+    subst (λ s. AllByRecursion (λ other. place_in entries s ≤ place_in entries other.type) (map change segments)) (sym (keeps segment)) (later-map (place_in entries segment.type) segments ordered.0),
+    IsOrdered-map segments ordered.1,
   )
 
   fits_map : (family : Family) → Fits entries family → Fits entries (record { above = family.above; children = map change family.children })
@@ -134,17 +141,17 @@ module _ (entries : List TypePlace) (change : Item → Item) (keeps : (item : It
 
   roots-map : (forest : Forest) → roots (map_nodes change forest) ≡ map change (roots forest)
   roots-map no_trees = refl
-  roots-map (tree root below after) = ap (λ items. change root ∷ items) (roots-map after)
+  roots-map (tree root below after) = ap (λ segments. change root ∷ segments) (roots-map after)
 
   module _ (P : Family → Type 0) (follows : (family : Family) → P family → P (record { above = family.above; children = map change family.children })) where
     mapped : (above : Option ℕ) (forest : Forest) → P (record { above = above; children = roots forest }) → P (record { above = above; children = roots (map_nodes change forest) })
-    mapped above forest own = subst (λ items. P (record { above = above; children = items })) (sym (roots-map forest)) (follows (record { above = above; children = roots forest }) own)
+    mapped above forest own = subst (λ segments. P (record { above = above; children = segments })) (sym (roots-map forest)) (follows (record { above = above; children = roots forest }) own)
 
     families_map : (forest : Forest) → AllByRecursion P (families_below forest) → AllByRecursion P (families_below (map_nodes change forest))
     families_map no_trees all = tt
     families_map (tree root below after) all =
         let parts = AllByRecursion-parts P (families_below below) (families_below after) all.1 in (
-          subst (λ s. P (record { above = Some s; children = roots (map_nodes change below) })) (sym (keeps root)) (mapped (Some root.segment) below all.0),
+          subst (λ s. P (record { above = Some s; children = roots (map_nodes change below) })) (sym (keeps root)) (mapped (Some root.type) below all.0),
           AllByRecursion-append P (families_below (map_nodes change below)) (families_below (map_nodes change after)) (families_map below parts.0) (families_map after parts.1),
         )
 

@@ -5,158 +5,163 @@ use Rattle.std.specs.List.{AllByRecursion}
 use Rattle.std.proofs.lemmas.Option.{same_Some}
 use Rattle.segment_defs.specs.declared.idoc_type.TypePlace.{TypePlace}
 use Rattle.segment_defs.specs.IdocType.{parent_of}
-use Rattle.idoc_tree.specs.Forest.{Item, Forest, no_trees, tree, preorder, is_bare, leaf, joined, map_nodes, without, roots}
+use Rattle.idoc_tree.specs.Forest.{Segment, Forest, no_trees, tree, preorder, is_bare, leaf, joined, map_nodes, without, roots}
 use Rattle.idoc_tree.specs.Spells.{Hangs}
 use Rattle.idoc_tree.specs.Valid.{Family, families_below}
-use Rattle.idoc_tree.specs.Growing.{children_of_open, hung_below}
+use Rattle.idoc_tree.specs.Siblings.{children_of_open}
+use Rattle.idoc_tree.specs.steps.Growing.{hung_below}
 use Rattle.idoc_tree.proofs.ForestLemmas.{bare_is_none, preorder-joined, roots-joined}
 use Rattle.ale_base.proofs.ListLemmas.{AllByRecursion-append, AllByRecursion-parts}
 
 -- A segment is hung below the open one of a type: the forest before, the siblings there, and the forest after.
-pub data HangsBelow (segment : ℕ) (item : Item) : Forest → List Item → Forest → Type 0 where
-  here : (root : Item) (below : Forest) → root.segment == segment ≡ true → HangsBelow segment item (tree root below no_trees) (roots below) (tree root (joined below (leaf item)) no_trees)
-  deeper : (root : Item) (below below' : Forest) (among : List Item) → root.segment == segment ≡ false → HangsBelow segment item below among below' → HangsBelow segment item (tree root below no_trees) among (tree root below' no_trees)
-  later : (root : Item) (below after after' : Forest) (among : List Item) → HangsBelow segment item after among after' → HangsBelow segment item (tree root below after) among (tree root below after')
+pub data HangsBelow (type : ℕ) (segment : Segment) : Forest → List Segment → Forest → Type 0 where
+  here : (root : Segment) (below : Forest) → root.type == type ≡ true → HangsBelow type segment (tree root below no_trees) (roots below) (tree root (joined below (leaf segment)) no_trees)
+  deeper : (root : Segment) (below below' : Forest) (among : List Segment) → root.type == type ≡ false → HangsBelow type segment below among below' → HangsBelow type segment (tree root below no_trees) among (tree root below' no_trees)
+  later : (root : Segment) (below after after' : Forest) (among : List Segment) → HangsBelow type segment after among after' → HangsBelow type segment (tree root below after) among (tree root below after')
 
-module _ (segment : ℕ) (item : Item) where
-  hangs_last : (root : Item) (below : Forest) (among : List Item) (b : Bool) → root.segment == segment ≡ b → (children_of_open segment below ≡ Some among → HangsBelow segment item below among (hung_below segment item below)) → cond b (Some (roots below)) (children_of_open segment below) ≡ Some among → HangsBelow segment item (tree root below no_trees) among (tree root (cond b (joined below (leaf item)) (hung_below segment item below)) no_trees)
+module _ (type : ℕ) (segment : Segment) where
+  hangs_last : (root : Segment) (below : Forest) (among : List Segment) (b : Bool) → root.type == type ≡ b → (children_of_open type below ≡ Some among → HangsBelow type segment below among (hung_below type segment below)) → cond b (Some (roots below)) (children_of_open type below) ≡ Some among → HangsBelow type segment (tree root below no_trees) among (tree root (cond b (joined below (leaf segment)) (hung_below type segment below)) no_trees)
   hangs_last root below among true same rest found =
-      subst (λ among. HangsBelow segment item (tree root below no_trees) among (tree root (joined below (leaf item)) no_trees)) (same_Some (roots below) among found) (here root below same)
-  hangs_last root below among false same rest found = deeper root below (hung_below segment item below) among same (rest found)
+      subst (λ among. HangsBelow type segment (tree root below no_trees) among (tree root (joined below (leaf segment)) no_trees)) (same_Some (roots below) among found) (here root below same)
+  hangs_last root below among false same rest found = deeper root below (hung_below type segment below) among same (rest found)
 
-  hangs_in : (root : Item) (below after : Forest) (among : List Item) (b : Bool) → is_bare after ≡ b → (children_of_open segment below ≡ Some among → HangsBelow segment item below among (hung_below segment item below)) → (children_of_open segment after ≡ Some among → HangsBelow segment item after among (hung_below segment item after)) → cond b (cond (root.segment == segment) (Some (roots below)) (children_of_open segment below)) (children_of_open segment after) ≡ Some among → HangsBelow segment item (tree root below after) among (cond b (tree root (cond (root.segment == segment) (joined below (leaf item)) (hung_below segment item below)) after) (tree root below (hung_below segment item after)))
+  hangs_in : (root : Segment) (below after : Forest) (among : List Segment) (b : Bool) → is_bare after ≡ b → (children_of_open type below ≡ Some among → HangsBelow type segment below among (hung_below type segment below)) → (children_of_open type after ≡ Some among → HangsBelow type segment after among (hung_below type segment after)) → cond b (cond (root.type == type) (Some (roots below)) (children_of_open type below)) (children_of_open type after) ≡ Some among → HangsBelow type segment (tree root below after) among (cond b (tree root (cond (root.type == type) (joined below (leaf segment)) (hung_below type segment below)) after) (tree root below (hung_below type segment after)))
   hangs_in root below after among true bare last rest found =
-      subst (λ after. HangsBelow segment item (tree root below after) among (tree root (cond (root.segment == segment) (joined below (leaf item)) (hung_below segment item below)) after)) (sym (bare_is_none after bare))
-      (hangs_last root below among (root.segment == segment) refl last found)
-  hangs_in root below after among false bare last rest found = later root below after (hung_below segment item after) among (rest found)
+      subst (λ after. HangsBelow type segment (tree root below after) among (tree root (cond (root.type == type) (joined below (leaf segment)) (hung_below type segment below)) after)) (sym (bare_is_none after bare))
+      (hangs_last root below among (root.type == type) refl last found)
+  hangs_in root below after among false bare last rest found = later root below after (hung_below type segment after) among (rest found)
 
   -- where a segment of the type is open, a segment can be hung below it
-  pub hangs_below : (forest : Forest) (among : List Item) → children_of_open segment forest ≡ Some among → HangsBelow segment item forest among (hung_below segment item forest)
+  pub hangs_below : (forest : Forest) (among : List Segment) → children_of_open type forest ≡ Some among → HangsBelow type segment forest among (hung_below type segment forest)
   hangs_below no_trees among found = cc
   hangs_below (tree root below after) among found =
       hangs_in root below after among (is_bare after) refl (hangs_below below among) (hangs_below after among) found
 
-  pub HangsBelow-not_bare : (forest : Forest) (among : List Item) (grown : Forest) → HangsBelow segment item forest among grown → is_bare forest ≡ false
+  -- a forest below which a segment hangs has a tree
+  pub HangsBelow-not_bare : (forest : Forest) (among : List Segment) (grown : Forest) → HangsBelow type segment forest among grown → is_bare forest ≡ false
   HangsBelow-not_bare _ among grown (here root below same) = refl
   HangsBelow-not_bare _ among grown (deeper root below below' among' same rest) = refl
   HangsBelow-not_bare _ among grown (later root below after after' among' rest) = refl
 
   -- the two are what the definitions compute
-  pub HangsBelow-open : (forest : Forest) (among : List Item) (grown : Forest) → HangsBelow segment item forest among grown → (children_of_open segment forest ≡ Some among) × (hung_below segment item forest ≡ grown)
+  pub HangsBelow-open : (forest : Forest) (among : List Segment) (grown : Forest) → HangsBelow type segment forest among grown → (children_of_open type forest ≡ Some among) × (hung_below type segment forest ≡ grown)
   HangsBelow-open _ _ _ (here root below same) = (
-    ap (λ b. cond b (Some (roots below)) (children_of_open segment below)) same,
-    ap (λ b. tree root (cond b (joined below (leaf item)) (hung_below segment item below)) no_trees) same,
+    ap (λ b. cond b (Some (roots below)) (children_of_open type below)) same,
+    ap (λ b. tree root (cond b (joined below (leaf segment)) (hung_below type segment below)) no_trees) same,
   )
   HangsBelow-open _ _ _ (deeper root below below' among other rest) =
       let parts = HangsBelow-open below among below' rest in (
-        ap (λ b. cond b (Some (roots below)) (children_of_open segment below)) other ∙ parts.0,
-        ap (λ b. tree root (cond b (joined below (leaf item)) (hung_below segment item below)) no_trees) other ∙ ap (λ b. tree root b no_trees) parts.1,
+        ap (λ b. cond b (Some (roots below)) (children_of_open type below)) other ∙ parts.0,
+        ap (λ b. tree root (cond b (joined below (leaf segment)) (hung_below type segment below)) no_trees) other ∙ ap (λ b. tree root b no_trees) parts.1,
       )
   HangsBelow-open _ _ _ (later root below after after' among rest) =
       let parts = HangsBelow-open after among after' rest in
       let bare = HangsBelow-not_bare after among after' rest in (
-        ap (λ b. cond b (cond (root.segment == segment) (Some (roots below)) (children_of_open segment below)) (children_of_open segment after)) bare ∙ parts.0,
-        ap (λ b. cond b (tree root (cond (root.segment == segment) (joined below (leaf item)) (hung_below segment item below)) after) (tree root below (hung_below segment item after))) bare ∙ ap (tree root below) parts.1,
+        ap (λ b. cond b (cond (root.type == type) (Some (roots below)) (children_of_open type below)) (children_of_open type after)) bare ∙ parts.0,
+        ap (λ b. cond b (tree root (cond (root.type == type) (joined below (leaf segment)) (hung_below type segment below)) after) (tree root below (hung_below type segment after))) bare ∙ ap (tree root below) parts.1,
       )
 
   -- the segment comes last
-  pub HangsBelow-preorder : (forest : Forest) (among : List Item) (grown : Forest) → HangsBelow segment item forest among grown → preorder grown ≡ preorder forest ++ item ∷ []
+  pub HangsBelow-preorder : (forest : Forest) (among : List Segment) (grown : Forest) → HangsBelow type segment forest among grown → preorder grown ≡ preorder forest ++ segment ∷ []
   HangsBelow-preorder _ _ _ (here root below same) =
-      ap (λ items. root ∷ (items ++ [])) (preorder-joined below (leaf item))
-      ∙ ap (λ items. root ∷ items) (append-nil (preorder below ++ item ∷ []) ∙ ap (λ items. items ++ item ∷ []) (sym (append-nil (preorder below))))
+      ap (λ segments. root ∷ (segments ++ [])) (preorder-joined below (leaf segment))
+      ∙ ap (λ segments. root ∷ segments) (append-nil (preorder below ++ segment ∷ []) ∙ ap (λ segments. segments ++ segment ∷ []) (sym (append-nil (preorder below))))
   HangsBelow-preorder _ _ _ (deeper root below below' among other rest) =
-      ap (λ items. root ∷ (items ++ [])) (HangsBelow-preorder below among below' rest)
-      ∙ ap (λ items. root ∷ items) (append-nil (preorder below ++ item ∷ []) ∙ ap (λ items. items ++ item ∷ []) (sym (append-nil (preorder below))))
+      ap (λ segments. root ∷ (segments ++ [])) (HangsBelow-preorder below among below' rest)
+      ∙ ap (λ segments. root ∷ segments) (append-nil (preorder below ++ segment ∷ []) ∙ ap (λ segments. segments ++ segment ∷ []) (sym (append-nil (preorder below))))
   HangsBelow-preorder _ _ _ (later root below after after' among rest) =
-      ap (λ items. root ∷ (preorder below ++ items)) (HangsBelow-preorder after among after' rest)
-      ∙ ap (λ items. root ∷ items) (sym (append_assoc (preorder below) (preorder after) (item ∷ [])))
+      ap (λ segments. root ∷ (preorder below ++ segments)) (HangsBelow-preorder after among after' rest)
+      ∙ ap (λ segments. root ∷ segments) (sym (append_assoc (preorder below) (preorder after) (segment ∷ [])))
 
   -- the roots stay
-  pub HangsBelow-roots : (forest : Forest) (among : List Item) (grown : Forest) → HangsBelow segment item forest among grown → roots grown ≡ roots forest
+  pub HangsBelow-roots : (forest : Forest) (among : List Segment) (grown : Forest) → HangsBelow type segment forest among grown → roots grown ≡ roots forest
   HangsBelow-roots _ _ _ (here root below same) = refl
   HangsBelow-roots _ _ _ (deeper root below below' among other rest) = refl
-  HangsBelow-roots _ _ _ (later root below after after' among rest) = ap (λ items. root ∷ items) (HangsBelow-roots after among after' rest)
+  HangsBelow-roots _ _ _ (later root below after after' among rest) = ap (λ segments. root ∷ segments) (HangsBelow-roots after among after' rest)
 
 module _ (entries : List TypePlace) where
+  -- two forests that hang together below one segment hang together side by side
   pub Hangs-joined : (above : Option ℕ) (first second : Forest) → Hangs entries above first → Hangs entries above second → Hangs entries above (joined first second)
   Hangs-joined above no_trees second ours theirs = theirs
   Hangs-joined above (tree root below after) second ours theirs = (ours.0, ours.1, Hangs-joined above after second ours.2 theirs)
 
+  -- and where they do so side by side, each does
   pub Hangs-parts : (above : Option ℕ) (first second : Forest) → Hangs entries above (joined first second) → Hangs entries above first × Hangs entries above second
   Hangs-parts above no_trees second all = (tt, all)
   Hangs-parts above (tree root below after) second all =
       let parts = Hangs-parts above after second all.2 in ((all.0, all.1, parts.0), parts.1)
 
   -- a change that keeps each segment's type leaves all hanging
-  pub Hangs-map_nodes : (change : Item → Item) → ((item : Item) → (change item).segment ≡ item.segment) → (above : Option ℕ) (forest : Forest) → Hangs entries above forest → Hangs entries above (map_nodes change forest)
+  pub Hangs-map_nodes : (change : Segment → Segment) → ((segment : Segment) → (change segment).type ≡ segment.type) → (above : Option ℕ) (forest : Forest) → Hangs entries above forest → Hangs entries above (map_nodes change forest)
   Hangs-map_nodes change keeps above no_trees hangs = tt
   Hangs-map_nodes change keeps above (tree root below after) hangs = (
     ap (parent_of entries) (keeps root) ∙ hangs.0,
-    subst (λ segment. Hangs entries (Some segment) (map_nodes change below)) (sym (keeps root)) (Hangs-map_nodes change keeps (Some root.segment) below hangs.1),
+    subst (λ type. Hangs entries (Some type) (map_nodes change below)) (sym (keeps root)) (Hangs-map_nodes change keeps (Some root.type) below hangs.1),
     Hangs-map_nodes change keeps above after hangs.2,
   )
 
-  hangs_without : (goes : Bool) (root : Item) (above : Option ℕ) (below after : Forest) → parent_of entries root.segment ≡ Some above → Hangs entries (Some root.segment) below → Hangs entries above after → Hangs entries above (cond goes after (tree root below after))
+  hangs_without : (goes : Bool) (root : Segment) (above : Option ℕ) (below after : Forest) → parent_of entries root.type ≡ Some above → Hangs entries (Some root.type) below → Hangs entries above after → Hangs entries above (cond goes after (tree root below after))
   hangs_without true root above below after parent under behind = behind
   hangs_without false root above below after parent under behind = (parent, under, behind)
 
   -- what stays when segments go with all below them still hangs
-  pub Hangs-without : (goes : Item → Bool) (above : Option ℕ) (forest : Forest) → Hangs entries above forest → Hangs entries above (without goes forest)
+  pub Hangs-without : (goes : Segment → Bool) (above : Option ℕ) (forest : Forest) → Hangs entries above forest → Hangs entries above (without goes forest)
   Hangs-without goes above no_trees hangs = tt
   Hangs-without goes above (tree root below after) hangs =
       hangs_without (goes root) root above (without goes below) (without goes after) hangs.0
-      (Hangs-without goes (Some root.segment) below hangs.1) (Hangs-without goes above after hangs.2)
+      (Hangs-without goes (Some root.type) below hangs.1) (Hangs-without goes above after hangs.2)
 
   -- a segment that is hung below its parent's type hangs right
-  pub HangsBelow-hangs : (segment : ℕ) (item : Item) (above : Option ℕ) (forest : Forest) (among : List Item) (grown : Forest) → parent_of entries item.segment ≡ Some (Some segment) → HangsBelow segment item forest among grown → Hangs entries above forest → Hangs entries above grown
-  HangsBelow-hangs segment item above _ _ _ parent (here root below same) hangs =
-      let own : parent_of entries item.segment ≡ Some (Some root.segment) = parent ∙ ap (λ s. Some (Some s)) (sym (eqb-true root.segment segment same)) in
-      (hangs.0, Hangs-joined (Some root.segment) below (leaf item) hangs.1 (own, tt, tt), tt)
-  HangsBelow-hangs segment item above _ _ _ parent (deeper root below below' among other rest) hangs =
-      (hangs.0, HangsBelow-hangs segment item (Some root.segment) below among below' parent rest hangs.1, tt)
-  HangsBelow-hangs segment item above _ _ _ parent (later root below after after' among rest) hangs =
-      (hangs.0, hangs.1, HangsBelow-hangs segment item above after among after' parent rest hangs.2)
+  pub HangsBelow-hangs : (type : ℕ) (segment : Segment) (above : Option ℕ) (forest : Forest) (among : List Segment) (grown : Forest) → parent_of entries segment.type ≡ Some (Some type) → HangsBelow type segment forest among grown → Hangs entries above forest → Hangs entries above grown
+  HangsBelow-hangs type segment above _ _ _ parent (here root below same) hangs =
+      let own : parent_of entries segment.type ≡ Some (Some root.type) = parent ∙ ap (λ s. Some (Some s)) (sym (eqb-true root.type type same)) in
+      (hangs.0, Hangs-joined (Some root.type) below (leaf segment) hangs.1 (own, tt, tt), tt)
+  HangsBelow-hangs type segment above _ _ _ parent (deeper root below below' among other rest) hangs =
+      (hangs.0, HangsBelow-hangs type segment (Some root.type) below among below' parent rest hangs.1, tt)
+  HangsBelow-hangs type segment above _ _ _ parent (later root below after after' among rest) hangs =
+      (hangs.0, hangs.1, HangsBelow-hangs type segment above after among after' parent rest hangs.2)
 
   -- and without it the others did
-  pub HangsBelow-hung : (segment : ℕ) (item : Item) (above : Option ℕ) (forest : Forest) (among : List Item) (grown : Forest) → HangsBelow segment item forest among grown → Hangs entries above grown → Hangs entries above forest
-  HangsBelow-hung segment item above _ _ _ (here root below same) hangs =
-      (hangs.0, (Hangs-parts (Some root.segment) below (leaf item) hangs.1).0, tt)
-  HangsBelow-hung segment item above _ _ _ (deeper root below below' among other rest) hangs =
-      (hangs.0, HangsBelow-hung segment item (Some root.segment) below among below' rest hangs.1, tt)
-  HangsBelow-hung segment item above _ _ _ (later root below after after' among rest) hangs =
-      (hangs.0, hangs.1, HangsBelow-hung segment item above after among after' rest hangs.2)
+  pub HangsBelow-hung : (type : ℕ) (segment : Segment) (above : Option ℕ) (forest : Forest) (among : List Segment) (grown : Forest) → HangsBelow type segment forest among grown → Hangs entries above grown → Hangs entries above forest
+  HangsBelow-hung type segment above _ _ _ (here root below same) hangs =
+      (hangs.0, (Hangs-parts (Some root.type) below (leaf segment) hangs.1).0, tt)
+  HangsBelow-hung type segment above _ _ _ (deeper root below below' among other rest) hangs =
+      (hangs.0, HangsBelow-hung type segment (Some root.type) below among below' rest hangs.1, tt)
+  HangsBelow-hung type segment above _ _ _ (later root below after after' among rest) hangs =
+      (hangs.0, hangs.1, HangsBelow-hung type segment above after among after' rest hangs.2)
 
+-- the families below two forests are those below the first, and then those below the second
 pub families_below-joined : (first second : Forest) → families_below (joined first second) ≡ families_below first ++ families_below second
 families_below-joined no_trees second = refl
 families_below-joined (tree root below after) second =
-    ap (λ (fs : List Family). record { above = Some root.segment; children = roots below } ∷ fs)
+    ap (λ (fs : List Family). record { above = Some root.type; children = roots below } ∷ fs)
     (ap (λ fs. families_below below ++ fs) (families_below-joined after second)
     ∙ sym (append_assoc (families_below below) (families_below after) (families_below second)))
 
 -- a family with one segment more
-abbrev pub more_in : Option ℕ → List Item → Item → Family
-more_in above among item = record { above = above; children = among ++ item ∷ [] }
+abbrev pub more_in : Option ℕ → List Segment → Segment → Family
+more_in above among segment = record { above = above; children = among ++ segment ∷ [] }
 
 -- the family of a segment with none below it
-abbrev pub none_in : Item → Family
-none_in item = record { above = Some item.segment; children = [] }
+abbrev pub none_in : Segment → Family
+none_in segment = record { above = Some segment.type; children = [] }
 
-module _ (P : Family → Type 0) (segment : ℕ) (item : Item) where
-  with_roots : (above : Option ℕ) (xs ys : List Item) → ys ≡ xs → P (record { above = above; children = xs }) → P (record { above = above; children = ys })
-  with_roots above xs ys same = subst (λ items. P (record { above = above; children = items })) (sym same)
+module _ (P : Family → Type 0) (type : ℕ) (segment : Segment) where
+  with_roots : (above : Option ℕ) (xs ys : List Segment) → ys ≡ xs → P (record { above = above; children = xs }) → P (record { above = above; children = ys })
+  with_roots above xs ys same = subst (λ segments. P (record { above = above; children = segments })) (sym same)
 
   -- what holds of all families holds of all with a segment more, if it does of the two that change
-  pub HangsBelow-families : (forest : Forest) (among : List Item) (grown : Forest) → P (more_in (Some segment) among item) → P (none_in item) → HangsBelow segment item forest among grown → AllByRecursion P (families_below forest) → AllByRecursion P (families_below grown)
+  pub HangsBelow-families : (forest : Forest) (among : List Segment) (grown : Forest) → P (more_in (Some type) among segment) → P (none_in segment) → HangsBelow type segment forest among grown → AllByRecursion P (families_below forest) → AllByRecursion P (families_below grown)
   HangsBelow-families _ _ _ more none (here root below same) all =
       let parts = AllByRecursion-parts P (families_below below) [] all.1 in
-      let own : P (more_in (Some root.segment) (roots below) item) = subst (λ s. P (more_in (Some s) (roots below) item)) (sym (eqb-true root.segment segment same)) more in (
-        with_roots (Some root.segment) (roots below ++ item ∷ []) (roots (joined below (leaf item))) (roots-joined below (leaf item)) own,
-        AllByRecursion-append P (families_below (joined below (leaf item))) []
-            (subst (AllByRecursion P) (sym (families_below-joined below (leaf item))) (AllByRecursion-append P (families_below below) (none_in item ∷ []) parts.0 (none, tt))) tt,
+      let own : P (more_in (Some root.type) (roots below) segment) = subst (λ s. P (more_in (Some s) (roots below) segment)) (sym (eqb-true root.type type same)) more in (
+        with_roots (Some root.type) (roots below ++ segment ∷ []) (roots (joined below (leaf segment))) (roots-joined below (leaf segment)) own,
+        AllByRecursion-append P (families_below (joined below (leaf segment))) []
+            (subst (AllByRecursion P) (sym (families_below-joined below (leaf segment))) (AllByRecursion-append P (families_below below) (none_in segment ∷ []) parts.0 (none, tt))) tt,
       )
   HangsBelow-families _ _ _ more none (deeper root below below' among other rest) all =
       let parts = AllByRecursion-parts P (families_below below) [] all.1 in (
-        with_roots (Some root.segment) (roots below) (roots below') (HangsBelow-roots segment item below among below' rest) all.0,
+        with_roots (Some root.type) (roots below) (roots below') (HangsBelow-roots type segment below among below' rest) all.0,
         AllByRecursion-append P (families_below below') [] (HangsBelow-families below among below' more none rest parts.0) tt,
       )
   HangsBelow-families _ _ _ more none (later root below after after' among rest) all =
@@ -164,25 +169,25 @@ module _ (P : Family → Type 0) (segment : ℕ) (item : Item) where
       (all.0, AllByRecursion-append P (families_below below) (families_below after') parts.0 (HangsBelow-families after among after' more none rest parts.1))
 
   -- and back, if the family that loses the segment keeps what holds of it
-  pub HangsBelow-fewer : (forest : Forest) (among : List Item) (grown : Forest) → (P (more_in (Some segment) among item) → P (record { above = Some segment; children = among })) → HangsBelow segment item forest among grown → AllByRecursion P (families_below grown) → AllByRecursion P (families_below forest) × P (more_in (Some segment) among item)
+  pub HangsBelow-fewer : (forest : Forest) (among : List Segment) (grown : Forest) → (P (more_in (Some type) among segment) → P (record { above = Some type; children = among })) → HangsBelow type segment forest among grown → AllByRecursion P (families_below grown) → AllByRecursion P (families_below forest) × P (more_in (Some type) among segment)
   HangsBelow-fewer _ _ _ less (here root below same) all =
-      let is = eqb-true root.segment segment same in
-      let own = subst (λ s. P (more_in (Some s) (roots below) item)) is (with_roots (Some root.segment) (roots (joined below (leaf item))) (roots below ++ item ∷ []) (sym (roots-joined below (leaf item))) all.0) in
-      let parts = AllByRecursion-parts P (families_below (joined below (leaf item))) [] all.1 in
-      let kept = AllByRecursion-parts P (families_below below) (none_in item ∷ []) (subst (AllByRecursion P) (families_below-joined below (leaf item)) parts.0) in
+      let is = eqb-true root.type type same in
+      let own = subst (λ s. P (more_in (Some s) (roots below) segment)) is (with_roots (Some root.type) (roots (joined below (leaf segment))) (roots below ++ segment ∷ []) (sym (roots-joined below (leaf segment))) all.0) in
+      let parts = AllByRecursion-parts P (families_below (joined below (leaf segment))) [] all.1 in
+      let kept = AllByRecursion-parts P (families_below below) (none_in segment ∷ []) (subst (AllByRecursion P) (families_below-joined below (leaf segment)) parts.0) in
       ((subst (λ s. P (record { above = Some s; children = roots below })) (sym is) (less own), AllByRecursion-append P (families_below below) [] kept.0 tt), own)
   HangsBelow-fewer _ _ _ less (deeper root below below' among other rest) all =
       let parts = AllByRecursion-parts P (families_below below') [] all.1 in
       let kept = HangsBelow-fewer below among below' less rest parts.0 in
-      ((with_roots (Some root.segment) (roots below') (roots below) (sym (HangsBelow-roots segment item below among below' rest)) all.0, AllByRecursion-append P (families_below below) [] kept.0 tt), kept.1)
+      ((with_roots (Some root.type) (roots below') (roots below) (sym (HangsBelow-roots type segment below among below' rest)) all.0, AllByRecursion-append P (families_below below) [] kept.0 tt), kept.1)
   HangsBelow-fewer _ _ _ less (later root below after after' among rest) all =
       let parts = AllByRecursion-parts P (families_below below) (families_below after') all.1 in
       let kept = HangsBelow-fewer after among after' less rest parts.1 in
       ((all.0, AllByRecursion-append P (families_below below) (families_below after) parts.0 kept.0), kept.1)
 
   -- what holds of all families holds of the one that a segment joins
-  pub HangsBelow-family : (forest : Forest) (among : List Item) (grown : Forest) → HangsBelow segment item forest among grown → AllByRecursion P (families_below forest) → P (record { above = Some segment; children = among })
-  HangsBelow-family _ _ _ (here root below same) all = subst (λ s. P (record { above = Some s; children = roots below })) (eqb-true root.segment segment same) all.0
+  pub HangsBelow-family : (forest : Forest) (among : List Segment) (grown : Forest) → HangsBelow type segment forest among grown → AllByRecursion P (families_below forest) → P (record { above = Some type; children = among })
+  HangsBelow-family _ _ _ (here root below same) all = subst (λ s. P (record { above = Some s; children = roots below })) (eqb-true root.type type same) all.0
   HangsBelow-family _ _ _ (deeper root below below' among other rest) all =
       HangsBelow-family below among below' rest (AllByRecursion-parts P (families_below below) [] all.1).0
   HangsBelow-family _ _ _ (later root below after after' among rest) all =

@@ -1,11 +1,23 @@
-pub mod HangingLemmas
-pub mod FamilyLemmas
-pub mod GrowthLemmas
-pub mod LackLemmas
-pub mod SpellsLemmas
-pub mod BuildsLemmas
-pub mod SiblingLemmas
-pub mod LineLemmas
+-- forests: joined, their preorder, their roots, their segments counted
 pub mod ForestLemmas
+-- the nodes of a document as a forest
 pub mod NodeLemmas
-pub mod GrowingLemmas
+-- segments side by side: in order, and how many of a type
+pub mod FamilyLemmas
+-- hanging together, and a segment that is hung below an open one
+pub mod HangingLemmas
+-- a record makes the forest grow exactly where its segment may be hung
+pub mod MayHangLemmas
+-- each forest that is not bare has a last segment
+pub mod LastSegmentLemmas
+-- what records spell, and one record more
+pub mod SpellsLemmas
+-- what families lack
+pub mod LackLemmas
+-- of records one thing is made, and what that is
+pub mod BuildsLemmas
+-- nodes side by side, as the code looks at them
+pub mod SiblingLemmas
+pub mod LastNodeLemmas
+-- the data records of a forest spell it again
+pub mod LineLemmas

@@ -9,10 +9,10 @@ use Rattle.segment_defs.specs.declared.idoc_type.TypePlace.{TypePlace}
 use Rattle.segment_defs.specs.IdocType.{place_in, entry_of, parent_of}
 use Rattle.idoc_tree.specs.declared.fault.SyntaxFault.{SyntaxFault}
 use Rattle.idoc_tree.specs.declared.fault.SyntaxFault.TheVariants.{UnknownSegment, Misplaced, TooMany, Missing, OutOfMemory}
-use Rattle.idoc_tree.specs.Forest.{Item, Forest, count_of}
-use Rattle.idoc_tree.specs.Spells.{item_of, Spells}
+use Rattle.idoc_tree.specs.Forest.{Segment, Forest, count_of}
+use Rattle.idoc_tree.specs.Spells.{segment_of, Spells}
 use Rattle.idoc_tree.specs.Valid.{Family, families, Fits, Suffices, HasEnough, Lacks, IsValid}
-use Rattle.idoc_tree.specs.Growing.{siblings, has_later}
+use Rattle.idoc_tree.specs.Siblings.{siblings, has_later}
 
 -- the lines spell the forest, and its families stand in order, with no type too often
 pub record SpellsInOrder (definitions : Definitions) (entries : List TypePlace) (lines : List DataRecord) (forest : Forest) : Type 0 where
@@ -21,38 +21,38 @@ pub record SpellsInOrder (definitions : Definitions) (entries : List TypePlace) 
 
 -- a segment type can't come next: the IDoc type lacks it, no segment of the type above it is open, or a sibling of a
 -- later type stands before it
-pub data IsMisplaced (entries : List TypePlace) (forest : Forest) (segment : ℕ) : Type 0 where
+pub data IsMisplaced (entries : List TypePlace) (forest : Forest) (type : ℕ) : Type 0 where
   foreign :
-      parent_of entries segment ≡ None
-      → IsMisplaced entries forest segment
+      parent_of entries type ≡ None
+      → IsMisplaced entries forest type
   closed :
-      (above : Option ℕ) → parent_of entries segment ≡ Some above → siblings above forest ≡ None
-      → IsMisplaced entries forest segment
+      (above : Option ℕ) → parent_of entries type ≡ Some above → siblings above forest ≡ None
+      → IsMisplaced entries forest type
   late :
-      (above : Option ℕ) (among : List Item) → parent_of entries segment ≡ Some above → siblings above forest ≡ Some among
-      → has_later entries (place_in entries segment) among ≡ true
-      → IsMisplaced entries forest segment
+      (above : Option ℕ) (among : List Segment) → parent_of entries type ≡ Some above → siblings above forest ≡ Some among
+      → has_later entries (place_in entries type) among ≡ true
+      → IsMisplaced entries forest type
 
 -- a segment type could come next, but there are as many of it among its siblings as may be
-pub record IsTooMany (entries : List TypePlace) (forest : Forest) (segment : ℕ) : Type 0 where
+pub record IsTooMany (entries : List TypePlace) (forest : Forest) (type : ℕ) : Type 0 where
   pub entry : TypePlace
-  pub entry_at : entry_of entries segment ≡ Some entry
+  pub entry_at : entry_of entries type ≡ Some entry
   pub above : Option ℕ
-  pub parent : parent_of entries segment ≡ Some above
-  pub among : List Item
+  pub parent : parent_of entries type ≡ Some above
+  pub among : List Segment
   pub siblings_are : siblings above forest ≡ Some among
-  pub in_time : has_later entries (place_in entries segment) among ≡ false
-  pub full : entry.max ≤ count_of segment among
+  pub in_time : has_later entries (place_in entries type) among ≡ false
+  pub full : entry.max ≤ count_of type among
 
 -- the name of a record stands for nothing
 abbrev pub IsUnknown : Definitions → Forest → DataRecord → Type 0
-IsUnknown definitions forest line = item_of definitions line ≡ None
+IsUnknown definitions forest line = segment_of definitions line ≡ None
 
 -- the segment of a record is wrong behind the forest of the records before it
 pub record Faulty (definitions : Definitions) (IsWrong : Forest → ℕ → Type 0) (forest : Forest) (line : DataRecord) : Type 0 where
-  pub item : Item
-  pub known : item_of definitions line ≡ Some item
-  pub wrong : IsWrong forest item.segment
+  pub segment : Segment
+  pub known : segment_of definitions line ≡ Some segment
+  pub wrong : IsWrong forest segment.type
 
 -- the records before this one spell a forest in order, and this one is wrong behind it
 pub record IsRefusedAt (definitions : Definitions) (entries : List TypePlace) (lines : List DataRecord) (number : ℕ)

@@ -1,8 +1,15 @@
+-- trees as data, and the nodes of a document as such
 pub mod Forest
 pub mod Nodes
+-- what data records spell
 pub mod Spells
+-- what an IDoc type asks of the segments below one segment
 pub mod Valid
-pub mod Lacking
-pub mod Growing
+-- beside which segments the next one would stand
+pub mod Siblings
+-- what is made of data records: their forest, or their first fault
 pub mod Builds
+-- the data records of a forest
 pub mod Lines
+-- copies of steps
+pub mod steps

@@ -3,11 +3,11 @@ use Rattle.std.specs.Prelude.{List, [], ◌∷◌, map}
 use Rattle.idoc_tree.specs.declared.node.Node.{Node}
 use Rattle.idoc_tree.specs.declared.node.Node.TheOpen.{Node-F}
 use Rattle.idoc_tree.specs.declared.node.Node.TheFolds.{fold-Node}
-use Rattle.idoc_tree.specs.Forest.{Item, Forest, no_trees, tree}
+use Rattle.idoc_tree.specs.Forest.{Segment, Forest, no_trees, tree}
 
 -- a tree: its root, and the forest below it
 pub record Tree : Type 0 where
-  pub root : Item
+  pub root : Segment
   pub below : Forest
 
 -- trees one after another
@@ -19,7 +19,7 @@ in_line (first ∷ others) = tree first.root first.below (in_line others)
 abbrev pub tree_step : Node-F Tree → Tree
 tree_step node =
     record {
-      root = record { segment = node.segment; version = node.version; sdata = node.sdata };
+      root = record { type = node.segment; version = node.version; sdata = node.sdata };
       below = in_line node.children.items;
     }
 

@@ -3,28 +3,28 @@ use Rattle.std.specs.Prelude.{◌≡◌, ℕ, ◌<◌, ◌≤◌, true, List, []
 use Rattle.std.specs.List.{AllByRecursion}
 use Rattle.segment_defs.specs.declared.idoc_type.TypePlace.{TypePlace}
 use Rattle.segment_defs.specs.IdocType.{place_in, type_above}
-use Rattle.idoc_tree.specs.Forest.{Item, Forest, no_trees, tree, roots, count_of}
+use Rattle.idoc_tree.specs.Forest.{Segment, Forest, no_trees, tree, roots, count_of}
 
 -- a family: the segments right below one segment, whose type is `above`, or the roots of a document, above which is none
 pub record Family : Type 0 where
   pub above : Option ℕ
-  pub children : List Item
+  pub children : List Segment
 
 -- the families below each segment, in preorder
 abbrev pub families_below : Forest → List Family
 families_below no_trees = []
 families_below (tree root below after) =
-    record { above = Some root.segment; children = roots below } ∷ (families_below below ++ families_below after)
+    record { above = Some root.type; children = roots below } ∷ (families_below below ++ families_below after)
 
 -- a family with those below it. In that of a document's roots, number 0, the family of segment k is number k.
 abbrev pub families : Option ℕ → Forest → List Family
 families above forest = record { above = above; children = roots forest } ∷ families_below forest
 
 -- the segments stand in the order of their entries
-abbrev pub IsOrdered : List TypePlace → List Item → Type 0
+abbrev pub IsOrdered : List TypePlace → List Segment → Type 0
 IsOrdered entries [] = Unit {0}
-IsOrdered entries (item ∷ items) =
-    AllByRecursion (λ other. place_in entries item.segment ≤ place_in entries other.segment) items × IsOrdered entries items
+IsOrdered entries (segment ∷ segments) =
+    AllByRecursion (λ other. place_in entries segment.type ≤ place_in entries other.type) segments × IsOrdered entries segments
 
 -- the segments of a family stand in order, and none of their types occurs too often
 pub record Fits (entries : List TypePlace) (family : Family) : Type 0 where

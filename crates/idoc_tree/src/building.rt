@@ -1,3 +1,5 @@
+//! The document that data records make, or their first fault.
+
 ghost use Rattle.std.specs.Prelude.{◌≡◌, ◌≢◌, List, Ok, Err, IfOk, Result};
 ghost use Rattle.segment_defs.specs.Definitions.{AreDefinitions};
 ghost use Rattle.segment_defs.specs.IdocType.{IsIdocType};
@@ -7,10 +9,10 @@ ghost use Rattle.idoc_tree.specs.Spells.{Spells};
 ghost use Rattle.idoc_tree.specs.Lines.{IsNode, IsFitted};
 ghost use Rattle.idoc_tree.specs.Builds.{Builds};
 
-use crate::growing::{grow, told};
+use crate::growing::grow;
 use crate::lacking::first_lack;
-use crate::node::copied;
 use crate::{Doc, Node, SyntaxFault};
+use ale_base::{Items, told_length};
 use idoc_record::{Control, Data};
 use segment_defs::{Definitions, IdocType};
 use std::alloc::Global;
@@ -71,8 +73,8 @@ fn grow_all(
     let mut number = 0;
     if let Some(segment) = first_lack(ty, None, &forest, &mut number) {
         let place = segment.0;
-        let name = copied(alloc, definitions.types[usize::from(place)].name.as_slice())?;
-        return Err(SyntaxFault::Missing(name, told(number)));
+        let name = Items::from_slice(alloc, definitions.types[usize::from(place)].name.as_slice())?;
+        return Err(SyntaxFault::Missing(name, told_length(number)));
     }
     Ok(forest)
 }

@@ -1,3 +1,5 @@
+//! Why data records are no document of an IDoc type.
+
 use ale_base::{Items, OutOfMemory};
 use thiserror::Error;
 

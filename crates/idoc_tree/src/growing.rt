@@ -1,18 +1,19 @@
+//! One record more: where its segment hangs behind those before it, or what is wrong with it.
+
 ghost use Rattle.std.specs.Prelude.{◌≡◌, ◌≢◌, ◌≤◌, ℕ, true, false, List, Some, Ok, Err, IsSome, OnOk, IfOk, nat_le};
 ghost use Rattle.std.specs.Option.{option_map};
 ghost use Rattle.std.specs.List.{AllByRecursion};
-ghost use Rattle.ale_base.specs.Text.{told_length};
 ghost use Rattle.segment_defs.specs.Definitions.{AreDefinitions, HasVersion};
 ghost use Rattle.segment_defs.specs.IdocType.{IsIdocType};
 ghost use Rattle.idoc_tree.specs.Forest.{no_trees, roots, count_of};
 ghost use Rattle.idoc_tree.specs.Nodes.{tree_of, forest_of};
-ghost use Rattle.idoc_tree.specs.Spells.{item_found};
+ghost use Rattle.idoc_tree.specs.Spells.{segment_found};
 ghost use Rattle.idoc_tree.specs.Valid.{IsOrdered, Fits, families};
-ghost use Rattle.idoc_tree.specs.Growing.{children_of_open, siblings, hung_below, hung, has_later, AreLast, grown};
+ghost use Rattle.idoc_tree.specs.Siblings.{children_of_open, siblings, has_later};
+ghost use Rattle.idoc_tree.specs.steps.Growing.{hung_below, hung, AreLast, grown};
 
-use crate::node::copied;
 use crate::{Node, SyntaxFault};
-use ale_base::OutOfMemory;
+use ale_base::{Items, OutOfMemory, told_length};
 use idoc_record::Data;
 use segment_defs::{Definitions, IdocType, TypeNo, VersionNo};
 use std::alloc::Global;
@@ -35,32 +36,26 @@ pub(crate) fn grow(
         → grown definitions.now ty.now.segments number line.now (forest_of forest.old.items) ≡ Err fault }
 {
     let Some(found) = definitions.find(line.segnam.trimmed()) else {
-        return Err(SyntaxFault::UnknownSegment(told(number)));
+        return Err(SyntaxFault::UnknownSegment(told_length(number)));
     };
     let (segment, version) = found;
     let Some(entry) = ty.entry(segment) else {
-        return Err(SyntaxFault::Misplaced(told(number)));
+        return Err(SyntaxFault::Misplaced(told_length(number)));
     };
     let above = ty.type_above(entry);
     let Some(among) = siblings(forest, &above) else {
-        return Err(SyntaxFault::Misplaced(told(number)));
+        return Err(SyntaxFault::Misplaced(told_length(number)));
     };
+    // Siblings stand in the order of their entries, so one of a later type ends the room for this one.
     if has_later(ty, among, ty.place_of(segment)) {
-        return Err(SyntaxFault::Misplaced(told(number)));
+        return Err(SyntaxFault::Misplaced(told_length(number)));
     }
     if is_full(among, segment, entry.max) {
-        return Err(SyntaxFault::TooMany(told(number)));
+        return Err(SyntaxFault::TooMany(told_length(number)));
     }
     let node = leaf(alloc, definitions, segment, version, line.sdata.as_slice())?;
     hang(forest, above, node)?;
     Ok(())
-}
-
-/// The number of a record as a fault tells it.
-pub(crate) fn told(number: usize) -> u32
-    ensures { result ≡ told_length number }
-{
-    u32::try_from(number).unwrap_or(u32::MAX)
 }
 
 /// The siblings that the next node would have below the open node of a segment type, or as a root.
@@ -103,6 +98,7 @@ fn is_full(among: &[Node], segment: TypeNo, max: u32) -> bool
     requires last { AreLast segment (roots (forest_of among.now)) }
     ensures { result ≡ nat_le max (count_of segment (roots (forest_of among.now))) }
 {
+    // Those of the type are the last ones, so the one that is `max` places from the end tells.
     let max = max as usize;
     max <= among.len() && among[among.len() - max].segment == segment
 }
@@ -118,14 +114,14 @@ fn leaf(
     requires definitions { AreDefinitions definitions.now }
     requires exists { HasVersion definitions.now segment version }
     ensures root { IfOk result (λ node.
-        (tree_of node).root ≡ item_found definitions.now sdata.now (segment, version)) }
+        (tree_of node).root ≡ segment_found definitions.now sdata.now (segment, version)) }
     ensures bare { IfOk result (λ node. (tree_of node).below ≡ no_trees) }
 {
     let definition = definitions.version(segment, version);
     Ok(Node {
         segment,
         version,
-        sdata: copied(alloc, definition.fitted(sdata))?,
+        sdata: Items::from_slice(alloc, definition.fitted(sdata))?,
         children: Vec::new(alloc),
     })
 }

@@ -1,9 +1,11 @@
+//! The first segment that has too few segments of a mandatory type below it.
+
 ghost use Rattle.std.specs.Prelude.{◌≡◌, ◌+◌, ◌-◌, ◌<◌, ◌^◌, ℕ, List, length, Some, None, MatchOption};
 ghost use Rattle.segment_defs.specs.IdocType.{type_above};
 ghost use Rattle.idoc_tree.specs.Forest.{preorder, roots, count_of};
 ghost use Rattle.idoc_tree.specs.Nodes.{forest_of};
 ghost use Rattle.idoc_tree.specs.Valid.{families};
-ghost use Rattle.idoc_tree.specs.Lacking.{is_same, is_lacking, lack_of, first_lack};
+ghost use Rattle.idoc_tree.specs.steps.Lacking.{is_same, is_lacking, lack_of, first_lack};
 
 use crate::Node;
 use segment_defs::{IdocType, TypeNo, TypePlace};

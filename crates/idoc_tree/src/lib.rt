@@ -3,7 +3,8 @@
 //! Contract: data records become the forest that they spell exactly where it is valid by the IDoc type, and else have
 //! their first fault named; and a forest becomes its data records, which spell it again where it hangs together and its
 //! data fit their definitions. The definitions are in `specs/`: `Forest` and `Nodes` (trees as data), `Spells`, `Valid`,
-//! `Builds`, `Lines`, `Growing` (what one more record meets, and what it makes), and for what is private `Lacking`.
+//! `Siblings` (beside which segments the next one would stand), `Builds`, `Lines`; those in `specs/steps/` serve private
+//! functions alone.
 #![tactic(auto)]
 
 mod building;

@@ -1,3 +1,5 @@
+//! The data records of a document.
+
 ghost use Rattle.std.specs.Prelude.{◌≡◌, ◌++◌, ℕ, List, None, Ok, IfOk, OnOk, map};
 ghost use Rattle.segment_defs.specs.declared.idoc_type.TypePlace.{TypePlace};
 ghost use Rattle.segment_defs.specs.Definitions.{AreDefinitions};
@@ -8,9 +10,8 @@ ghost use Rattle.idoc_tree.specs.Valid.{IsValid};
 ghost use Rattle.idoc_tree.specs.Builds.{Builds};
 ghost use Rattle.idoc_tree.specs.Lines.{IsNode, IsFitted, line_of, lines_of};
 
-use crate::node::copied;
 use crate::{Doc, Node};
-use ale_base::{Fixed, OutOfMemory};
+use ale_base::{Fixed, Items, OutOfMemory};
 use idoc_record::Data;
 use segment_defs::Definitions;
 use std::alloc::Global;
@@ -71,7 +72,7 @@ fn line_of(alloc: Global, definitions: &Definitions, node: &Node) -> Result<Data
         None => unreachable!(),
         Some(segnam) => Ok(Data {
             segnam,
-            sdata: copied(alloc, node.sdata.as_slice())?,
+            sdata: Items::from_slice(alloc, node.sdata.as_slice())?,
         }),
     }
 }

@@ -1,9 +1,8 @@
-ghost use Rattle.std.specs.Prelude.{◌≡◌, IfOk};
+//! A document as a tree of its segments.
 
-use ale_base::{Items, OutOfMemory};
+use ale_base::Items;
 use idoc_record::Control;
 use segment_defs::{TypeNo, VersionNo};
-use std::alloc::Global;
 
 /// A segment of a document, with the segments below it.
 #[derive(Debug, Drop)]
@@ -25,11 +24,4 @@ pub struct Doc {
     pub control: Control,
     /// The segments at the root level, in order.
     pub forest: Vec<Node>,
-}
-
-/// A copy of some bytes.
-pub(crate) fn copied(alloc: Global, bytes: &[u8]) -> Result<Items<u8>, OutOfMemory>
-    ensures { IfOk result (λ copy. copy ≡ bytes.now) }
-{
-    Ok(Items::from_vec(Vec::from_slice(alloc, bytes)?))
 }

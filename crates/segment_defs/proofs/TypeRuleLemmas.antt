@@ -57,6 +57,7 @@ upward_from-first parent (place ∷ path) has = (elim (eqb place parent) as (λ 
 pub upward_from-some : (parent : ℕ) (path : List ℕ) → Contains path parent → 1 ≤ length (upward_from parent path)
 upward_from-some parent path has = slice_get_within (upward_from parent path) 0 parent (upward_from-first parent path has)
 
+-- an entry above which something stands on a path is on the path
 pub Contains-from_some : (parent : ℕ) (path : List ℕ) → 1 ≤ length (upward_from parent path) → Contains path parent
 Contains-from_some parent [] some = absurd (omega arith)
 Contains-from_some parent (place ∷ path) some = (elim (eqb place parent) as (λ same. (eqb place parent ≡ same) → 1 ≤ length (cond same (place ∷ path) (upward_from parent path)) → Contains (place ∷ path) parent) [
@@ -78,6 +79,7 @@ path_behind-upward_at entries place before (entry ∷ rest) cut ordered up =
     let next = path_of-upward entries place before entry.parent (entry, parts.0, refl) ordered.0 up in
     IsUpward-before entries (suc place + length rest) (place + suc (length rest)) _ (omega arith) (path_behind-upward_at entries (suc place) (path_of place entry.parent before) rest parts.1 ordered.2 next)
 
+-- the path behind entries in preorder goes upward from the last one
 pub path_behind-upward : (entries : List TypePlace) → IsPreorder 0 [] entries → IsUpward entries (length entries) (path_behind 0 [] entries)
 path_behind-upward entries ordered =
     IsUpward-before entries (0 + length entries) (length entries) _ (omega arith) (path_behind-upward_at entries 0 [] entries refl ordered tt)
@@ -112,6 +114,7 @@ last-first (entry ∷ rest) None last = absurd (last (omega arith))
 last-first (entry ∷ rest) (Some place) last =
     ap Some (omega (arith, last.1)) ∙ sym (path_behind-first_at 0 [] entry rest)
 
+-- a walk over the entries upward begins at the last one, where there is one
 pub walk-begins : (entries : List TypePlace) (place : ℕ) (above : Option ℕ) → IsPreorder 0 [] entries → SomeIff above (1 ≤ length entries) (length entries - 1) → IsWalk entries place 0 above (path_behind 0 [] entries)
 walk-begins entries place above ordered last = let up = path_behind-upward entries ordered in record {
   path = path_behind 0 [] entries;
@@ -152,6 +155,7 @@ module _ (entries : List TypePlace) (place levels at : ℕ) (whole : List ℕ) (
   split : (rest : List ℕ) × (walk.path ≡ at ∷ rest)
   split = slice_get-first walk.path at (sym walk.next ∙ is)
 
+  -- where a walk goes on, it is at an entry of the list
   pub walk-within : at < length entries
   walk-within = let up = subst (IsUpward entries (length entries)) split.1 walk.up in up.0
 
@@ -190,6 +194,7 @@ module _ (entries : List TypePlace) (place levels at : ℕ) (whole : List ℕ) (
       right = counted-same place levels at now.rest none other ∙ now.right;
     }
 
+    -- a walk has fewer entries left at each step
     pub walk-smaller : left_above parent < left_above above
     walk-smaller = let now = at_parent entry here parent same in rw (is, now.next) (left-below entries at now.rest now.up)
 
@@ -203,6 +208,7 @@ abbrev CanFollow : ℕ → List ℕ → Option ℕ → Type 0
 CanFollow place before parent =
     ForSome parent (Contains before) × (length (path_of place parent before) ≤ 99)
 
+-- an entry with a parent can follow exactly where the walk met the parent, not too deep
 pub can_follow-decided : (place parent : ℕ) (before : List ℕ) (r : Bool) → (r ≡ true) ↔ ((1 ≤ length (upward_from parent before)) × (length (upward_from parent before) ≤ 98)) → (r ≡ true) ↔ CanFollow place before (Some parent)
 can_follow-decided place parent before r decided = (
   λ is. let small = decided.0 is in (

@@ -5,7 +5,7 @@ use Rattle.segment_defs.specs.IdocType.{IsEntry}
 use Rattle.idoc_tree.specs.declared.fault.SyntaxFault.{SyntaxFault}
 use Rattle.idoc_tree.specs.Nodes.{forest_of}
 use Rattle.idoc_tree.specs.Valid.{families}
-use Rattle.idoc_tree.specs.Lacking.{first_lack}
+use Rattle.idoc_tree.specs.steps.Lacking.{first_lack}
 use Rattle.idoc_tree.specs.Builds.{IsFirstFault, SpellsInOrder}
 use Rattle.ale_base.proofs.ListLemmas.{AllByRecursion-weaker}
 use Rattle.ale_base.specs.Text.{told_length}
@@ -35,7 +35,7 @@ index-requires c =
     let entries = c.args.ty.now.segments in
     let lack = c.in-Some.ensures.some c.in-Some.segment refl in
     subst (λ n. n < length definitions.types) (sym (c.from.ensures ∙ c.segment.view_is))
-    (first_lack-known (λ segment. segment < length definitions.types) entries (families None (forest_of c.deref.result.now)) c.in-Some.segment lack.0
+    (first_lack-known (λ type. type < length definitions.types) entries (families None (forest_of c.deref.result.now)) c.in-Some.segment lack.0
     (AllByRecursion-weaker (IsEntry definitions) (λ entry. entry.segment < length definitions.types) entries (λ entry kept. kept.known) c.requires.kept.each) lack.2)
 
 pub returns-in-Some-clause-first_fault : goal.returns-in-Some-clause-first_fault
@@ -44,14 +44,14 @@ returns-in-Some-clause-first_fault c = λ fault returned other.
     let entries = c.args.ty.now.segments in
     let lines = c.args.lines.now in
     let lack = c.in-Some.ensures.some c.in-Some.segment refl in
-    let same : ◌≡◌ {A = SyntaxFault} (Missing c.in_ok-name.name c.told.result) fault = same_fault (Missing c.in_ok-name.name c.told.result) fault returned in
+    let same : ◌≡◌ {A = SyntaxFault} (Missing c.in_ok-name.name c.told_length.result) fault = same_fault (Missing c.in_ok-name.name c.told_length.result) fault returned in
     subst (IsFirstFault definitions entries lines) same
-    (missing_of_all definitions entries lines (forest_of c.loop-index.forest.items) c.in-Some.segment lack.0 c.index.result.now c.in_ok-name.name c.told.result
+    (missing_of_all definitions entries lines (forest_of c.loop-index.forest.items) c.in-Some.segment lack.0 c.index.result.now c.in_ok-name.name c.told_length.result
     (all_stand definitions entries lines c.loop-index.index (forest_of c.loop-index.forest.items) c.loop-index-test.false c.loop-index.invariant)
     (sym (ap (λ nodes. first_lack entries (families None (forest_of nodes))) c.deref.ensures.value) ∙ lack.2)
     (ap (slice_get definitions.types) (sym (c.from.ensures ∙ c.segment.view_is)) ∙ c.index.ensures)
     (c.in_ok-name.ensures ∙ c.as_slice.ensures)
-    (c.told.ensures ∙ ap told_length (lack.1 ∙ zero-add lack.0)))
+    (c.told_length.ensures ∙ ap told_length (lack.1 ∙ zero-add lack.0)))
 
 stood : (c : In_default) → SpellsInOrder c.args.definitions.now c.args.ty.now.segments c.args.lines.now (forest_of c.loop-index.forest.items)
 stood c = all_stand c.args.definitions.now c.args.ty.now.segments c.args.lines.now c.loop-index.index (forest_of c.loop-index.forest.items) c.loop-index-test.false c.loop-index.invariant

@@ -3,8 +3,8 @@ use Rattle.std.proofs.Common.{sym, ap, ◌∙◌, Some, arith}
 use Rattle.std.proofs.lemmas.Option.{slice_get_within}
 use Rattle.idoc_tree.specs.Forest.{roots}
 use Rattle.idoc_tree.specs.Nodes.{forest_of}
-use Rattle.idoc_tree.specs.Growing.{children_of_open}
-use Rattle.idoc_tree.proofs.GrowingLemmas.{children_of_open-found, children_of_open-deeper}
+use Rattle.idoc_tree.specs.Siblings.{children_of_open}
+use Rattle.idoc_tree.proofs.LastNodeLemmas.{children_of_open-found, children_of_open-deeper}
 use Rattle.idoc_tree.proofs.growing.+children_of_open.Goals as goal
 
 pub returns-then-eq : goal.returns-then-eq

@@ -4,7 +4,7 @@ use Rattle.std.proofs.lemmas.Result.{on_ok_weaker}
 use Rattle.idoc_tree.specs.Forest.{no_trees, tree, joined}
 use Rattle.idoc_tree.specs.Nodes.{forest_of, tree_of}
 use Rattle.idoc_tree.proofs.NodeLemmas.{forest_of-snoc}
-use Rattle.idoc_tree.proofs.GrowingLemmas.{last_open, fewer_below, children_of_open-deeper, hung_below-found, hung_below-deeper}
+use Rattle.idoc_tree.proofs.LastNodeLemmas.{last_open, fewer_below, children_of_open-deeper, hung_below-found, hung_below-deeper}
 use Rattle.idoc_tree.specs.declared.node.Node.TheViews.{out-Node}
 use Rattle.idoc_tree.proofs.growing.+hang_below.Goals as goal
 

@@ -5,7 +5,7 @@ use Rattle.segment_defs.proofs.DefinitionsLemmas.{found-HasVersion}
 use Rattle.idoc_tree.specs.Forest.{roots}
 use Rattle.idoc_tree.specs.Nodes.{forest_of}
 use Rattle.idoc_tree.specs.Valid.{Fits, IsOrdered}
-use Rattle.idoc_tree.specs.Growing.{siblings, has_later}
+use Rattle.idoc_tree.specs.Siblings.{siblings, has_later}
 use Rattle.ale_base.proofs.ListLemmas.{AllByRecursion-at}
 use Rattle.idoc_tree.proofs.FamilyLemmas.{none_later}
 use Rattle.idoc_tree.proofs.SpellsLemmas.{sibling_family}
@@ -33,11 +33,11 @@ is_full-requires-clause-least c =
 pub is_full-requires-clause-last : goal.is_full-requires-clause-last
 is_full-requires-clause-last c =
     let entries = c.args.ty.now.segments in
-    let segment = c.in-Some.found.0 in
+    let type = c.in-Some.found.0 in
     let among = roots (forest_of c.in-Some-siblings.among.now) in
-    AreLast-ordered entries segment among (slice_get_within entries (place_in entries segment) c.in-Some-entry.entry.now (sym c.in-Some-entry.ensures))
+    AreLast-ordered entries type among (slice_get_within entries (place_in entries type) c.in-Some-entry.entry.now (sym c.in-Some-entry.ensures))
     (ordered (goal.at.is_full-requires-clause-last c).After-place_of)
-    (none_later entries (place_in entries segment) among (sym (ap (λ place. has_later entries place among) c.place_of.ensures) ∙ sym c.has_later.ensures ∙ c.if-has_later.false))
+    (none_later entries (place_in entries type) among (sym (ap (λ place. has_later entries place among) c.place_of.ensures) ∙ sym c.has_later.ensures ∙ c.if-has_later.false))
 
 pub leaf-requires-clause-exists : goal.leaf-requires-clause-exists
 leaf-requires-clause-exists c =

@@ -1,7 +1,7 @@
 use Rattle.std.proofs.Common.{◌∙◌, sym, ap}
 use Rattle.idoc_tree.specs.Forest.{no_trees, tree, joined}
 use Rattle.idoc_tree.specs.Nodes.{forest_of, tree_of}
-use Rattle.idoc_tree.specs.Growing.{hung}
+use Rattle.idoc_tree.specs.steps.Growing.{hung}
 use Rattle.idoc_tree.proofs.NodeLemmas.{forest_of-snoc}
 use Rattle.idoc_tree.proofs.growing.hang.Goals as goal
 

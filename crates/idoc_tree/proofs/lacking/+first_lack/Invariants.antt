@@ -2,7 +2,7 @@ use Rattle.std.proofs.Common.{◌≡◌, ◌+◌, ◌-◌, ◌≤◌, length, dr
 use Rattle.idoc_tree.specs.Forest.{preorder}
 use Rattle.idoc_tree.specs.Nodes.{forest_of}
 use Rattle.idoc_tree.specs.Valid.{families_below}
-use Rattle.idoc_tree.specs.Lacking.{first_lack}
+use Rattle.idoc_tree.specs.steps.Lacking.{first_lack}
 use Rattle.idoc_tree.proofs.LackLemmas.{shifted}
 use Rattle.idoc_tree.proofs.lacking.+first_lack.Given as goal
 

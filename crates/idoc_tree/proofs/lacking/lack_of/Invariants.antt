@@ -2,7 +2,7 @@ use Rattle.std.proofs.Common.{◌≡◌, drop}
 use Rattle.idoc_tree.specs.Forest.{roots}
 use Rattle.idoc_tree.specs.Nodes.{forest_of}
 use Rattle.idoc_tree.specs.Valid.{Family}
-use Rattle.idoc_tree.specs.Lacking.{lack_among, lack_of}
+use Rattle.idoc_tree.specs.steps.Lacking.{lack_among, lack_of}
 use Rattle.idoc_tree.proofs.lacking.lack_of.Given as goal
 
 abbrev pub invariant-loop-entry : goal.invariant-loop-entry

@@ -1,4 +1,4 @@
--- What families lack, as it is looked for.
+-- What families lack, as it is looked for: one step on the way to `IsMissing` of `Builds`.
 use Rattle.std.specs.Prelude.{ℕ, suc, ◌==◌, ◌&&◌, Bool, true, false, nat_lt, List, [], ◌∷◌, Option, Some, None, if◌then◌else◌}
 use Rattle.std.specs.Option.{option_map}
 use Rattle.segment_defs.specs.declared.idoc_type.TypePlace.{TypePlace}
@@ -10,8 +10,8 @@ use Rattle.idoc_tree.specs.Valid.{Family}
 abbrev pub is_same : Option ℕ → Option ℕ → Bool
 is_same None None = true
 is_same None (Some other) = false
-is_same (Some segment) None = false
-is_same (Some segment) (Some other) = segment == other
+is_same (Some type) None = false
+is_same (Some type) (Some other) = type == other
 
 -- an entry is mandatory in a family and has too few segments there
 abbrev pub is_lacking : List TypePlace → Family → TypePlace → Bool
@@ -32,7 +32,7 @@ lack_of entries family = lack_among entries family entries
 -- what the first family lacks, or else a later one
 abbrev pub lack_or_later : Option ℕ → Option (ℕ × ℕ) → Option (ℕ × ℕ)
 lack_or_later None later = option_map (λ lack. (lack.0, suc lack.1)) later
-lack_or_later (Some segment) later = Some (segment, 0)
+lack_or_later (Some type) later = Some (type, 0)
 
 -- the first family that lacks a type: that type, and the place of the family
 abbrev pub first_lack : List TypePlace → List Family → Option (ℕ × ℕ)
