@@ -5,6 +5,7 @@ use Rattle.std.proofs.lemmas.List.{length-take, take_min, take_rest}
 use Rattle.ale_base.specs.Blanks.{trimmed, padded}
 use Rattle.ale_base.specs.TrimmedLemmas.{trimmed-take-padded, trimmed-drop-padded, trimmed-trimmed, length-trimmed, length-padded}
 use Rattle.idoc_record.specs.Parts.{part, text_at}
+use Rattle.idoc_record.proofs.PartLemmas.{length-text_at}
 use Rattle.idoc_record.specs.Data.{DataRecord, segnam, sdata, is_no_segment, IsDataLine}
 
 -- the name stands at the front
@@ -18,10 +19,6 @@ text_at-sdata text fits =
     let rest : take 1000 (drop 63 bytes) ≡ drop 63 bytes = subst (λ (n : ℕ). take (n - 63) (drop 63 bytes) ≡ drop 63 bytes) (length-padded 1063 text fits) (take_rest bytes 63) in
     ap trimmed rest ∙ trimmed-drop-padded 63 1063 text
 
-length-text_at : (offset count : ℕ) (bytes : List ℕ) → length (trimmed (take count (drop offset bytes))) ≤ count
-length-text_at offset count bytes =
-    omega (arith, length-trimmed (take count (drop offset bytes)), length-take count (drop offset bytes))
-
 -- what is read from a line is its data record
 pub IsDataLine-read : (line : List ℕ) (data_record : DataRecord) → length (trimmed line) ≤ 1063 → is_no_segment data_record.segnam ≡ false
     → data_record.segnam ≡ text_at segnam (padded 1063 (trimmed line)) → data_record.sdata ≡ text_at sdata (padded 1063 (trimmed line)) → IsDataLine line data_record
@@ -30,10 +27,10 @@ IsDataLine-read line data_record fits named is_segnam is_sdata = record {
   segnam = is_segnam;
   sdata = is_sdata;
   kept = record {
-    named = subst (λ (text : List ℕ). length text ≤ 30) (sym is_segnam) (length-text_at 0 30 (padded 1063 (trimmed line)));
+    named = subst (λ (text : List ℕ). length text ≤ 30) (sym is_segnam) (length-text_at segnam (padded 1063 (trimmed line)));
     segnam = ap not named;
     ends = subst (λ (text : List ℕ). trimmed text ≡ text) (sym is_segnam) (trimmed-trimmed (part segnam (padded 1063 (trimmed line))));
-    fits = subst (λ (text : List ℕ). length text ≤ 1000) (sym is_sdata) (length-text_at 63 1000 (padded 1063 (trimmed line)));
+    fits = subst (λ (text : List ℕ). length text ≤ 1000) (sym is_sdata) (length-text_at sdata (padded 1063 (trimmed line)));
     sdata = subst (λ (text : List ℕ). trimmed text ≡ text) (sym is_sdata) (trimmed-trimmed (part sdata (padded 1063 (trimmed line))));
   };
 }

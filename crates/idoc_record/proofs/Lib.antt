@@ -4,3 +4,4 @@ pub mod PartLemmas
 pub mod ControlLemmas
 -- the two texts of a data line
 pub mod DataLemmas
+pub mod WrittenLemmas

@@ -5,7 +5,7 @@ use Rattle.std.proofs.lemmas.Slice.{drop-append-drop}
 use Rattle.std.proofs.Math.Seq.{drop-append_seam, take-append_seam}
 use Rattle.std.proofs.lemmas.Bool.{leb-true, or_cases}
 use Rattle.ale_base.specs.Blanks.{trimmed, padded}
-use Rattle.ale_base.specs.TrimmedLemmas.{trimmed-padded, length-padded}
+use Rattle.ale_base.specs.TrimmedLemmas.{trimmed-padded, length-padded, length-trimmed}
 use Rattle.idoc_record.specs.declared.span.Span.{Span}
 use Rattle.idoc_record.specs.Parts.{part, text_at, with_text}
 
@@ -19,6 +19,10 @@ part_of-front offset count front rest fits =
     let within : offset ≤ length front = omega arith in
     let room : count ≤ length (drop offset front) = simp length-drop (omega arith) in
     rw (drop-append-le, take-append-le) refl
+
+-- a text is no longer than its place
+pub length-text_at : (p : Span) (bytes : List ℕ) → length (text_at p bytes) ≤ p.length
+length-text_at p bytes = omega (arith, length-trimmed (part p bytes), length-take p.length (drop p.offset bytes))
 
 -- the record keeps its length
 pub length-with_text : (p : Span) (text bytes : List ℕ) → length text ≤ p.length → p.offset + p.length ≤ length bytes → length (with_text p text bytes) ≡ length bytes

@@ -4,3 +4,6 @@ pub mod ControlField
 -- the two records, and how lines are read as them
 pub mod Control
 pub mod Data
+-- numbers in digits of a fixed count, and the bytes of a data record that is written
+pub mod Digits
+pub mod Written

@@ -34,7 +34,7 @@ impl Control {
     ghost use Rattle.ale_base.specs.Blanks.{trimmed};
     ghost use Rattle.idoc_record.specs.ControlField.{span_of};
     ghost use Rattle.idoc_record.specs.Parts.{with_text};
-    ghost use Rattle.idoc_record.specs.Control.{IsControl, IsAllowed, field_of};
+    ghost use Rattle.idoc_record.specs.Control.{IsControl, IsControlLine, IsAllowed, field_of};
 
     /// The length of the record, in bytes.
     pub const LEN: usize = 524;
@@ -42,9 +42,18 @@ impl Control {
     /// The text of a field, without the blanks at its end.
     pub fn get(&self, field: ControlField) -> &[u8]
         ensures text { result.now ≡ field_of self.now field }
+        ensures fits { length result.now ≤ (span_of field).length }
         ensures record { IsControl self.now }
     {
         field_of(&self.bytes, field)
+    }
+
+    /// The bytes of the record.
+    pub(crate) fn bytes(&self) -> &[u8]
+        ensures bytes { result.now ≡ self.now }
+        ensures line { IsControlLine self.now self.now }
+    {
+        &self.bytes
     }
 
     /// Writes the text of a field. The rest of the record stays.
