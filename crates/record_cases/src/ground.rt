@@ -1,0 +1,145 @@
+//! Items on the crate at the ground: systems, transaction ids, texts of a fixed width, names of queues, lengths, changes.
+
+use crate::answer::Answer;
+use crate::lists;
+use crate::rules::NO_SUCH_NUMBER;
+use crate::text::{line_of, plain, put_line, put_pair};
+use ale_base::{Change, FieldValue, Fixed, Items, QueueName, SystemNo, Tid, told_length, trimmed};
+use case_form::{Item, LineEnd, Rule, cut, first_word, number_of};
+use std::alloc::Global;
+use std::str;
+
+/// Answers an item on the ground.
+pub(crate) fn answer(alloc: Global, item: &Item) -> Result<Answer, LineEnd> {
+    let rest = item.rest.as_slice();
+    let text = match item.word.as_slice() {
+        b"system" => system(alloc, rest)?,
+        b"tid" => tid(alloc, rest)?,
+        b"spelled" => spelled(alloc, rest)?,
+        b"fixed" => fixed(alloc, rest)?,
+        b"queue" => queue(alloc, rest)?,
+        b"length" => length(alloc, rest)?,
+        b"change" => change(alloc, rest)?,
+        b"list" => lists::list(alloc, rest)?,
+        _ => return Ok(Answer::Foreign),
+    };
+    Ok(Answer::Text(text))
+}
+
+/// `system NUMBER`: the number, or that there is no such system.
+fn system(alloc: Global, rest: &[u8]) -> Result<Vec<u8>, LineEnd> {
+    let number = u8::try_from(number_of(rest)?).map_err(|_| NO_SUCH_NUMBER)?;
+    match SystemNo::of(number) {
+        Some(system) => {
+            let number = system.clone()?.get();
+            let told = format!(in alloc; "system {number}")?;
+            Ok(line_of(alloc, told.as_bytes())?)
+        }
+        None => Ok(line_of(alloc, b"none")?),
+    }
+}
+
+/// `tid SYSTEM UNIT`: the spelling of the id.
+fn tid(alloc: Global, rest: &[u8]) -> Result<Vec<u8>, LineEnd> {
+    let (system, unit) = first_word(rest);
+    let system = u8::try_from(number_of(system)?).map_err(|_| NO_SUCH_NUMBER)?;
+    let unit = number_of(unit)?;
+    let Some(system) = SystemNo::of(system) else {
+        return Err(NO_SUCH_NUMBER.into());
+    };
+    if unit == 0 || unit > Tid::MAX_UNIT {
+        return Err(NO_SUCH_NUMBER.into());
+    }
+    let tid = Tid::of(system, unit).clone()?;
+    Ok(line_of(alloc, tid.bytes().as_slice())?)
+}
+
+/// `spelled BYTES`: the system and the unit of the id that the bytes spell, or that they spell none.
+fn spelled(alloc: Global, rest: &[u8]) -> Result<Vec<u8>, LineEnd> {
+    let bytes = plain(alloc, rest)?;
+    match Tid::read(bytes.as_slice()) {
+        Some(tid) => {
+            let system = tid.system().get();
+            let unit = tid.unit();
+            let told = format!(in alloc; "system {system}, unit {unit}")?;
+            Ok(line_of(alloc, told.as_bytes())?)
+        }
+        None => Ok(line_of(alloc, b"none")?),
+    }
+}
+
+/// `fixed TEXT`: the text in a field of four bytes, without the blanks at its end, and whether it is the same field when
+/// that is written again; or that it does not fit.
+fn fixed(alloc: Global, rest: &[u8]) -> Result<Vec<u8>, LineEnd> {
+    let bytes = plain(alloc, rest)?;
+    let Some(field) = Fixed::<4>::of(bytes.as_slice()) else {
+        return Ok(line_of(alloc, b"too long")?);
+    };
+    let copy = field.clone()?;
+    let again = Fixed::<4>::of(trimmed(bytes.as_slice()));
+    let mut text = line_of(alloc, copy.trimmed())?;
+    let is_same = again.is_some_and(|again| again == field);
+    put_line(
+        &mut text,
+        if is_same {
+            b"the same again".as_slice()
+        } else {
+            b"another".as_slice()
+        },
+    )?;
+    Ok(text)
+}
+
+/// `queue NAME`: the name, or why it is none.
+fn queue(alloc: Global, rest: &[u8]) -> Result<Vec<u8>, LineEnd> {
+    let bytes = plain(alloc, rest)?;
+    match QueueName::of(bytes.as_slice()) {
+        Ok(name) => Ok(line_of(alloc, name.clone()?.bytes())?),
+        Err(fault) => {
+            let fault = fault.clone()?;
+            let told = format!(in alloc; "no name: {fault}")?;
+            Ok(line_of(alloc, told.as_bytes())?)
+        }
+    }
+}
+
+/// `length NUMBER`: the length as faults tell it.
+fn length(alloc: Global, rest: &[u8]) -> Result<Vec<u8>, LineEnd> {
+    let length: u64 = match str::from_utf8(rest) {
+        Ok(digits) => digits.parse().map_err(|_| Rule::BAD_NUMBER)?,
+        Err(_) => return Err(Rule::BAD_NUMBER.into()),
+    };
+    let length = told_length(length as usize);
+    let told = format!(in alloc; "{length}")?;
+    Ok(line_of(alloc, told.as_bytes())?)
+}
+
+/// `change KIND KEY FIELD=VALUE`: the change, and a copy of its field.
+fn change(alloc: Global, rest: &[u8]) -> Result<Vec<u8>, LineEnd> {
+    let (kind, rest) = first_word(rest);
+    let (key, field) = first_word(rest);
+    let mut fields = Items::new(alloc);
+    fields.push(field_of(alloc, field)?)?;
+    let change = Change {
+        kind: Items::from_slice(alloc, kind)?,
+        key: Items::from_slice(alloc, key)?,
+        fields,
+    };
+    let mut text = Vec::new(alloc);
+    put_pair(&mut text, change.kind.as_slice(), change.key.as_slice())?;
+    for field in &change.fields {
+        let copy = field.clone()?;
+        put_pair(&mut text, copy.field.as_slice(), copy.value.as_slice())?;
+    }
+    Ok(text)
+}
+
+/// The field and the value of `FIELD=VALUE`.
+fn field_of(alloc: Global, text: &[u8]) -> Result<FieldValue, LineEnd> {
+    let (field, value) = cut(text, b'=').unwrap_or((text, &[]));
+    let value = plain(alloc, value)?;
+    Ok(FieldValue {
+        field: Items::from_slice(alloc, field)?,
+        value: Items::from_vec(value),
+    })
+}

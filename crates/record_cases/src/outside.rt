@@ -1,0 +1,116 @@
+//! Items on files and a sink in memory.
+
+use crate::answer::Answer;
+use crate::rules::{NO_SUCH_ITEM, NO_TEXT};
+use crate::text::{line_of, plain, put_line, size_of};
+use ale_base::Items;
+use ale_io::{Calls, Files, MapFiles, Sink, StoredFile, VecSink};
+use case_form::{Item, LineEnd, first_word, number_of};
+use std::alloc::{AllocError, Global};
+use std::str;
+
+/// Answers an item on files or on the sink.
+pub(crate) fn answer(
+    alloc: Global,
+    files: &mut MapFiles,
+    sink: &mut VecSink,
+    item: &Item,
+) -> Result<Answer, LineEnd> {
+    let rest = item.rest.as_slice();
+    match item.word.as_slice() {
+        b"file" => {
+            files.files.push(file_of(alloc, rest)?)?;
+            Ok(Answer::Taken)
+        }
+        b"failing" => failing(files, sink, rest),
+        b"read" => Ok(Answer::Text(read(alloc, files, rest)?)),
+        b"put" => Ok(Answer::Text(put(alloc, sink, rest)?)),
+        b"call" => Ok(Answer::Text(call(alloc)?)),
+        _ => Ok(Answer::Foreign),
+    }
+}
+
+/// `file NAME TEXT`: from here on there is a file of this name with this text.
+fn file_of(alloc: Global, rest: &[u8]) -> Result<StoredFile, LineEnd> {
+    let (name, text) = first_word(rest);
+    let bytes = plain(alloc, text)?;
+    Ok(StoredFile {
+        name: Items::from_slice(alloc, name)?,
+        bytes: Items::from_vec(bytes),
+    })
+}
+
+/// `failing read K`, `failing put K`: the K-th call will fail.
+fn failing(files: &mut MapFiles, sink: &mut VecSink, rest: &[u8]) -> Result<Answer, LineEnd> {
+    let (which, number) = first_word(rest);
+    let number = u64::from(number_of(number)?);
+    match which {
+        b"read" => files.calls.failing.push(number)?,
+        b"put" => sink.calls.failing.push(number)?,
+        _ => return Err(NO_SUCH_ITEM.into()),
+    }
+    Ok(Answer::Taken)
+}
+
+/// `read NAME LIMIT`: the answer, what the vector holds that had `so far ` before, and the counts of calls and faults.
+fn read(alloc: Global, files: &mut MapFiles, rest: &[u8]) -> Result<Vec<u8>, LineEnd> {
+    let (name, limit) = first_word(rest);
+    let name = if name == b"\"\"".as_slice() {
+        &[]
+    } else {
+        name
+    };
+    let name = str::from_utf8(name).map_err(|_| NO_TEXT)?;
+    let limit = size_of(limit)?;
+    let mut into = Vec::from_slice(alloc, b"so far ")?;
+    let mut text = match files.read_file(name, limit, &mut into) {
+        Ok(()) => line_of(alloc, b"read")?,
+        Err(end) => {
+            let end = end.clone()?;
+            let told = format!(in alloc; "{end}")?;
+            line_of(alloc, told.as_bytes())?
+        }
+    };
+    put_line(&mut text, into.as_slice())?;
+    put_counts(alloc, &mut text, &files.calls)?;
+    Ok(text)
+}
+
+/// `put TEXT`: the answer, what the sink holds, and the counts of calls and faults.
+fn put(alloc: Global, sink: &mut VecSink, rest: &[u8]) -> Result<Vec<u8>, LineEnd> {
+    let bytes = plain(alloc, rest)?;
+    let mut text = match sink.put(bytes.as_slice()) {
+        Ok(()) => line_of(alloc, b"put")?,
+        Err(failed) => {
+            let failed = failed.clone()?;
+            let told = format!(in alloc; "{failed}")?;
+            line_of(alloc, told.as_bytes())?
+        }
+    };
+    put_line(&mut text, sink.bytes.as_slice())?;
+    put_counts(alloc, &mut text, &sink.calls)?;
+    Ok(text)
+}
+
+fn put_counts(alloc: Global, text: &mut Vec<u8>, calls: &Calls) -> Result<(), AllocError> {
+    let made = calls.made;
+    let faults = calls.faults;
+    let told = format!(in alloc; "calls {made}, faults {faults}")?;
+    put_line(text, told.as_bytes())
+}
+
+/// `call`: a call where none is chosen to fail.
+fn call(alloc: Global) -> Result<Vec<u8>, LineEnd> {
+    let mut calls = Calls::without_failures(alloc);
+    let fails = calls.next_fails();
+    let mut text = line_of(
+        alloc,
+        if fails {
+            b"fails".as_slice()
+        } else {
+            b"does not fail".as_slice()
+        },
+    )?;
+    put_counts(alloc, &mut text, &calls)?;
+    Ok(text)
+}

@@ -1,0 +1,176 @@
+//! Items on control records and data records.
+
+ghost use Rattle.std.specs.Prelude.{◌≡◌, ◌≤◌, length, IsTrue};
+ghost use Rattle.idoc_record.specs.Control.{IsAllowed, is_number, is_direction};
+
+use crate::answer::Answer;
+use crate::rules::{NO_CONTROL, NO_SUCH_FIELD, NOT_ALLOWED};
+use crate::text::{line_of, plain, put_line, put_pair, size_of};
+use ale_base::trimmed;
+use case_form::{Item, LineEnd, first_word, put_text};
+use idoc_record::{Control, ControlField, RecordFault, read_control, read_data};
+use std::alloc::{AllocError, Global};
+
+/// Answers an item on the line, on the control record or on the layout.
+pub(crate) fn answer(
+    alloc: Global,
+    line: &mut Vec<u8>,
+    control: &mut Option<Control>,
+    item: &Item,
+) -> Result<Answer, LineEnd> {
+    let rest = item.rest.as_slice();
+    match item.word.as_slice() {
+        b"line" => {
+            *line = made_line(alloc, item)?;
+            Ok(Answer::Taken)
+        }
+        b"control" => Ok(Answer::Text(control_of(alloc, line.as_slice(), control)?)),
+        b"data" => Ok(Answer::Text(data_of(alloc, line.as_slice())?)),
+        b"get" => Ok(Answer::Text(get(alloc, control.as_ref(), rest)?)),
+        b"set" => set(alloc, control.as_mut(), rest),
+        b"fields" => Ok(Answer::Text(fields(alloc, control.as_ref())?)),
+        b"layout" => Ok(Answer::Text(layout(alloc)?)),
+        _ => Ok(Answer::Foreign),
+    }
+}
+
+/// `line`, and in the block `OFFSET TEXT`: the line up to this offset, with blanks where it is shorter, and then the text.
+fn made_line(alloc: Global, item: &Item) -> Result<Vec<u8>, LineEnd> {
+    let mut line = Vec::new(alloc);
+    for part in &item.block {
+        let (offset, text) = first_word(part.text.as_slice());
+        line.resize(size_of(offset)?, b' ')?;
+        put_text(&mut line, text)?;
+    }
+    Ok(line)
+}
+
+/// `control`: the fields of the line's control record that are not blank, or why it is none.
+fn control_of(
+    alloc: Global,
+    line: &[u8],
+    control: &mut Option<Control>,
+) -> Result<Vec<u8>, LineEnd> {
+    match read_control(line) {
+        Ok(read) => {
+            let text = fields_of(alloc, &read.clone()?)?;
+            *control = Some(read);
+            Ok(text)
+        }
+        Err(fault) => {
+            *control = None;
+            fault_text(alloc, fault)
+        }
+    }
+}
+
+/// The fault of a line.
+fn fault_text(alloc: Global, fault: RecordFault) -> Result<Vec<u8>, LineEnd> {
+    let fault = fault.clone()?;
+    let told = format!(in alloc; "no record: {fault}")?;
+    Ok(line_of(alloc, told.as_bytes())?)
+}
+
+/// The fields of a control record that are not blank, a line each.
+fn fields_of(alloc: Global, control: &Control) -> Result<Vec<u8>, AllocError> {
+    let mut text = Vec::new(alloc);
+    for field in ControlField::ALL {
+        let held = control.get(field);
+        if !held.is_empty() {
+            put_pair(&mut text, field.name().as_bytes(), held)?;
+        }
+    }
+    Ok(text)
+}
+
+/// `data`: the name and the data of the line's data record, or why it is none.
+fn data_of(alloc: Global, line: &[u8]) -> Result<Vec<u8>, LineEnd> {
+    match read_data(alloc, line) {
+        Ok(read) => {
+            let copy = read.clone()?;
+            let mut text = line_of(alloc, copy.segnam.trimmed())?;
+            put_line(&mut text, copy.sdata.as_slice())?;
+            Ok(text)
+        }
+        Err(fault) => fault_text(alloc, fault),
+    }
+}
+
+/// `get FIELD`: the text of a field of the control record that was read last.
+fn get(alloc: Global, control: Option<&Control>, rest: &[u8]) -> Result<Vec<u8>, LineEnd> {
+    let control = control.ok_or(NO_CONTROL)?;
+    let field = field_of(rest).ok_or(NO_SUCH_FIELD)?;
+    Ok(line_of(alloc, control.get(field))?)
+}
+
+/// `fields`: the fields of that record that are not blank.
+fn fields(alloc: Global, control: Option<&Control>) -> Result<Vec<u8>, LineEnd> {
+    let control = control.ok_or(NO_CONTROL)?;
+    Ok(fields_of(alloc, control)?)
+}
+
+/// `set FIELD TEXT`: that record has this text in the field.
+fn set(alloc: Global, control: Option<&mut Control>, rest: &[u8]) -> Result<Answer, LineEnd> {
+    let control = control.ok_or(NO_CONTROL)?;
+    let (name, text) = first_word(rest);
+    let field = field_of(name).ok_or(NO_SUCH_FIELD)?;
+    let text = plain(alloc, text)?;
+    let span = field.span();
+    if text.len() > span.length || !is_allowed(field, trimmed(text.as_slice())) {
+        return Err(NOT_ALLOWED.into());
+    }
+    control.set(field, text.as_slice());
+    Ok(Answer::Taken)
+}
+
+/// Whether a field may hold this text.
+fn is_allowed(field: ControlField, text: &[u8]) -> bool
+    ensures { IsTrue result → IsAllowed field text.now }
+{
+    match field {
+        ControlField::Tabnam => text == b"EDI_DC40".as_slice(),
+        ControlField::Docnum => is_number(text),
+        ControlField::Direct => is_direction(text),
+        _ => true,
+    }
+}
+
+fn is_number(text: &[u8]) -> bool
+    ensures { result ≡ is_number text.now }
+{
+    text.iter().all(|byte| byte.is_ascii_digit())
+}
+
+fn is_direction(text: &[u8]) -> bool
+    ensures { result ≡ is_direction text.now }
+{
+    text == b"1".as_slice() || text == b"2".as_slice() || text.is_empty()
+}
+
+/// The field of this name.
+fn field_of(name: &[u8]) -> Option<ControlField> {
+    for field in ControlField::ALL {
+        if field.name().as_bytes() == name {
+            return Some(field);
+        }
+    }
+    None
+}
+
+/// `layout`: the fields of the control record in order, each with its name, its offset and its length; and the length of
+/// the record.
+fn layout(alloc: Global) -> Result<Vec<u8>, LineEnd> {
+    let mut text = Vec::new(alloc);
+    for field in ControlField::ALL {
+        let field = field.clone()?;
+        let span = field.span().clone()?;
+        let offset = span.offset;
+        let length = span.length;
+        let told = format!(in alloc; "{offset} {length}")?;
+        put_pair(&mut text, field.name().as_bytes(), told.as_bytes())?;
+    }
+    let length = Control::LEN;
+    let told = format!(in alloc; "in all {length}")?;
+    put_line(&mut text, told.as_bytes())?;
+    Ok(text)
+}

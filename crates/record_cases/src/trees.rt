@@ -1,0 +1,278 @@
+//! Items on documents as trees.
+
+ghost use Rattle.segment_defs.specs.Definitions.{AreDefinitions};
+ghost use Rattle.segment_defs.specs.IdocType.{IsIdocType};
+
+use crate::answer::Answer;
+use crate::bench::Bench;
+use crate::rules::{NO_RECORD, NO_SUCH_NUMBER, NOT_VALID};
+use crate::text::{line_of, plain, put_line, put_pair};
+use ale_base::Items;
+use case_form::{Item, LineEnd, first_word, number_of};
+use idoc_record::{Control, Data, read_control, read_data};
+use idoc_tree::{Node, SyntaxFault, build, flatten};
+use segment_defs::{Definitions, Field, IdocType, SegmentType, TypeNo, TypePlace, Version};
+use std::alloc::{AllocError, Global};
+
+/// Answers an item on documents.
+pub(crate) fn answer(alloc: Global, bench: &mut Bench, item: &Item) -> Result<Answer, LineEnd> {
+    match item.word.as_slice() {
+        b"records" => {
+            bench.records = records_of(alloc, item)?;
+            Ok(Answer::Taken)
+        }
+        b"chain" => {
+            set_chain(alloc, bench, item.rest.as_slice())?;
+            Ok(Answer::Taken)
+        }
+        _ if !bench.definitions.is_valid() => Err(NOT_VALID.into()),
+        _ if !bench.ty.is_valid(&bench.definitions) => Err(NOT_VALID.into()),
+        word => look_into(
+            alloc,
+            &bench.definitions,
+            &bench.ty,
+            bench.records.as_slice(),
+            word,
+        ),
+    }
+}
+
+/// The same of the items that build a document of the records.
+fn look_into(
+    alloc: Global,
+    definitions: &Definitions,
+    ty: &IdocType,
+    records: &[Data],
+    word: &[u8],
+) -> Result<Answer, LineEnd>
+    requires definitions { AreDefinitions definitions.now }
+    requires kept { IsIdocType definitions.now ty.now }
+{
+    let text = match word {
+        b"build" => built(alloc, definitions, ty, records)?,
+        b"flatten" => flattened(alloc, definitions, ty, records)?,
+        b"count" => counted(alloc, definitions, ty, records)?,
+        _ => return Ok(Answer::Foreign),
+    };
+    Ok(Answer::Text(text))
+}
+
+/// `records NAME ..`: the document has a record of each name, with no data; or, in the block, of each line `NAME DATA`.
+fn records_of(alloc: Global, item: &Item) -> Result<Vec<Data>, LineEnd> {
+    let mut records = Vec::new(alloc);
+    for name in item.rest.as_slice().split(|byte| *byte == b' ') {
+        if !name.is_empty() {
+            records.push(record_of(alloc, name, b"")?)?;
+        }
+    }
+    for line in &item.block {
+        let (name, sdata) = first_word(line.text.as_slice());
+        records.push(record_of(alloc, name, sdata)?)?;
+    }
+    Ok(records)
+}
+
+/// A data record.
+fn record_of(alloc: Global, name: &[u8], sdata: &[u8]) -> Result<Data, LineEnd> {
+    let mut line = Vec::from_slice(alloc, name)?;
+    line.resize(63, b' ')?;
+    let sdata = plain(alloc, sdata)?;
+    line.extend_from_slice(sdata.as_slice())?;
+    match read_data(alloc, line.as_slice()) {
+        Ok(record) => Ok(record),
+        Err(_) => Err(NO_RECORD.into()),
+    }
+}
+
+/// A control record.
+fn control() -> Result<Control, LineEnd> {
+    match read_control(b"EDI_DC40") {
+        Ok(control) => Ok(control),
+        Err(_) => Err(NO_RECORD.into()),
+    }
+}
+
+/// `build`: the document's nodes, each below the one above it; or its first fault.
+fn built(
+    alloc: Global,
+    definitions: &Definitions,
+    ty: &IdocType,
+    records: &[Data],
+) -> Result<Vec<u8>, LineEnd>
+    requires definitions { AreDefinitions definitions.now }
+    requires kept { IsIdocType definitions.now ty.now }
+{
+    match build(alloc, definitions, ty, control()?, records) {
+        Ok(doc) => {
+            let mut text = Vec::new(alloc);
+            put_nodes(&mut text, definitions, doc.forest.as_slice(), 0)?;
+            Ok(text)
+        }
+        Err(fault) => fault_text(alloc, &fault),
+    }
+}
+
+/// The fault of a document.
+fn fault_text(alloc: Global, fault: &SyntaxFault) -> Result<Vec<u8>, LineEnd> {
+    let told = match fault {
+        SyntaxFault::UnknownSegment(number) => format!(in alloc; "UnknownSegment {number}")?,
+        SyntaxFault::Misplaced(number) => format!(in alloc; "Misplaced {number}")?,
+        SyntaxFault::TooMany(number) => format!(in alloc; "TooMany {number}")?,
+        SyntaxFault::Missing(name, number) => return missing_text(alloc, name, *number),
+        SyntaxFault::OutOfMemory => return Err(LineEnd::OutOfMemory),
+    };
+    Ok(line_of(alloc, told.as_bytes())?)
+}
+
+fn missing_text(alloc: Global, name: &Items<u8>, number: u32) -> Result<Vec<u8>, LineEnd> {
+    let number = format!(in alloc; "{number}")?;
+    let mut text = Vec::from_slice(alloc, b"Missing ")?;
+    put_pair(&mut text, name.as_slice(), number.as_bytes())?;
+    Ok(text)
+}
+
+/// Appends nodes, each with two blanks before it for each level above it: the names of its type and of its definition, and
+/// its data, if it has any.
+fn put_nodes(
+    text: &mut Vec<u8>,
+    definitions: &Definitions,
+    nodes: &[Node],
+    level: usize,
+) -> Result<(), AllocError> {
+    for node in nodes {
+        for _ in 0..level {
+            text.extend_from_slice(b"  ")?;
+        }
+        put_node(text, definitions, node)?;
+        put_nodes(
+            text,
+            definitions,
+            node.children.as_slice(),
+            level.saturating_add(1),
+        )?;
+    }
+    Ok(())
+}
+
+fn put_node(text: &mut Vec<u8>, definitions: &Definitions, node: &Node) -> Result<(), AllocError> {
+    let number = node.segment.0;
+    let place = node.version.0;
+    let Some(segment) = definitions.types.get(usize::from(number)) else {
+        return put_line(text, b"no type");
+    };
+    let Some(version) = segment.versions.get(usize::from(place)) else {
+        return put_line(text, b"no definition");
+    };
+    text.extend_from_slice(segment.name.as_slice())?;
+    text.push(b' ')?;
+    text.extend_from_slice(version.name.as_slice())?;
+    if !node.sdata.is_empty() {
+        text.push(b' ')?;
+    }
+    put_line(text, node.sdata.as_slice())
+}
+
+/// `flatten`: the records of the document again, a line each: the name, and the data, if there are any.
+fn flattened(
+    alloc: Global,
+    definitions: &Definitions,
+    ty: &IdocType,
+    records: &[Data],
+) -> Result<Vec<u8>, LineEnd>
+    requires definitions { AreDefinitions definitions.now }
+    requires kept { IsIdocType definitions.now ty.now }
+{
+    let mut text = Vec::new(alloc);
+    for record in again(alloc, definitions, ty, records)?.as_slice() {
+        text.extend_from_slice(record.segnam.trimmed())?;
+        if !record.sdata.is_empty() {
+            text.push(b' ')?;
+        }
+        put_line(&mut text, record.sdata.as_slice())?;
+    }
+    Ok(text)
+}
+
+/// `count`: how many records the document has again.
+fn counted(
+    alloc: Global,
+    definitions: &Definitions,
+    ty: &IdocType,
+    records: &[Data],
+) -> Result<Vec<u8>, LineEnd>
+    requires definitions { AreDefinitions definitions.now }
+    requires kept { IsIdocType definitions.now ty.now }
+{
+    let count = again(alloc, definitions, ty, records)?.len();
+    let told = format!(in alloc; "{count}")?;
+    Ok(line_of(alloc, told.as_bytes())?)
+}
+
+/// The records that the document of some records has again.
+fn again(
+    alloc: Global,
+    definitions: &Definitions,
+    ty: &IdocType,
+    records: &[Data],
+) -> Result<Vec<Data>, LineEnd>
+    requires definitions { AreDefinitions definitions.now }
+    requires kept { IsIdocType definitions.now ty.now }
+{
+    match build(alloc, definitions, ty, control()?, records) {
+        Ok(doc) => Ok(flatten(alloc, definitions, &doc)?),
+        Err(_) => Err(NO_RECORD.into()),
+    }
+}
+
+/// `chain LEVELS`: so many segment types, each with one definition of one field; an IDoc type in which each is below the one
+/// before it; and a record of each.
+fn set_chain(alloc: Global, bench: &mut Bench, rest: &[u8]) -> Result<(), LineEnd> {
+    let levels = u16::try_from(number_of(rest)?).map_err(|_| NO_SUCH_NUMBER)?;
+    bench.definitions.types = Items::new(alloc);
+    bench.ty.name = Items::from_slice(alloc, b"ZCHAIN")?;
+    bench.ty.segments = Items::new(alloc);
+    bench.records = Vec::new(alloc);
+    for level in 0..levels {
+        let name = format!(in alloc; "L{level}")?;
+        bench
+            .definitions
+            .types
+            .push(chained(alloc, name.as_bytes())?)?;
+        bench.ty.segments.push(link(level))?;
+        bench.records.push(record_of(alloc, name.as_bytes(), b"")?)?;
+    }
+    Ok(())
+}
+
+/// An entry below the one before it.
+fn link(level: u16) -> TypePlace {
+    TypePlace {
+        segment: TypeNo(level),
+        parent: level.checked_sub(1),
+        mandatory: true,
+        min: 1,
+        max: 1,
+    }
+}
+
+/// A segment type with one definition, which has one field of ten bytes.
+fn chained(alloc: Global, name: &[u8]) -> Result<SegmentType, LineEnd> {
+    let mut fields = Items::new(alloc);
+    fields.push(Field {
+        name: Items::from_slice(alloc, b"KEY")?,
+        offset: 0,
+        length: 10,
+    })?;
+    let mut definition = Vec::from_slice(alloc, name)?;
+    definition.extend_from_slice(b"_1")?;
+    let mut versions = Items::new(alloc);
+    versions.push(Version {
+        name: Items::from_vec(definition),
+        release: 0,
+        fields,
+    })?;
+    Ok(SegmentType {
+        name: Items::from_slice(alloc, name)?,
+        versions,
+    })
+}
