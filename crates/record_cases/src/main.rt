@@ -2,7 +2,7 @@
 //! and prints a line a case.
 //!
 //! Contract: that of `case_form` on the verdict. Beyond that nothing is proved but that it is safe and ends. The items of
-//! these cases are in `docs/reference/cases.md`.
+//! these cases are in `docs/reference/record_cases.md`.
 #![tactic(auto)]
 
 mod answer;
