@@ -1,6 +1,6 @@
 -- What an opening and an append leave of the bytes, by how their last step ended.
 use Rattle.std.specs.Prelude.{Result, Ok, Err, OnOk, IsErrOf}
-use Rattle.std.proofs.Common.{◌≡◌, ◌≢◌, ◌⊎◌, inl, inr, ℕ, ◌+◌, ◌<◌, ◌≤◌, get_or, List, [], ◌∷◌, ◌++◌, length, take, drop, refl, sym, ◌∙◌, ap, subst, arith, length-append, append_assoc}
+use Rattle.std.proofs.Common.{◌≡◌, ◌≢◌, inl, inr, ℕ, ◌+◌, ◌<◌, ◌≤◌, get_or, List, [], ◌∷◌, ◌++◌, length, take, drop, refl, sym, ◌∙◌, ap, subst, arith, length-append, append_assoc}
 use Rattle.std.proofs.lemmas.List.{drop_at, take-take, length-take}
 use Rattle.ale_volumes.specs.declared.volume.Volume.{Volume}
 use Rattle.ale_volumes.specs.declared.volume_end.VolumeEnd.{VolumeEnd}
@@ -10,9 +10,8 @@ use Rattle.ale_volumes.specs.MemoryLemmas.{take-overwritten}
 use Rattle.byte_journal.specs.declared.fault.OpenFault.{OpenFault}
 use Rattle.byte_journal.specs.declared.fault.OpenFault.TheVariants.{Damaged, Volume as OpenVolume, OutOfMemory as OpenMemory}
 use Rattle.byte_journal.specs.declared.fault.AppendFault.{AppendFault}
-use Rattle.byte_journal.specs.declared.fault.AppendFault.TheVariants.{Volume as AppendVolume, OutOfMemory as AppendMemory}
-use Rattle.byte_journal.specs.declared.journal.Journal.{Journal}
-use Rattle.byte_journal.specs.Log.{open_gate, framed, records}
+use Rattle.byte_journal.specs.declared.fault.AppendFault.TheVariants.{OutOfMemory as AppendMemory}
+use Rattle.byte_journal.specs.Log.{open_gate, framed}
 use Rattle.byte_journal.specs.Fault.{open_fault_of, append_fault_of}
 use Rattle.byte_journal.specs.steps.Reading.{ReadsTo}
 use Rattle.byte_journal.specs.Bytes.{IsAsBeforeButForTheGate, LeavesOpened, LeavesAppended, staged, appended}

@@ -1,13 +1,10 @@
 -- Only the front of a volume's bytes can matter: they read as it does.
-use Rattle.std.specs.Prelude.{Result, Ok, Err}
 use Rattle.std.proofs.Common.{◌≡◌, ◌≢◌, ◌⊎◌, inl, inr, ◌↔◌, ℕ, ◌+◌, ◌-◌, ◌<◌, ◌≤◌, min, List, [], ◌∷◌, ◌++◌, length, take, drop, get_or, refl, sym, ◌∙◌, ap, subst, arith, length-append, append_assoc, take-append-drop}
 use Rattle.std.proofs.lemmas.Bool.{cases_lt}
 use Rattle.std.proofs.lemmas.List.{take_at, take_min, nil_from_length, length-take, length-drop, get_or-take}
 use Rattle.std.proofs.Math.Seq.{take-append-add}
-use Rattle.byte_journal.specs.declared.fault.OpenFault.{OpenFault}
-use Rattle.byte_journal.specs.declared.fault.OpenFault.TheVariants.{Damaged, Volume as VolumeFault, OutOfMemory}
 use Rattle.byte_journal.specs.Log.{open_gate, most_bytes, framed, records, front_of, BeginsWithLastGate, BeginsWithRecord, Stands, DamagedAt}
-use Rattle.byte_journal.specs.steps.Reading.{ReadsTo, Reads}
+use Rattle.byte_journal.specs.steps.Reading.{ReadsTo}
 use Rattle.byte_journal.proofs.LogLemmas.{length-framed}
 
 -- what stands in a front of so many bytes, of which the most bytes of a log are fewer

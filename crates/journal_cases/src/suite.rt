@@ -1,0 +1,51 @@
+//! The suite: a case file's items, answered one after another on one disk.
+
+use crate::answer::Answer;
+use crate::disk::disk_of;
+use crate::rules::NO_SUCH_ITEM;
+use crate::{appends, crashes, volumes};
+use ale_base::{Items, OutOfMemory};
+use ale_volumes::MemoryVolumes;
+use case_form::{CaseFault, Item, LineEnd, Outcome, Step, Suite, read_items};
+use std::alloc::Global;
+
+/// The cases of volumes and journals.
+pub(crate) struct Journals;
+
+impl Suite for Journals {
+    fn outcome(&self, alloc: Global, file: &str, bytes: &[u8]) -> Result<Outcome, OutOfMemory> {
+        Outcome::of(steps_of(alloc, file, bytes))
+    }
+}
+
+/// The steps of a case file: one for each item but those that make a disk.
+fn steps_of(alloc: Global, file: &str, bytes: &[u8]) -> Result<Items<Step>, CaseFault> {
+    let items = read_items(alloc, file, bytes)?;
+    let mut vols = MemoryVolumes::new(alloc);
+    let mut steps = Items::new(alloc);
+    for item in &items {
+        if item.word.as_slice() == b"disk".as_slice() {
+            vols = disk_of(alloc, item)?;
+        } else {
+            let found = found_by(alloc, &mut vols, item).map_err(|end| end.at(item.line))?;
+            steps.push(Step::of(alloc, item, found)?)?;
+        }
+    }
+    Ok(steps)
+}
+
+/// What an item finds.
+fn found_by(alloc: Global, vols: &mut MemoryVolumes, item: &Item) -> Result<Vec<u8>, LineEnd> {
+    let word = item.word.as_slice();
+    let rest = item.rest.as_slice();
+    if let Answer::Text(found) = volumes::answer(alloc, vols, word, rest)? {
+        return Ok(found);
+    }
+    if let Answer::Text(found) = appends::answer(alloc, vols, word, rest)? {
+        return Ok(found);
+    }
+    match crashes::answer(alloc, vols, word, rest)? {
+        Answer::Text(found) => Ok(found),
+        Answer::Foreign => Err(NO_SUCH_ITEM.into()),
+    }
+}
