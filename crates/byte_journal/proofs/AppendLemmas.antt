@@ -14,6 +14,7 @@ last_gate : (gate : ℕ) (behind : List ℕ) → gate ≢ open_gate → BeginsWi
 last_gate gate [] closed = tt
 last_gate gate (next ∷ rest) closed = closed
 
+-- Bytes whose last gate is closed stand for their log.
 pub closed_stands : (bytes : List ℕ) (log : List (List ℕ)) → IsClosed bytes log → Stands bytes log
 closed_stands bytes log is = record {
   rest = is.gate ∷ is.behind;
@@ -32,6 +33,7 @@ pub record IsStaged (bytes : List ℕ) (log : List (List ℕ)) (body : List ℕ)
   pub bodies : AreBodies log
   pub within : length (records log) < most_bytes
 
+-- A record behind a closed gate is no part of the log.
 pub staged_closed : (bytes : List ℕ) (log : List (List ℕ)) (body : List ℕ) → IsStaged bytes log body → IsClosed bytes log
 staged_closed bytes log body is = record { gate = is.gate; behind = framed body ++ 0 ∷ is.behind; whole = is.whole; closed = is.closed; bodies = is.bodies; within = is.within }
 
@@ -49,6 +51,7 @@ with_gate log gate behind =
     ap (λ (l : List ℕ). take (length (records log) + 1) l) (sym (append_assoc (records log) (gate ∷ []) behind))
     ∙ take_at (records log ++ gate ∷ []) behind (length (records log) + 1) (omega (arith, length-append (records log) (gate ∷ [])))
 
+-- The last gate lies within the bytes.
 pub long_enough : (bytes : List ℕ) (log : List (List ℕ)) → IsClosed bytes log → length (records log) + 1 ≤ length bytes
 long_enough bytes log is = omega (arith, ap length is.whole, length-append (records log) (is.gate ∷ is.behind))
 
@@ -66,6 +69,7 @@ torn_block bytes image log n is torn =
       within = is.within;
     }
 
+-- The first write of an append leaves the record behind the closed gate.
 pub block_written : (bytes : List ℕ) (log : List (List ℕ)) (body : List ℕ) → IsClosed bytes log → IsStaged (overwritten bytes (length (records log) + 1) (framed body ++ 0 ∷ [])) log body
 block_written bytes log body is =
     let start = length (records log) + 1 in
@@ -116,6 +120,7 @@ module _ (log : List (List ℕ)) (body : List ℕ) (some : 0 < length body) (fit
         | inr other ↦ inl (closed_stands image log (record { gate = gate; behind = framed body ++ 0 ∷ is.behind; whole = whole; closed = other; bodies = is.bodies; within = is.within }))
       ]
 
+  -- The second write puts the record into the log.
   pub gate_opened : (bytes : List ℕ) → IsStaged bytes log body → IsClosed (overwritten bytes (length (records log)) (open_gate ∷ [])) (log ++ body ∷ [])
   gate_opened bytes is =
       let place = length (records log) in
@@ -134,6 +139,7 @@ module _ {D : Type 0} (volume : D → ℕ → Volume) (old mid new : D) (journal
   first_torn : (image : List ℕ) → Torn (journal.gate + 1) (length block) (held old) image → IsClosed image log
   first_torn image torn = torn_block (held old) image log (length block) s.closed (subst (λ (p : ℕ). Torn (p + 1) (length block) (held old) image) s.place torn)
 
+  -- The first write of a journal leaves its log.
   pub first_before : (image : List ℕ) → Torn (journal.gate + 1) (length block) (held old) image → IsBeforeOrAfter log body image
   first_before image torn = inl (closed_stands image log (first_torn image torn))
 

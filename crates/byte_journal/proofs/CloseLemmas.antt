@@ -17,6 +17,7 @@ module _ (bytes : List ℕ) (log : List (List ℕ)) (gate : ℕ) (reads : ReadsT
   size : length bytes ≡ length (records log) + length reads.stands.rest
   size = ap length reads.stands.whole ∙ length-append (records log) reads.stands.rest
 
+  -- The place of the last gate is no further than the end.
   pub gate_within : gate ≤ length bytes
   gate_within = omega (arith, size, reads.place)
 
@@ -40,6 +41,7 @@ module _ (bytes : List ℕ) (log : List (List ℕ)) (gate : ℕ) (reads : ReadsT
         within = reads.stands.within;
       }
 
+  -- A closed gate at the place of the last one ends the log.
   pub is_closed : gate < length bytes → get_or bytes gate 0 ≢ open_gate → IsClosed bytes log
   is_closed = closed_by reads.stands.rest reads.stands.whole
 
@@ -61,6 +63,7 @@ module _ (bytes : List ℕ) (log : List (List ℕ)) (gate : ℕ) (reads : ReadsT
     front : take gate bytes ≡ records log
     front = ap (λ (l : List ℕ). take gate l) reads.stands.whole ∙ take_at (records log) reads.stands.rest gate (sym reads.place)
 
+    -- Where the gate is written, it is closed.
     pub gate_closed : IsClosed (overwritten bytes gate (0 ∷ [])) log
     gate_closed =
         let rest = drop (gate + 1) bytes in

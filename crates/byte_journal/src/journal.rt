@@ -39,7 +39,7 @@ impl Journal {
     /// A journal that stands at this gate of this volume.
     pub(crate) fn at(alloc: Global, volume: u8, gate: u64) -> Journal
         requires volume { volume < 16 }
-        requires gate { gate < 67108864 }
+        requires gate { gate < Journal.MOST_BYTES }
         ensures volume { result.volume ≡ volume }
         ensures gate { result.gate ≡ gate }
     {
@@ -78,7 +78,7 @@ impl Journal {
         // When each error comes, and what is then as it was.
         ensures err { OnErr result (self.new ≡ self.old) }
         ensures full { (place : ℕ) → (result ≡ Err (AppendFault.Full place))
-            ↔ ((place ≡ self.old.gate + 6 + length body.now) × (67108864 < place)) }
+            ↔ ((place ≡ self.old.gate + 6 + length body.now) × (Journal.MOST_BYTES < place)) }
         ensures full_unwritten { (place : ℕ) → result ≡ Err (AppendFault.Full place) → vols.new ≡ vols.old }
         ensures no_memory { V.told → (log : List (List ℕ)) → IsSettled V.volume vols.old self.old log →
             IsErrOf result AppendFault.OutOfMemory → IsSettled V.volume vols.new self.new log }
@@ -100,7 +100,7 @@ impl Journal {
 
 /// What stands behind the gate of a record: the body's length, the body, and a closed gate.
 fn block_of(alloc: Global, body: &[u8]) -> Result<Vec<u8>, OutOfMemory>
-    requires { length body.now < 67108864 }
+    requires { length body.now < Journal.MOST_BYTES }
     ensures { IfOk result (λ block. block.items ≡ framed body.now ++ 0 ∷ []) }
 {
     let mut block = Vec::with_capacity(alloc, body.len() + 5)?;

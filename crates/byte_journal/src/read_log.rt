@@ -34,7 +34,7 @@ fn is_open_before_more(bytes: &[u8], gate: usize) -> bool
 
 /// The body of the record behind the open gate at a place. None exactly where no record lies there.
 fn body_of(behind: &[u8], place: usize) -> Option<&[u8]>
-    requires { place < 67108864 }
+    requires { place < Journal.MOST_BYTES }
     ensures found { IfSome result (λ body. BeginsWithRecord place behind.now body.now) }
     ensures none { IfNone result ((body : List ℕ) → BeginsWithRecord place behind.now body → ⊥) }
 {
