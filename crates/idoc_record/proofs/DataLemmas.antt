@@ -1,9 +1,9 @@
 -- The fields of a data record, read from a line that is shorter.
-use Rattle.std.proofs.Common.{◌≡◌, ℕ, ◌-◌, ◌≤◌, false, not, Result, Ok, List, length, take, drop, sym, ap, subst, ◌∙◌, arith}
+use Rattle.std.proofs.Common.{◌≡◌, ℕ, ◌-◌, ◌≤◌, false, not, Result, Ok, List, length, take, drop, sym, ap, subst, ◌∙◌}
 use Rattle.std.specs.Prelude.{min}
-use Rattle.std.proofs.lemmas.List.{length-take, take_min, take_rest}
+use Rattle.std.proofs.lemmas.List.{take_min, take_rest}
 use Rattle.ale_base.specs.Blanks.{trimmed, padded}
-use Rattle.ale_base.specs.TrimmedLemmas.{trimmed-take-padded, trimmed-drop-padded, trimmed-trimmed, length-trimmed, length-padded}
+use Rattle.ale_base.specs.TrimmedLemmas.{trimmed-take-padded, trimmed-drop-padded, trimmed-trimmed, length-padded}
 use Rattle.idoc_record.specs.Parts.{part, text_at}
 use Rattle.idoc_record.proofs.PartLemmas.{length-text_at}
 use Rattle.idoc_record.specs.Data.{DataRecord, segnam, sdata, is_no_segment, IsDataLine}

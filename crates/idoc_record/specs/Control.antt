@@ -4,6 +4,7 @@ use Rattle.std.specs.Char.{is_ascii_digit}
 use Rattle.std.specs.List.{list_all}
 use Rattle.ale_base.specs.Blanks.{trimmed, padded}
 use Rattle.ale_base.specs.Text.{is_text, told_length}
+use Rattle.idoc_record.specs.declared.control.TheConstants.{CONTROL_LEN}
 use Rattle.idoc_record.specs.declared.control_field.ControlField.{ControlField}
 use Rattle.idoc_record.specs.declared.control_field.ControlField.TheVariants.{Tabnam, Docnum, Direct}
 use Rattle.idoc_record.specs.declared.fault.RecordFault.{RecordFault}
@@ -29,15 +30,15 @@ is_direction text = is_text text (codes "1") || (is_text text (codes "2") || is_
 
 -- a control record is 524 bytes that name their table, with a number and a direction
 pub record IsControl (control : List ℕ) : Type 0 where
-  pub whole : length control ≡ 524
+  pub whole : length control ≡ CONTROL_LEN
   pub table : IsTrue (is_control_table (field_of control Tabnam))
   pub number : IsTrue (is_number (field_of control Docnum))
   pub direction : IsTrue (is_direction (field_of control Direct))
 
 -- the line is this control record: what it lacks at its end is blank
 pub record IsControlLine (line control : List ℕ) : Type 0 where
-  pub fits : length (trimmed line) ≤ 524
-  pub bytes : control ≡ padded 524 (trimmed line)
+  pub fits : length (trimmed line) ≤ CONTROL_LEN
+  pub bytes : control ≡ padded CONTROL_LEN (trimmed line)
   pub kept : IsControl control
 
 -- what each field may hold
@@ -58,5 +59,5 @@ control_of bytes =
 -- a line as a control record, or the first that is wrong with it
 abbrev pub control_read : List ℕ → Result (List ℕ) RecordFault
 control_read line =
-    if nat_lt 524 (length (trimmed line)) then Err (TooLong (told_length (length (trimmed line))))
-    else control_of (padded 524 (trimmed line))
+    if nat_lt CONTROL_LEN (length (trimmed line)) then Err (TooLong (told_length (length (trimmed line))))
+    else control_of (padded CONTROL_LEN (trimmed line))

@@ -3,6 +3,7 @@ use Rattle.std.specs.Prelude.{◌≡◌, ℕ, ◌≤◌, List, [], ◌∷◌, le
 use Rattle.std.specs.List.{starts_with}
 use Rattle.ale_base.specs.Blanks.{trimmed, padded}
 use Rattle.ale_base.specs.Text.{told_length}
+use Rattle.idoc_record.specs.declared.data.TheConstants.{DATA_LEN}
 use Rattle.idoc_record.specs.declared.span.Span.{Span}
 use Rattle.idoc_record.specs.declared.fault.RecordFault.{RecordFault}
 use Rattle.idoc_record.specs.declared.fault.RecordFault.TheVariants.{TooLong, WrongTable}
@@ -39,9 +40,9 @@ pub record IsDataRecord (data_record : DataRecord) : Type 0 where
 
 -- the line is this data record: what it lacks at its end is blank
 pub record IsDataLine (line : List ℕ) (data_record : DataRecord) : Type 0 where
-  pub fits : length (trimmed line) ≤ 1063
-  pub segnam : data_record.segnam ≡ text_at segnam (padded 1063 (trimmed line))
-  pub sdata : data_record.sdata ≡ text_at sdata (padded 1063 (trimmed line))
+  pub fits : length (trimmed line) ≤ DATA_LEN
+  pub segnam : data_record.segnam ≡ text_at segnam (padded DATA_LEN (trimmed line))
+  pub sdata : data_record.sdata ≡ text_at sdata (padded DATA_LEN (trimmed line))
   pub kept : IsDataRecord data_record
 
 -- 1,063 bytes as a data record, or the first that is wrong with them
@@ -53,5 +54,5 @@ data_of bytes =
 -- a line as a data record, or the first that is wrong with it
 abbrev pub data_read : List ℕ → Result DataRecord RecordFault
 data_read line =
-    if nat_lt 1063 (length (trimmed line)) then Err (TooLong (told_length (length (trimmed line))))
-    else data_of (padded 1063 (trimmed line))
+    if nat_lt DATA_LEN (length (trimmed line)) then Err (TooLong (told_length (length (trimmed line))))
+    else data_of (padded DATA_LEN (trimmed line))

@@ -1,5 +1,6 @@
 -- The bytes of a data record that is written.
 use Rattle.std.specs.Prelude.{ℕ, List, replicate}
+use Rattle.idoc_record.specs.declared.data.TheConstants.{DATA_LEN}
 use Rattle.idoc_record.specs.declared.place.Place.{Place}
 use Rattle.idoc_record.specs.declared.span.Span.{Span}
 use Rattle.idoc_record.specs.declared.control_field.ControlField.TheVariants.{Mandt, Docnum}
@@ -27,7 +28,7 @@ hlevel = span 61 2
 
 -- 1,063 blanks
 unfoldable pub blank_record : List ℕ
-blank_record = replicate 1063 32
+blank_record = replicate DATA_LEN 32
 
 -- a record with client and number of the document
 abbrev pub addressed : List ℕ → List ℕ → List ℕ

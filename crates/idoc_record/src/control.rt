@@ -9,6 +9,9 @@ use ale_base::{told_length, trimmed};
 use std::alloc::AllocError;
 use std::marker::Model;
 
+/// The length of a control record, in bytes.
+pub(crate) const CONTROL_LEN: usize = 524;
+
 /// A control record EDI_DC40: 524 bytes with TABNAM `EDI_DC40`, a DOCNUM of digits or blank, and a DIRECT of `1`, `2`
 /// or blank. Contracts see the bytes.
 #[derive(Debug, PartialEq, Eq, Drop)]
@@ -37,7 +40,7 @@ impl Control {
     ghost use Rattle.idoc_record.specs.Control.{IsControl, IsControlLine, IsAllowed, field_of};
 
     /// The length of the record, in bytes.
-    pub const LEN: usize = 524;
+    pub const LEN: usize = CONTROL_LEN;
 
     /// The text of a field, without the blanks at its end.
     pub fn get(&self, field: ControlField) -> &[u8]

@@ -82,6 +82,7 @@ pub enum ControlField {
 
 impl ControlField {
     ghost use Rattle.std.specs.Prelude.{◌≡◌, ◌+◌, ◌≤◌};
+    ghost use Rattle.idoc_record.specs.declared.control.TheConstants.{CONTROL_LEN};
     ghost use Rattle.idoc_record.specs.ControlField.{span_of, name_of};
 
     /// All fields, in the order of the record.
@@ -171,7 +172,7 @@ impl ControlField {
     /// Where the field stands in the record.
     pub fn span(self) -> Span
         ensures place { result ≡ span_of self }
-        ensures within { result.offset + result.length ≤ 524 }
+        ensures within { result.offset + result.length ≤ CONTROL_LEN }
     {
         let (offset, length) = match self {
             ControlField::Tabnam => (0, 10),

@@ -2,6 +2,7 @@
 
 ghost use Rattle.std.specs.Prelude.{◌≡◌, ◌≢◌, ◌≤◌, length, Ok, Err};
 ghost use Rattle.ale_base.specs.Blanks.{padded};
+ghost use Rattle.idoc_record.specs.declared.data.TheConstants.{DATA_LEN};
 ghost use Rattle.idoc_record.specs.Parts.{text_at};
 ghost use Rattle.idoc_record.specs.Data.{DataRecord, IsDataLine, data_read, segnam, sdata, is_no_segment};
 
@@ -9,6 +10,9 @@ use crate::RecordFault;
 use ale_base::{Fixed, Items, told_length, trimmed};
 use std::alloc::{AllocError, Global};
 use std::marker::Model;
+
+/// The length of a data record, in bytes.
+pub(crate) const DATA_LEN: usize = 1_063;
 
 /// The data record EDI_DD40 of one segment: a SEGNAM that is not blank and does not begin with `EDI_`, and SDATA of at
 /// most 1,000 bytes without blanks at their end. Contracts see both texts.
@@ -34,7 +38,7 @@ impl Model for Data {
 
 impl Data {
     /// The length of the record, in bytes.
-    pub const LEN: usize = 1_063;
+    pub const LEN: usize = DATA_LEN;
 
     /// The greatest length of SEGNAM, in bytes.
     const SEGNAM_LEN: usize = 30;
@@ -80,7 +84,7 @@ pub fn read_data(alloc: Global, bytes: &[u8]) -> Result<Data, RecordFault>
 
 /// The name of the segment in a line without the blanks at its end.
 fn segnam_of(text: &[u8]) -> Fixed<30>
-    ensures { result ≡ text_at segnam (padded 1063 text.now) }
+    ensures { result ≡ text_at segnam (padded DATA_LEN text.now) }
 {
     let name = &text[..Data::SEGNAM_LEN.min(text.len())];
     match Fixed::of(name) {
@@ -91,8 +95,8 @@ fn segnam_of(text: &[u8]) -> Fixed<30>
 
 /// The data of the segment in such a line, without the blanks at their end.
 fn sdata_of(text: &[u8]) -> &[u8]
-    requires { length text.now ≤ 1063 }
-    ensures { result.now ≡ text_at sdata (padded 1063 text.now) }
+    requires { length text.now ≤ DATA_LEN }
+    ensures { result.now ≡ text_at sdata (padded DATA_LEN text.now) }
 {
     if text.len() <= Data::SDATA_OFFSET {
         return &[];

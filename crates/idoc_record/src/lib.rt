@@ -1,8 +1,8 @@
 //! The fixed records of the IDoc interface: the control record EDI_DC40 and the data record EDI_DD40.
 //!
 //! Contract: a line is read exactly where it is such a record, and the first fault in the stated order is named
-//! exactly where it comes; a record is written in full width, and its line is read as it again. The definitions are in `specs/`: `ControlField` (the layout), `Parts` (texts at places),
-//! `Control`, `Data`.
+//! exactly where it comes; a record is written in full width, and its line is read as it again. The definitions are in
+//! `specs/`: `ControlField` (the layout), `Parts` (texts at places), `Control`, `Data`, `Digits`, `Written`.
 #![tactic(auto)]
 
 mod control;

@@ -1,6 +1,7 @@
 //! Records as bytes, in full width.
 
 ghost use Rattle.std.specs.Prelude.{◌≡◌, ◌+◌, ◌++◌, ◌<◌, ◌≤◌, length, OnOk, OnErr};
+ghost use Rattle.idoc_record.specs.declared.data.TheConstants.{DATA_LEN};
 ghost use Rattle.idoc_record.specs.Parts.{with_text};
 ghost use Rattle.idoc_record.specs.Control.{IsControlLine};
 ghost use Rattle.idoc_record.specs.Data.{IsDataLine};
@@ -116,7 +117,7 @@ fn blank_record() -> [u8; 1063]
 
 /// Writes a text to its place, and blanks behind it there.
 fn put_at(record: &mut [u8; 1063], place: Span, text: &[u8])
-    requires within { place.offset + place.length ≤ 1063 }
+    requires within { place.offset + place.length ≤ DATA_LEN }
     requires fits { length text.now ≤ place.length }
     ensures { record.new ≡ with_text place text.now record.old }
 {

@@ -4,11 +4,15 @@ ghost use Rattle.std.specs.Prelude.{◌≡◌, ◌≤◌, length, IsTrue};
 ghost use Rattle.idoc_record.specs.Control.{IsAllowed, is_number, is_direction};
 
 use crate::answer::Answer;
-use crate::rules::{NO_CONTROL, NO_SUCH_FIELD, NOT_ALLOWED};
+use crate::rules::{
+    NO_CONTROL, NO_RECORD, NO_SUCH_FIELD, NO_SUCH_ITEM, NO_SUCH_NUMBER, NOT_ALLOWED,
+};
 use crate::text::{line_of, plain, put_line, put_pair, size_of};
 use ale_base::trimmed;
-use case_form::{Item, LineEnd, first_word, put_text};
-use idoc_record::{Control, ControlField, RecordFault, read_control, read_data};
+use case_form::{Item, LineEnd, first_word, number_of, put_text};
+use idoc_record::{
+    Control, ControlField, Place, RecordFault, read_control, read_data, write_control, write_data,
+};
 use std::alloc::{AllocError, Global};
 
 /// Answers an item on the line, on the control record or on the layout.
@@ -29,6 +33,7 @@ pub(crate) fn answer(
         b"get" => Ok(Answer::Text(get(alloc, control.as_ref(), rest)?)),
         b"set" => set(alloc, control.as_mut(), rest),
         b"fields" => Ok(Answer::Text(fields(alloc, control.as_ref())?)),
+        b"written" => Ok(Answer::Text(written(alloc, control.as_ref(), line.as_slice(), rest)?)),
         b"layout" => Ok(Answer::Text(layout(alloc)?)),
         _ => Ok(Answer::Foreign),
     }
@@ -121,6 +126,53 @@ fn set(alloc: Global, control: Option<&mut Control>, rest: &[u8]) -> Result<Answ
     }
     control.set(field, text.as_slice());
     Ok(Answer::Taken)
+}
+
+/// `written control`: the bytes of that record. `written data SEGNUM PARENT LEVEL`: those of the line's data record, with
+/// client and number of that record and this place.
+fn written(
+    alloc: Global,
+    control: Option<&Control>,
+    line: &[u8],
+    rest: &[u8],
+) -> Result<Vec<u8>, LineEnd> {
+    let control = control.ok_or(NO_CONTROL)?;
+    let mut bytes = Vec::new(alloc);
+    match first_word(rest) {
+        (b"control", _) => write_control(control, &mut bytes)?,
+        (b"data", place) => write_line(alloc, control, line, place, &mut bytes)?,
+        _ => return Err(NO_SUCH_ITEM.into()),
+    }
+    Ok(line_of(alloc, bytes.as_slice())?)
+}
+
+/// Appends the bytes of a line's data record.
+fn write_line(
+    alloc: Global,
+    control: &Control,
+    line: &[u8],
+    place: &[u8],
+    bytes: &mut Vec<u8>,
+) -> Result<(), LineEnd> {
+    let place = place_of(place)?;
+    if place.segnum >= 1_000_000 || place.parent >= 1_000_000 || place.level >= 100 {
+        return Err(NO_SUCH_NUMBER.into());
+    }
+    match read_data(alloc, line) {
+        Ok(data) => Ok(write_data(control, place, &data, bytes)?),
+        Err(_) => Err(NO_RECORD.into()),
+    }
+}
+
+/// A place, as `SEGNUM PARENT LEVEL`.
+fn place_of(text: &[u8]) -> Result<Place, LineEnd> {
+    let (segnum, rest) = first_word(text);
+    let (parent, level) = first_word(rest);
+    Ok(Place {
+        segnum: number_of(segnum)?,
+        parent: number_of(parent)?,
+        level: u8::try_from(number_of(level)?).map_err(|_| NO_SUCH_NUMBER)?,
+    })
 }
 
 /// Whether a field may hold this text.
