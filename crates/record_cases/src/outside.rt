@@ -4,7 +4,7 @@ use crate::answer::Answer;
 use crate::rules::{NO_SUCH_ITEM, NO_TEXT};
 use crate::text::{line_of, plain, put_line, size_of};
 use ale_base::Items;
-use ale_io::{Calls, Files, MapFiles, Sink, StoredFile, VecSink};
+use ale_io::{Calls, FileEnd, Files, MapFiles, Sink, StoredFile, VecSink};
 use case_form::{Item, LineEnd, first_word, number_of};
 use std::alloc::{AllocError, Global};
 use std::str;
@@ -65,6 +65,7 @@ fn read(alloc: Global, files: &mut MapFiles, rest: &[u8]) -> Result<Vec<u8>, Lin
     let mut into = Vec::from_slice(alloc, b"so far ")?;
     let mut text = match files.read_file(name, limit, &mut into) {
         Ok(()) => line_of(alloc, b"read")?,
+        Err(FileEnd::OutOfMemory) => return Err(LineEnd::OutOfMemory),
         Err(end) => {
             let end = end.clone()?;
             let told = format!(in alloc; "{end}")?;

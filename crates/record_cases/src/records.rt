@@ -71,6 +71,9 @@ fn control_of(
 
 /// The fault of a line.
 fn fault_text(alloc: Global, fault: RecordFault) -> Result<Vec<u8>, LineEnd> {
+    if fault == RecordFault::OutOfMemory {
+        return Err(LineEnd::OutOfMemory);
+    }
     let fault = fault.clone()?;
     let told = format!(in alloc; "no record: {fault}")?;
     Ok(line_of(alloc, told.as_bytes())?)
@@ -160,6 +163,7 @@ fn write_line(
     }
     match read_data(alloc, line) {
         Ok(data) => Ok(write_data(control, place, &data, bytes)?),
+        Err(RecordFault::OutOfMemory) => Err(LineEnd::OutOfMemory),
         Err(_) => Err(NO_RECORD.into()),
     }
 }

@@ -14,6 +14,8 @@ pub(crate) const NO_CONTROL: Rule = Rule("a field is read or written behind a co
 
 pub(crate) const NO_RECORD: Rule = Rule("a record has a name that a data record may have");
 
+pub(crate) const NO_DOCUMENT: Rule = Rule("records that are flattened make a document");
+
 pub(crate) const NO_TYPE: Rule = Rule("a definition stands behind the segment type that has it");
 
 pub(crate) const NO_SUCH_NAME: Rule = Rule("a name is one of those defined");

@@ -5,11 +5,11 @@ ghost use Rattle.segment_defs.specs.IdocType.{IsIdocType};
 
 use crate::answer::Answer;
 use crate::bench::Bench;
-use crate::rules::{NO_RECORD, NO_SUCH_NUMBER, NOT_VALID};
+use crate::rules::{NO_DOCUMENT, NO_RECORD, NO_SUCH_NUMBER, NOT_VALID};
 use crate::text::{line_of, plain, put_line, put_pair};
 use ale_base::Items;
 use case_form::{Item, LineEnd, first_word, number_of};
-use idoc_record::{Control, Data, read_control, read_data};
+use idoc_record::{Control, Data, RecordFault, read_control, read_data};
 use idoc_tree::{Node, SyntaxFault, build, flatten};
 use segment_defs::{Definitions, Field, IdocType, SegmentType, TypeNo, TypePlace, Version};
 use std::alloc::{AllocError, Global};
@@ -80,6 +80,7 @@ fn record_of(alloc: Global, name: &[u8], sdata: &[u8]) -> Result<Data, LineEnd> 
     line.extend_from_slice(sdata.as_slice())?;
     match read_data(alloc, line.as_slice()) {
         Ok(record) => Ok(record),
+        Err(RecordFault::OutOfMemory) => Err(LineEnd::OutOfMemory),
         Err(_) => Err(NO_RECORD.into()),
     }
 }
@@ -220,7 +221,8 @@ fn again(
 {
     match build(alloc, definitions, ty, control()?, records) {
         Ok(doc) => Ok(flatten(alloc, definitions, &doc)?),
-        Err(_) => Err(NO_RECORD.into()),
+        Err(SyntaxFault::OutOfMemory) => Err(LineEnd::OutOfMemory),
+        Err(_) => Err(NO_DOCUMENT.into()),
     }
 }
 
