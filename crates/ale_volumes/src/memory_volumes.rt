@@ -338,7 +338,8 @@ impl Volumes for MemoryVolumes {
         ensures half { IsErrOf result VolumeEnd.Failed →
             volume_now self.new n ≡ half_written (volume_now self.old n) at bytes.now }
 
-        // The record has this write more, unless memory runs out.
+        // What the volumes held at first stays, and the record has this write more, unless memory runs out.
+        ensures kept { self.new ≡ record self.old { steps = self.new.steps; calls = self.new.calls } }
         ensures recorded { result ≢ Err VolumeEnd.OutOfMemory →
             self.new.steps ≡ self.old.steps ++ Write n at bytes.now (is_err result) ∷ [] }
         ensures unrecorded { IsErrOf result VolumeEnd.OutOfMemory → self.new.steps ≡ self.old.steps }
@@ -366,7 +367,9 @@ impl Volumes for MemoryVolumes {
         ensures chosen { IsErr result ↔ NextFails self.old.calls.failing self.old.calls.made }
         ensures counts { CountsCall self.old.calls self.new.calls n (IsErr result) }
 
-        // The record has this sync more exactly where there was a write since the last one.
+        // What the volumes held at first stays, and the record has this sync more exactly where there was a write since
+        // the last one.
+        ensures kept { self.new ≡ record self.old { steps = self.new.steps; calls = self.new.calls } }
         ensures recorded { OnOk result (AddsSync self.old self.new n) }
         ensures unrecorded { OnErr result (self.new.steps ≡ self.old.steps) }
     {

@@ -13,6 +13,12 @@ pub record IsStepOf (line : ℕ) (differs : Bool) (found : List ℕ) (step : Ste
   pub expected : List ℕ
   pub is : step ≡ record { line = line; differs = differs; comparisons = record { what = what; relation = Whole; expected = expected; found = found } ∷ [] }
 
+-- the step of an item at this line whose block is no case: it compares what is expected to be told with what was told
+pub record IsBrokenStepOf (line : ℕ) (differs : Bool) (expected : List ℕ) (step : Step) : Type 0 where
+  pub what : List ℕ
+  pub found : List ℕ
+  pub is : step ≡ record { line = line; differs = differs; comparisons = record { what = what; relation = Whole; expected = expected; found = found } ∷ [] }
+
 -- what came of a case whose steps were made, or which is malformed
 abbrev pub IsOutcomeOf : Result (List Step) CaseFault → Outcome → Type 0
 IsOutcomeOf (Ok steps) outcome = outcome ≡ Steps steps

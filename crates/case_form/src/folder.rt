@@ -1,5 +1,7 @@
 //! The program around a suite: the case files of a folder, read, run and reported.
 
+ghost use Rattle.std.specs.Prelude.{◌≡◌, IsTrue, IsFalse};
+
 use crate::judging::{CaseFile, Suite};
 use crate::report::run_cases;
 use ale_base::OutOfMemory;
@@ -29,7 +31,10 @@ pub fn run_folder<R: Files + Env + Print + Eprint + AllocGlobal + Clone + Drop, 
 }
 
 /// The exit status of a run of all cases.
-fn exit_code(all_passed: bool) -> ExitCode {
+fn exit_code(all_passed: bool) -> ExitCode
+    ensures success { IsTrue all_passed → result ≡ ExitCode.SUCCESS }
+    ensures failure { IsFalse all_passed → result ≡ ExitCode.FAILURE }
+{
     if all_passed {
         ExitCode::SUCCESS
     } else {

@@ -9,7 +9,7 @@ use ale_base::{Items, OutOfMemory};
 use std::alloc::{AllocError, Global};
 
 impl Step {
-    ghost use Rattle.case_form.specs.Made.{IsStepOf};
+    ghost use Rattle.case_form.specs.Made.{IsStepOf, IsBrokenStepOf};
 
     /// The step of an item whose block is the text that is expected to be found, line for line.
     pub fn of(alloc: Global, item: &Item, found: Vec<u8>) -> Result<Step, CaseFault>
@@ -25,7 +25,9 @@ impl Step {
         alloc: Global,
         item: &Item,
         fault: Option<CaseFault>,
-    ) -> Result<Step, CaseFault> {
+    ) -> Result<Step, CaseFault>
+        ensures { IfOk result (IsBrokenStepOf item.now.line item.now.differs item.now.rest.items) }
+    {
         let expected = Vec::from_slice(alloc, item.rest.as_slice())?;
         let found = told(alloc, fault)?;
         let what = Vec::from_slice(alloc, b"broken")?;

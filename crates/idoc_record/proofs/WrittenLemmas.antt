@@ -11,7 +11,7 @@ use Rattle.idoc_record.specs.Parts.{text_at, with_text}
 use Rattle.idoc_record.specs.Control.{IsControl, IsControlLine, field_of}
 use Rattle.idoc_record.specs.Data.{DataRecord, IsDataRecord, IsDataLine, segnam, sdata}
 use Rattle.idoc_record.specs.Digits.{decimal_digits}
-use Rattle.idoc_record.specs.Written.{mandt, docnum, segnum, psgnum, hlevel, blank_record, data_line}
+use Rattle.idoc_record.specs.Written.{mandt, docnum, segnum, psgnum, hlevel, blank_record, addressed, placed, data_line}
 use Rattle.idoc_record.proofs.PartLemmas.{is_apart, length-text_at, length-with_text, text_at-same, part-apart}
 
 -- a control record is its own line
@@ -49,6 +49,28 @@ module _ (p : Span) (text bytes : List ℕ) (fits : length text ≤ p.length) (w
 
 digits_fit : (count number : ℕ) → length (decimal_digits count number) ≤ count
 digits_fit count number = omega (arith, length-decimal_digits count number)
+
+-- a record with the client and the number of a document, and one with the place of a segment, keep their length
+length-addressed : (control bytes : List ℕ) → length bytes ≡ 1063 → length (addressed control bytes) ≡ 1063
+length-addressed control bytes long =
+    stays_long docnum (field_of control Docnum) (with_text mandt (field_of control Mandt) bytes) (length-text_at (span_of Docnum) control) (omega arith)
+    (stays_long mandt (field_of control Mandt) bytes (length-text_at (span_of Mandt) control) (omega arith) long)
+
+length-placed : (place : Place) (bytes : List ℕ) → length bytes ≡ 1063 → length (placed place bytes) ≡ 1063
+length-placed place bytes long =
+    let r1 = with_text segnum (decimal_digits 6 place.segnum) bytes in
+    let l1 : length r1 ≡ 1063 = stays_long segnum (decimal_digits 6 place.segnum) bytes (digits_fit 6 place.segnum) (omega arith) long in
+    let r2 = with_text psgnum (decimal_digits 6 place.parent) r1 in
+    let l2 : length r2 ≡ 1063 = stays_long psgnum (decimal_digits 6 place.parent) r1 (digits_fit 6 place.parent) (omega arith) l1 in
+    stays_long hlevel (decimal_digits 2 place.level) r2 (digits_fit 2 place.level) (omega arith) l2
+
+-- the length of a data record
+pub length-data_line : (control : List ℕ) (place : Place) (data_record : DataRecord) → IsDataRecord data_record → length (data_line control place data_record) ≡ 1063
+length-data_line control place data_record is =
+    let named = with_text segnam data_record.segnam blank_record in
+    let l0 : length named ≡ 1063 = stays_long segnam data_record.segnam blank_record is.named (omega arith) length-blank_record in
+    let l1 : length (addressed control named) ≡ 1063 = length-addressed control named l0 in
+    stays_long sdata data_record.sdata (placed place (addressed control named)) is.fits (omega arith) (length-placed place (addressed control named) l1)
 
 -- the line of a data record is read as it again
 pub IsDataLine-written : (control : List ℕ) (place : Place) (data_record : DataRecord) → IsDataRecord data_record → IsDataLine (data_line control place data_record) data_record

@@ -70,6 +70,7 @@ pub fn write_data(
     requires parent { place.parent < 1000000 }
     requires level { place.level < 100 }
     ensures written { OnOk result (into.new.items ≡ into.old.items ++ data_line control.now place line.now) }
+    ensures whole { length (data_line control.now place line.now) ≡ DATA_LEN }
     ensures again { IsDataLine (data_line control.now place line.now) line.now }
     ensures err { OnErr result (into.new.items ≡ into.old.items) }
 {
@@ -80,6 +81,7 @@ pub fn write_data(
 /// The bytes of a data record.
 fn data_line(control: &Control, place: Place, line: &Data) -> [u8; 1063]
     ensures bytes { result ≡ data_line control.now place line.now }
+    ensures whole { length (data_line control.now place line.now) ≡ DATA_LEN }
     ensures again { IsDataLine (data_line control.now place line.now) line.now }
 {
     let mut record = blank_record();

@@ -17,7 +17,7 @@ use Rattle.worked_cases.specs.Judged.{IsMadeOf, AreRuns}
 -- a step that was made over files that are told alike
 pub IsMadeOf-alike : (before now : List StoredFile) → ((name : List ℕ) → told_of now name ≡ told_of before name) → (part : Part) (step : Step) → IsMadeOf now part step → IsMadeOf before part step
 IsMadeOf-alike before now alike (Run run) step made = (made.0, λ name. made.1 name ∙ alike name, made.2)
-IsMadeOf-alike before now alike (Broken item) step made = tt
+IsMadeOf-alike before now alike (Broken item) step made = made
 
 -- what comes of a case whose parts became steps
 outcome_of : (files : List StoredFile) (parts : List Part) (made : Result (List Step) CaseFault) → IfOk made (AllZip (IsMadeOf files) parts) → (outcome : Outcome) → IsOutcomeOf made outcome → AreRuns outcome

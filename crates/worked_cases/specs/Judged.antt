@@ -14,6 +14,7 @@ use Rattle.case_form.specs.declared.verdict.Comparison.{Comparison}
 use Rattle.case_form.specs.declared.verdict.Step.{Step}
 use Rattle.case_form.specs.declared.verdict.Outcome.{Outcome}
 use Rattle.case_form.specs.declared.verdict.Outcome.TheVariants.{Malformed, Steps}
+use Rattle.case_form.specs.Made.{IsBrokenStepOf}
 use Rattle.worked_cases.specs.declared.case.Words.{Words}
 use Rattle.worked_cases.specs.declared.case.Words.TheVariants.{Given, Wanting}
 use Rattle.worked_cases.specs.declared.case.Output.{Output}
@@ -51,14 +52,15 @@ step_of_run run status printed = record {
   comparisons = status_compared run.status status ∷ map (output_compared printed) run.outputs.items;
 }
 
--- the step of a part of a case over these files: that of the run, by what it gave
+-- the step of a part of a case over these files: that of the run, by what it gave; or that of a text that is no case
 abbrev pub IsMadeOf : List StoredFile → Part → Step → Type 0
 IsMadeOf files (RunPart run) step =
     (told : List ℕ → Told) × ((name : List ℕ) → told name ≡ told_of files name)
     × ((status : ℕ) × (printed : List ℕ) × MayGive run.words told status printed × (step ≡ step_of_run run status printed))
-IsMadeOf files (Broken item) step = ⊤
+IsMadeOf files (Broken item) step = IsBrokenStepOf item.line item.differs item.rest.items step
 
--- the steps are those of the parts of some case, one for each, in order
+-- the steps are those of the parts of a case, one for each, in order. That these are the parts that the file spells is not
+-- said here
 abbrev pub AreRuns : Outcome → Type 0
 AreRuns (Malformed line rule) = ⊤
 AreRuns (Steps steps) = (files : List StoredFile) × (parts : List Part) × AllZip (IsMadeOf files) parts steps

@@ -3,6 +3,7 @@
 ghost use Rattle.std.specs.Prelude.{◌≡◌, ◌++◌, ℕ, List, map, OnOk, IfOk};
 ghost use Rattle.std.specs.List.{AllZip};
 ghost use Rattle.ale_io.specs.Folder.{told_of};
+ghost use Rattle.case_form.specs.Made.{IsBrokenStepOf};
 ghost use Rattle.worked_cases.specs.Judged.{MayGive, IsMadeOf, step_of_run, status_compared, output_compared, shown_status};
 
 use crate::case::{Case, Output, Part, Run, Words};
@@ -131,7 +132,9 @@ fn put_outputs(
 }
 
 /// The step of a text that is no case: which line breaks which rule.
-fn step_of_broken(alloc: Global, item: &Item) -> Result<Step, CaseFault> {
+fn step_of_broken(alloc: Global, item: &Item) -> Result<Step, CaseFault>
+    ensures { IfOk result (IsBrokenStepOf item.now.line item.now.differs item.now.rest.items) }
+{
     let text = item.text(alloc)?;
     let fault = read_case(alloc, "broken.case", text.as_slice()).err();
     Step::of_broken(alloc, item, fault)
