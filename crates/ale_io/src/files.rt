@@ -1,7 +1,8 @@
 //! The trait of the files that the program may read.
 
-ghost use Rattle.std.specs.Prelude.{◌≡◌, ℕ, List, [], ◌++◌, ◌<◌, ◌≤◌, length, IsOk, OnOk, OnErr, IsErrOf};
+ghost use Rattle.std.specs.Prelude.{◌≡◌, ◌≢◌, ℕ, List, [], ◌++◌, ◌<◌, ◌≤◌, length, Err, IsOk, OnOk, IfOk, OnErr, IsErrOf};
 ghost use Rattle.ale_io.specs.Told.{Told, MayHold, MayLack};
+ghost use Rattle.ale_io.specs.Piece.{AppendsPiece};
 ghost use Rattle.ale_io.specs.FaultCount.{IsCounted};
 
 use crate::FileEnd;
@@ -24,6 +25,26 @@ pub trait Files {
         ensures missing { IsErrOf result FileEnd.Missing → MayLack (told self.old name.now) }
         ensures too_long { IsErrOf result FileEnd.TooLong →
             (bytes : List ℕ) × MayHold (told self.old name.now) bytes × (limit < length bytes) }
+        ensures err { OnErr result (into.new.items ≡ into.old.items) }
+        ensures no_name { name.now ≡ [] → IsErrOf result FileEnd.Failed }
+        ensures kept { (other : List ℕ) → told self.new other ≡ told self.old other }
+        ensures faults { IsCounted (IsErrOf result FileEnd.Failed) (IsOk result) (faults self.old) (faults self.new) };
+
+    /// Appends a piece of a file: at most `most` bytes from the place `at` on, counted from 0. The answer is their
+    /// number, which is 0 exactly where the file has no byte at that place.
+    ///
+    /// `Missing` and `Failed` come as in `read_file`, and `TooLong` never. After an `Err` the vector is as before.
+    fn read_piece(
+        &mut self,
+        name: &str,
+        at: u64,
+        most: usize,
+        into: &mut Vec<u8>,
+    ) -> Result<usize, FileEnd>
+        requires some { 1 ≤ most }
+        ensures read { IfOk result (AppendsPiece (told self.old name.now) at most into.old.items into.new.items) }
+        ensures missing { IsErrOf result FileEnd.Missing → MayLack (told self.old name.now) }
+        ensures not_too_long { result ≢ Err FileEnd.TooLong }
         ensures err { OnErr result (into.new.items ≡ into.old.items) }
         ensures no_name { name.now ≡ [] → IsErrOf result FileEnd.Failed }
         ensures kept { (other : List ℕ) → told self.new other ≡ told self.old other }

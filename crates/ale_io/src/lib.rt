@@ -2,7 +2,7 @@
 //!
 //! Contract: a call says what it read or wrote where the implementation tells its contents, and it answers `Failed` or
 //! `SinkFailed` only where the implementation's count of faults rises in that call. The definitions are in `specs/`:
-//! `Told` (what is known of a file), `Written` (what a sink holds after a call), `FaultCount` (what a call does to a
+//! `Told` (what is known of a file), `Piece` (what is read of it in pieces), `Written` (what a sink holds after a call), `FaultCount` (what a call does to a
 //! count of faults), `Folder` (files in memory).
 #![tactic(auto)]
 

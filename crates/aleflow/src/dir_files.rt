@@ -1,25 +1,36 @@
 //! The files of the system. They tell nothing of what they hold.
 
-ghost use Rattle.std.specs.Prelude.{◌≡◌, [], ◌++◌, ◌+◌, ◌<◌, ◌≤◌, length, IfSome, OnOk, IsErrOf, IsTrue, IsFalse};
+ghost use Rattle.std.specs.Prelude.{◌≡◌, ◌≢◌, [], ◌++◌, ◌+◌, ◌<◌, ◌≤◌, length, Err, IfOk, IfSome, OnOk, IsErrOf, IsTrue, IsFalse};
 ghost use Rattle.std.specs.Io.{StartsWith};
+ghost use Rattle.ale_base.specs.Faults.{Rose};
 
+use crate::open_file::OpenFile;
 use ale_io::{FileEnd, Files};
+use std::alloc::Global;
 use std::io::{ErrorKind, Read};
 use std::{fs, rt};
 
-/// The files of the current folder, or those that their paths name. It tells nothing of what they hold.
+/// The files of the current folder, or those that their paths name. It tells nothing of what they hold. The file of the
+/// last piece stays open, so that the next piece of it is read on from there.
 #[derive(Drop)]
-pub struct DirFiles<'a, R> {
+pub struct DirFiles<'a, R: rt::Files> {
     rt: &'a R,
+    alloc: Global,
     faults: u64,
+    open: Option<OpenFile<R::File>>,
 }
 
 impl<'a, R: rt::Files> DirFiles<'a, R> {
     /// No read has failed yet.
-    pub fn new(rt: &'a R) -> DirFiles<'a, R>
+    pub fn new(rt: &'a R, alloc: Global) -> DirFiles<'a, R>
         ensures { ⟦<DirFiles<'a, R> as Files>⟧.faults result ≡ 0 }
     {
-        DirFiles { rt, faults: 0 }
+        DirFiles {
+            rt,
+            alloc,
+            faults: 0,
+            open: None,
+        }
     }
 
     /// Appends the bytes of a file. After an `Err` some of them may have been appended.
@@ -34,6 +45,57 @@ impl<'a, R: rt::Files> DirFiles<'a, R> {
         }
         match fs::open(self.rt, name) {
             Ok(file) => append_all(file, limit, into),
+            Err(error) => Err(end_of_opening(error.kind() == ErrorKind::NotFound)),
+        }
+    }
+
+    /// Counts a fault.
+    fn fault(&mut self)
+        ensures counted { self.old.faults ≤ self.new.faults }
+        ensures rose { Rose self.old.faults self.new.faults }
+    {
+        self.faults = self.faults.saturating_add(1);
+    }
+
+    /// Appends a piece of a file. After an `Err` some of its bytes may have been appended, and no file is open.
+    fn append_piece(
+        &mut self,
+        name: &str,
+        at: u64,
+        most: usize,
+        into: &mut Vec<u8>,
+    ) -> Result<usize, FileEnd>
+        ensures kept { StartsWith into.new.items into.old.items }
+        ensures counted { IfOk result (λ count. (length into.new.items ≡ length into.old.items + count) × (count ≤ most)) }
+        ensures not_too_long { result ≢ Err FileEnd.TooLong }
+        ensures no_name { name.now ≡ [] → IsErrOf result FileEnd.Failed }
+        ensures faults { self.new.faults ≡ self.old.faults }
+    {
+        if name.is_empty() {
+            return Err(FileEnd::Failed);
+        }
+        let file = self.take_open(name, at)?;
+        let (file, count) = file.append_piece(at, most, into)?;
+        // Behind the last piece nothing is left to be read.
+        if count > 0 {
+            self.open = Some(file);
+        }
+        Ok(count)
+    }
+
+    /// The file that is open, where it is that of this name, or else the file of this name, opened. A read from the
+    /// first byte on begins anew.
+    fn take_open(&mut self, name: &str, at: u64) -> Result<OpenFile<R::File>, FileEnd>
+        ensures not_too_long { result ≢ Err FileEnd.TooLong }
+        ensures faults { self.new.faults ≡ self.old.faults }
+    {
+        if let Some(file) = self.open.take() {
+            if at > 0 && file.has_name(name) {
+                return Ok(file);
+            }
+        }
+        match fs::open(self.rt, name) {
+            Ok(file) => OpenFile::at_start(self.alloc, name, file),
             Err(error) => Err(end_of_opening(error.kind() == ErrorKind::NotFound)),
         }
     }
@@ -52,7 +114,25 @@ impl<R: rt::Files> Files for DirFiles<'_, R> {
             Ok(()) => Ok(()),
             Err(end) => {
                 into.truncate(before);
-                self.faults = self.faults.saturating_add(1);
+                self.fault();
+                Err(end)
+            }
+        }
+    }
+
+    fn read_piece(
+        &mut self,
+        name: &str,
+        at: u64,
+        most: usize,
+        into: &mut Vec<u8>,
+    ) -> Result<usize, FileEnd> {
+        let so_far = into.len();
+        match self.append_piece(name, at, most, into) {
+            Ok(count) => Ok(count),
+            Err(end) => {
+                self.fault();
+                into.truncate(so_far);
                 Err(end)
             }
         }

@@ -5,6 +5,7 @@
 #![tactic(auto)]
 
 mod dir_files;
+mod open_file;
 mod std_sink;
 
 use ale_host::{aleflow, out_of_memory};
@@ -23,7 +24,7 @@ fn words(rt: &(impl Env + AllocGlobal), alloc: Global) -> io::Result<Vec<String>
 
 fn main(rt: HostRuntime) -> ExitCode {
     let alloc = rt.alloc();
-    let mut files = DirFiles::new(&rt);
+    let mut files = DirFiles::new(&rt, alloc);
     let mut out = StdSink::new(rt.stdout());
     let status = match words(&rt, alloc) {
         Ok(words) => aleflow(alloc, words.as_slice(), &mut files, &mut out),

@@ -18,7 +18,7 @@ fn copies(alloc: Global, byte: u8, count: usize) -> Result<Vec<u8>, AllocError> 
 fn a_file_of_the_system_is_read(rt: HostRuntime) -> Result<(), Fail> {
     let alloc = rt.alloc();
     fs::write(&rt, PATH, copies(alloc, b'x', 200_001)?.as_slice())?;
-    let mut files = DirFiles::new(&rt);
+    let mut files = DirFiles::new(&rt, alloc);
     let expected: [(&str, usize, Result<(), FileEnd>, usize); 6] = [
         (PATH, 200_001, Ok(()), 200_008),
         (PATH, usize::MAX, Ok(()), 200_008),
@@ -39,6 +39,47 @@ fn a_file_of_the_system_is_read(rt: HostRuntime) -> Result<(), Fail> {
         assert!(rt; into.iter().skip(7).all(|byte| *byte == b'x'));
     }
     fs::remove_file(&rt, PATH)?;
+    Ok(())
+}
+
+/// A file that the test of pieces makes and removes.
+const PIECES: &str = "/tmp/aleflow_pieces_test";
+
+#[test]
+fn a_file_of_the_system_is_read_in_pieces(rt: HostRuntime) -> Result<(), Fail> {
+    let alloc = rt.alloc();
+    fs::write(&rt, PIECES, b"0123456789")?;
+    let mut files = DirFiles::new(&rt, alloc);
+    let expected: [(&str, u64, usize, Result<usize, FileEnd>, &[u8]); 10] = [
+        (PIECES, 0, 4, Ok(4), b"0123"),
+        (PIECES, 4, 4, Ok(4), b"4567"),
+        (PIECES, 8, 4, Ok(2), b"89"),
+        (PIECES, 10, 4, Ok(0), b""),
+        (PIECES, 2, 1, Ok(1), b"2"),
+        (PIECES, 7, 65_536, Ok(3), b"789"),
+        (PIECES, 1_000, 1, Ok(0), b""),
+        (
+            "/tmp/aleflow_no_such_file",
+            0,
+            1,
+            Err(FileEnd::Missing),
+            b"",
+        ),
+        ("/tmp", 0, 1, Err(FileEnd::Failed), b""),
+        ("", 0, 1, Err(FileEnd::Failed), b""),
+    ];
+    for (name, at, most, answer, bytes) in expected {
+        let mut into = Vec::from_slice(alloc, b"so far ")?;
+        assert_eq!(rt;
+            files.read_piece(name, at, most, &mut into),
+            answer,
+            "{name} {at}"
+        );
+        assert!(rt; into.as_slice().starts_with(b"so far "));
+        assert!(rt; into.as_slice().ends_with(bytes));
+        assert_eq!(rt; into.len(), 7 + bytes.len());
+    }
+    fs::remove_file(&rt, PIECES)?;
     Ok(())
 }
 

@@ -24,6 +24,7 @@ pub(crate) fn answer(
         }
         b"failing" => failing(files, sink, rest),
         b"read" => Ok(Answer::Text(read(alloc, files, rest)?)),
+        b"piece" => Ok(Answer::Text(piece(alloc, files, rest)?)),
         b"put" => Ok(Answer::Text(put(alloc, sink, rest)?)),
         b"call" => Ok(Answer::Text(call(alloc)?)),
         _ => Ok(Answer::Foreign),
@@ -55,26 +56,56 @@ fn failing(files: &mut MapFiles, sink: &mut VecSink, rest: &[u8]) -> Result<Answ
 /// `read NAME LIMIT`: the answer, what the vector holds that had `so far ` before, and the counts of calls and faults.
 fn read(alloc: Global, files: &mut MapFiles, rest: &[u8]) -> Result<Vec<u8>, LineEnd> {
     let (name, limit) = first_word(rest);
-    let name = if name == b"\"\"".as_slice() {
-        &[]
-    } else {
-        name
-    };
-    let name = str::from_utf8(name).map_err(|_| NO_TEXT)?;
+    let name = name_of(name)?;
     let limit = size_of(limit)?;
     let mut into = Vec::from_slice(alloc, b"so far ")?;
     let mut text = match files.read_file(name, limit, &mut into) {
         Ok(()) => line_of(alloc, b"read")?,
         Err(FileEnd::OutOfMemory) => return Err(LineEnd::OutOfMemory),
-        Err(end) => {
-            let end = end.clone()?;
-            let told = format!(in alloc; "{end}")?;
-            line_of(alloc, told.as_bytes())?
-        }
+        Err(end) => end_line(alloc, &end)?,
     };
     put_line(&mut text, into.as_slice())?;
     put_counts(alloc, &mut text, &files.calls)?;
     Ok(text)
+}
+
+/// `piece NAME AT MOST`: the answer, what the vector holds that had `so far ` before, and the counts of calls and faults.
+fn piece(alloc: Global, files: &mut MapFiles, rest: &[u8]) -> Result<Vec<u8>, LineEnd> {
+    let (name, numbers) = first_word(rest);
+    let (at, most) = first_word(numbers);
+    let name = name_of(name)?;
+    let at = u64::from(number_of(at)?);
+    let most = size_of(most)?;
+    if most == 0 {
+        return Err(NO_SUCH_ITEM.into());
+    }
+    let mut into = Vec::from_slice(alloc, b"so far ")?;
+    let mut text = match files.read_piece(name, at, most, &mut into) {
+        Ok(count) => {
+            let told = format!(in alloc; "read {count}")?;
+            line_of(alloc, told.as_bytes())?
+        }
+        Err(FileEnd::OutOfMemory) => return Err(LineEnd::OutOfMemory),
+        Err(end) => end_line(alloc, &end)?,
+    };
+    put_line(&mut text, into.as_slice())?;
+    put_counts(alloc, &mut text, &files.calls)?;
+    Ok(text)
+}
+
+/// The name of a file: a word, or `""` for no name.
+fn name_of(word: &[u8]) -> Result<&str, LineEnd> {
+    if word == b"\"\"".as_slice() {
+        return Ok("");
+    }
+    Ok(str::from_utf8(word).map_err(|_| NO_TEXT)?)
+}
+
+/// Why a file was not read, as a line.
+fn end_line(alloc: Global, end: &FileEnd) -> Result<Vec<u8>, LineEnd> {
+    let end = end.clone()?;
+    let told = format!(in alloc; "{end}")?;
+    Ok(line_of(alloc, told.as_bytes())?)
 }
 
 /// `put TEXT`: the answer, what the sink holds, and the counts of calls and faults.

@@ -1,0 +1,68 @@
+//! A file of the system that is open, and where the next read of it begins.
+
+ghost use Rattle.std.specs.Prelude.{◌≡◌, ◌≢◌, ◌+◌, ◌≤◌, length, Err, IfOk};
+ghost use Rattle.std.specs.Io.{StartsWith};
+
+use ale_io::FileEnd;
+use std::alloc::Global;
+use std::io::{ErrorKind, Read, Seek, SeekFrom};
+
+/// A file of the system that is open, and where the next read of it begins.
+#[derive(Drop)]
+pub(crate) struct OpenFile<F> {
+    name: String,
+    file: F,
+    at: u64,
+}
+
+impl<F: Read + Seek + Drop> OpenFile<F> {
+    /// The file of this name, of which nothing was read.
+    pub(crate) fn at_start(alloc: Global, name: &str, file: F) -> Result<OpenFile<F>, FileEnd>
+        ensures not_too_long { result ≢ Err FileEnd.TooLong }
+    {
+        match String::from_str(alloc, name) {
+            Ok(name) => Ok(OpenFile { name, file, at: 0 }),
+            Err(_) => Err(FileEnd::OutOfMemory),
+        }
+    }
+
+    /// Whether it is the file of this name.
+    pub(crate) fn has_name(&self, name: &str) -> bool {
+        self.name.as_str() == name
+    }
+
+    /// Appends a piece of the file, and gives the file back with the number of bytes. After an `Err` some of them may have
+    /// been appended, and the file is closed.
+    pub(crate) fn append_piece(
+        self,
+        at: u64,
+        most: usize,
+        into: &mut Vec<u8>,
+    ) -> Result<(OpenFile<F>, usize), FileEnd>
+        ensures kept { StartsWith into.new.items into.old.items }
+        ensures counted { IfOk result (λ read. (length into.new.items ≡ length into.old.items + read.1) × (read.1 ≤ most)) }
+        ensures not_too_long { result ≢ Err FileEnd.TooLong }
+    {
+        let OpenFile {
+            name,
+            mut file,
+            at: place,
+        } = self;
+        // A piece that goes on where the last one ended needs no seek.
+        if place != at && file.seek(SeekFrom::Start(at)).is_err() {
+            return Err(FileEnd::Failed);
+        }
+        let mut head = file.take(most as u64);
+        match head.read_to_end(into) {
+            Ok(count) if count <= most => {
+                let file = head.into_inner();
+                let at = at.saturating_add(count as u64);
+                Ok((OpenFile { name, file, at }, count))
+            }
+            // More than was asked for is never read, which no contract says.
+            Ok(_) => Err(FileEnd::Failed),
+            Err(error) if error.kind() == ErrorKind::OutOfMemory => Err(FileEnd::OutOfMemory),
+            Err(_) => Err(FileEnd::Failed),
+        }
+    }
+}
