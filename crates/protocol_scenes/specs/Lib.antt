@@ -1,0 +1,2 @@
+-- a world of the rules that list units
+pub mod Worlds

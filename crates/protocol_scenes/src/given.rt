@@ -1,0 +1,233 @@
+//! Logs made by hand: what they tell, and which clauses of the law they break.
+
+use crate::law::{Logs, front_of};
+use crate::listing::{put_log, put_system};
+use crate::records::read_record;
+use crate::rules;
+use crate::text::Text;
+use crate::units::{Lists, lists_of};
+use crate::words::Words;
+use ale_base::{Items, OutOfMemory, QueueName, SystemNo, Tid, Way};
+use case_form::{BlockLine, CaseFault, Item, LineEnd, Step};
+use std::alloc::Global;
+use unit_core::{
+    Record, done_in, ended_in, executed, forgotten_in, is_marked, is_stopped, received,
+};
+
+/// What is asked of logs.
+#[derive(Clone, Copy)]
+enum Question {
+    Records,
+    Law,
+    Told(SystemNo),
+    Marked(Tid),
+    Stopped(QueueName),
+}
+
+fn read_question(word: &[u8], words: Words) -> Option<Question> {
+    let mut words = words;
+    let question = match word {
+        b"records" => Question::Records,
+        b"law" => Question::Law,
+        b"told" => Question::Told(words.system()?),
+        b"marked" => Question::Marked(words.tid()?),
+        b"stopped" => Question::Stopped(words.name()?),
+        _ => return None,
+    };
+    if words.is_at_end() {
+        Some(question)
+    } else {
+        None
+    }
+}
+
+/// Logs that a case gives.
+#[derive(Drop)]
+struct Given {
+    alloc: Global,
+    lists: Lists,
+    /// The logs, from system 1 on.
+    logs: Items<Items<Record>>,
+    /// How many units each system committed.
+    committed: usize,
+}
+
+/// The steps of a case that gives logs.
+pub(crate) fn steps_of_logs(alloc: Global, items: &[Item]) -> Result<Items<Step>, CaseFault> {
+    let mut given = Given {
+        alloc,
+        lists: lists_of(alloc, items)?,
+        logs: Items::new(alloc),
+        committed: usize::MAX,
+    };
+    let mut steps = Items::new(alloc);
+    for item in items {
+        given.read(item, &mut steps)?;
+    }
+    Ok(steps)
+}
+
+impl Given {
+    /// Reads an item, and adds its step where it is one.
+    fn read(&mut self, item: &Item, steps: &mut Items<Step>) -> Result<(), CaseFault> {
+        let words = Words::of(item.rest.as_slice());
+        match item.word.as_slice() {
+            b"systems" | b"unit" => return Ok(()),
+            b"committed" => return self.read_committed(words).map_err(|end| end.at(item.line)),
+            b"given" => return self.read_logs(item.block.as_slice()),
+            _ => {}
+        }
+        let Some(question) = read_question(item.word.as_slice(), words) else {
+            return Err(LineEnd::Broken(rules::NO_SUCH_ITEM).at(item.line));
+        };
+        let mut found = Text::new(self.alloc);
+        self.look(&mut found, question)?;
+        steps.push(Step::of(self.alloc, item, found.into_bytes())?)?;
+        Ok(())
+    }
+
+    /// How many of its listed units each system committed.
+    fn read_committed(&mut self, words: Words) -> Result<(), LineEnd> {
+        let mut words = words;
+        self.committed = words.number()? as usize;
+        words.end()
+    }
+
+    /// Reads new logs: each line is a system and a record.
+    fn read_logs(&mut self, block: &[BlockLine]) -> Result<(), CaseFault> {
+        self.logs = Items::new(self.alloc);
+        for _ in self.lists.iter() {
+            self.logs.push(Items::new(self.alloc))?;
+        }
+        for line in block {
+            self.read_line(line.text.as_slice())
+                .map_err(|end| end.at(line.line))?;
+        }
+        Ok(())
+    }
+
+    /// Adds a copy of the record of a line to the log of its system.
+    fn read_line(&mut self, line: &[u8]) -> Result<(), LineEnd> {
+        let mut words = Words::of(line);
+        let Some(system) = words.system() else {
+            return Err(rules::NO_SYSTEM.into());
+        };
+        let at = system.get() as usize - 1;
+        if at >= self.logs.len() {
+            return Err(rules::NO_SYSTEM.into());
+        }
+        let record = read_record(self.alloc, &self.lists, words)?;
+        self.logs.at_mut(at).push(record.copied()?)?;
+        Ok(())
+    }
+
+    fn log_of(&self, system: SystemNo) -> &[Record] {
+        match self.logs.get(system.get() as usize - 1) {
+            Some(log) => log.as_slice(),
+            None => &[],
+        }
+    }
+
+    /// Puts what is asked of the logs.
+    fn look(&self, text: &mut Text, question: Question) -> Result<(), OutOfMemory> {
+        match question {
+            Question::Records => self.put_records(text),
+            Question::Law => self.put_broken(text),
+            Question::Told(system) => self.put_told(text, system),
+            Question::Marked(tid) => self.put_marked(text, tid),
+            Question::Stopped(name) => self.put_stopped(text, name),
+        }
+    }
+
+    /// Puts all records.
+    fn put_records(&self, text: &mut Text) -> Result<(), OutOfMemory> {
+        for (place, log) in self.logs.iter().enumerate() {
+            put_log(text, &self.lists, place, log.as_slice(), 0)?;
+        }
+        Ok(())
+    }
+
+    /// Puts the clauses of the law that the logs break.
+    fn put_broken(&self, text: &mut Text) -> Result<(), OutOfMemory> {
+        let mut logs = Logs::new(self.alloc);
+        for (place, log) in self.logs.iter().enumerate() {
+            logs.add(log.as_slice(), front_of(&self.lists, place, self.committed))?;
+        }
+        logs.put_broken(text)
+    }
+
+    /// Puts what the log of a system tells of its units.
+    fn put_told(&self, text: &mut Text, system: SystemNo) -> Result<(), OutOfMemory> {
+        let log = self.log_of(system);
+        put_named(text, b"received", self.received(log)?.as_slice())?;
+        put_named(text, b"executed", executed(self.alloc, log)?.as_slice())?;
+        put_named(text, b"done", done_in(self.alloc, log)?.as_slice())?;
+        put_named(text, b"ended", ended_in(self.alloc, log)?.as_slice())?;
+        put_named(
+            text,
+            b"forgotten",
+            forgotten_in(self.alloc, log)?.as_slice(),
+        )
+    }
+
+    /// The ids of the units received.
+    fn received(&self, log: &[Record]) -> Result<Vec<Tid>, OutOfMemory> {
+        let mut tids = Vec::new(self.alloc);
+        for unit in &received(self.alloc, log)? {
+            tids.push(unit.tid)?;
+        }
+        Ok(tids)
+    }
+
+    /// Puts in which directions a unit is marked, system by system.
+    fn put_marked(&self, text: &mut Text, tid: Tid) -> Result<(), OutOfMemory> {
+        for (place, log) in self.logs.iter().enumerate() {
+            if is_marked(Way::Outgoing, tid, log.as_slice()) {
+                put_system(text, place)?;
+                text.put_line(b"outgoing")?;
+            }
+            if is_marked(Way::Incoming, tid, log.as_slice()) {
+                put_system(text, place)?;
+                text.put_line(b"incoming")?;
+            }
+        }
+        put_none(text)
+    }
+
+    /// Puts which queues of a name are stopped, system by system.
+    fn put_stopped(&self, text: &mut Text, name: QueueName) -> Result<(), OutOfMemory> {
+        for (place, log) in self.logs.iter().enumerate() {
+            if is_stopped(Way::Incoming, 0, name, log.as_slice()) {
+                put_system(text, place)?;
+                text.put_line(b"incoming")?;
+            }
+            for destination in 1..=SystemNo::MAX {
+                if is_stopped(Way::Outgoing, destination, name, log.as_slice()) {
+                    put_destination(text, place, destination)?;
+                }
+            }
+        }
+        put_none(text)
+    }
+}
+
+fn put_destination(text: &mut Text, place: usize, destination: u8) -> Result<(), OutOfMemory> {
+    put_system(text, place)?;
+    text.put(b"outgoing to ")?;
+    text.put_number(u64::from(destination))?;
+    text.end_line()
+}
+
+/// Puts that there is none, where nothing was put.
+fn put_none(text: &mut Text) -> Result<(), OutOfMemory> {
+    if text.is_empty() {
+        text.put_line(b"none")?;
+    }
+    Ok(())
+}
+
+fn put_named(text: &mut Text, name: &[u8], tids: &[Tid]) -> Result<(), OutOfMemory> {
+    text.put(name)?;
+    text.put_tids(tids)?;
+    text.end_line()
+}

@@ -1,0 +1,196 @@
+//! A scene: events that happen to a world one after the other, and what it holds after each.
+
+ghost use Rattle.std.specs.Prelude.{IfOk};
+ghost use Rattle.protocol_scenes.specs.Worlds.{IsSafeWorld};
+
+use crate::asking::ask;
+use crate::events::read_event;
+use crate::law::logs_of;
+use crate::listing::{lengths_of, put_world};
+use crate::rules;
+use crate::text::Text;
+use crate::units::{Lists, lists_of};
+use crate::walks::walk_all;
+use ale_base::{Items, OutOfMemory};
+use case_form::{CaseFault, Item, LineEnd, Step};
+use std::alloc::Global;
+use trfc_protocol::{Event, ListedRules, World, run_events, step};
+
+/// The steps of a scene.
+pub(crate) fn steps_of_scene(alloc: Global, items: &[Item]) -> Result<Items<Step>, CaseFault> {
+    let lists = lists_of(alloc, items)?;
+    match ListedRules::of(lists_of(alloc, items)?) {
+        Some(rules) => play_all(alloc, &lists, World::start(alloc, rules)?, items),
+        None => refused(alloc, items),
+    }
+}
+
+/// The steps of all items, played one after the other.
+fn play_all(
+    alloc: Global,
+    lists: &Lists,
+    world: World<ListedRules>,
+    items: &[Item],
+) -> Result<Items<Step>, CaseFault>
+    requires { IsSafeWorld world }
+{
+    let mut world = world;
+    let mut steps = Items::new(alloc);
+    for (place, item) in items.iter().enumerate() {
+        world = play(alloc, lists, world, &items[..place], item, &mut steps)?;
+    }
+    Ok(steps)
+}
+
+/// The steps of a case whose units the rules refuse: the item `refused` alone.
+fn refused(alloc: Global, items: &[Item]) -> Result<Items<Step>, CaseFault> {
+    let mut steps = Items::new(alloc);
+    for item in items {
+        match item.word.as_slice() {
+            b"systems" | b"unit" => {}
+            b"refused" => steps.push(Step::of(alloc, item, Vec::new(alloc))?)?,
+            _ => return Err(LineEnd::Broken(rules::REFUSED).at(item.line)),
+        }
+    }
+    Ok(steps)
+}
+
+/// The world after an item, whose step is added where it is one.
+fn play(
+    alloc: Global,
+    lists: &Lists,
+    world: World<ListedRules>,
+    before: &[Item],
+    item: &Item,
+    steps: &mut Items<Step>,
+) -> Result<World<ListedRules>, CaseFault>
+    requires { IsSafeWorld world }
+    ensures { IfOk result IsSafeWorld }
+{
+    if item.word.as_slice() == b"event".as_slice() {
+        return play_event(alloc, lists, world, item, steps);
+    }
+    look(alloc, lists, &world, before, item, steps)?;
+    Ok(world)
+}
+
+/// The world after an event. What is found are the records that joined the logs, and all claims.
+fn play_event(
+    alloc: Global,
+    lists: &Lists,
+    world: World<ListedRules>,
+    item: &Item,
+    steps: &mut Items<Step>,
+) -> Result<World<ListedRules>, CaseFault>
+    requires { IsSafeWorld world }
+    ensures { IfOk result IsSafeWorld }
+{
+    match event_of(alloc, lists, item) {
+        Ok(event) => happen(alloc, lists, world, &event, item, steps),
+        Err(fault) => Err(fault),
+    }
+}
+
+/// The same of an event that was read.
+fn happen(
+    alloc: Global,
+    lists: &Lists,
+    world: World<ListedRules>,
+    event: &Event,
+    item: &Item,
+    steps: &mut Items<Step>,
+) -> Result<World<ListedRules>, CaseFault>
+    requires { IsSafeWorld world }
+    ensures { IfOk result IsSafeWorld }
+{
+    let lengths = lengths_of(alloc, &world)?;
+    let after = world_after(alloc, world, event)?;
+    add_event(alloc, lists, lengths.as_slice(), &after, item, steps)?;
+    Ok(after)
+}
+
+/// The world after an event. Of what the event made of it this says no more than that it is safe.
+pub(crate) fn world_after(
+    alloc: Global,
+    world: World<ListedRules>,
+    event: &Event,
+) -> Result<World<ListedRules>, OutOfMemory>
+    requires { IsSafeWorld world }
+    ensures { IfOk result IsSafeWorld }
+{
+    step(alloc, world, event)
+}
+
+/// Adds the step of an event: the records behind these lengths, and all claims.
+fn add_event(
+    alloc: Global,
+    lists: &Lists,
+    lengths: &[usize],
+    world: &World<ListedRules>,
+    item: &Item,
+    steps: &mut Items<Step>,
+) -> Result<(), CaseFault> {
+    let mut found = Text::new(alloc);
+    put_world(&mut found, lists, lengths, world)?;
+    steps.push(Step::of(alloc, item, found.into_bytes())?)?;
+    Ok(())
+}
+
+fn event_of(alloc: Global, lists: &Lists, item: &Item) -> Result<Event, CaseFault> {
+    read_event(alloc, lists, item.rest.as_slice()).map_err(|end| end.at(item.line))
+}
+
+/// Adds the step of an item that leaves the world as it is, where it is one.
+fn look(
+    alloc: Global,
+    lists: &Lists,
+    world: &World<ListedRules>,
+    before: &[Item],
+    item: &Item,
+    steps: &mut Items<Step>,
+) -> Result<(), CaseFault>
+    requires { IsSafeWorld world.now }
+{
+    let found = match item.word.as_slice() {
+        b"systems" | b"unit" => return Ok(()),
+        b"ask" => ask(alloc, world, item.rest.as_slice()).map_err(|end| end.at(item.line))?,
+        b"again" => again(alloc, lists, before)?,
+        b"law" => law(alloc, lists, world)?,
+        b"walks" => walk_all(alloc, lists, before, item)?,
+        _ => return Err(LineEnd::Broken(rules::NO_SUCH_ITEM).at(item.line)),
+    };
+    steps.push(Step::of(alloc, item, found.into_bytes())?)?;
+    Ok(())
+}
+
+/// The whole logs and the claims after all events so far, which happen at once to the world at first.
+fn again(alloc: Global, lists: &Lists, before: &[Item]) -> Result<Text, CaseFault> {
+    let world = first_world(alloc, before)?;
+    let mut events = Vec::new(alloc);
+    for item in before {
+        if item.word.as_slice() == b"event".as_slice() {
+            events.push(event_of(alloc, lists, item)?)?;
+        }
+    }
+    let world = run_events(alloc, world, events.as_slice())?;
+    let mut found = Text::new(alloc);
+    put_world(&mut found, lists, &[], &world)?;
+    Ok(found)
+}
+
+/// The world at first of the units that these items list.
+pub(crate) fn first_world(alloc: Global, items: &[Item]) -> Result<World<ListedRules>, CaseFault>
+    ensures { IfOk result IsSafeWorld }
+{
+    match ListedRules::of(lists_of(alloc, items)?) {
+        Some(rules) => Ok(World::start(alloc, rules)?),
+        None => Err(LineEnd::Broken(rules::REFUSED).at(1)),
+    }
+}
+
+/// The clauses of the law that the logs break.
+fn law(alloc: Global, lists: &Lists, world: &World<ListedRules>) -> Result<Text, CaseFault> {
+    let mut found = Text::new(alloc);
+    logs_of(alloc, lists, world)?.put_broken(&mut found)?;
+    Ok(found)
+}
