@@ -1,0 +1,10 @@
+-- lines that end, and the last one
+pub mod LinesLemmas
+-- a line is one record at most, and a record has no fault
+pub mod RecordLemmas
+-- documents by their last line
+pub mod DocumentLemmas
+-- lines have one answer
+pub mod AnswerLemmas
+-- what a reader stands for, line by line
+pub mod ReadingLemmas
