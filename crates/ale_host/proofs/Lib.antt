@@ -1,9 +1,8 @@
-pub mod LinesLemmas
-pub mod RecordLemmas
-pub mod DocumentLemmas
-pub mod FaultLemmas
-pub mod UnreadLemmas
-pub mod OneEnding
-pub mod ReadingLemmas
+-- words of a command line, by their count
 pub mod WordsLemmas
+-- how far a file was read in pieces
+pub mod FeedingLemmas
+-- the bytes of a file have one ending
+pub mod OneEnding
+-- the ending of `pass` is one of the run
 pub mod EndingLemmas

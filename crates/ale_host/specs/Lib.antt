@@ -1,5 +1,6 @@
-pub mod Lines
-pub mod DocumentFile
+-- the words of a command line, and what is read for them
 pub mod Words
+pub mod Feeding
+-- what is printed, and how a run ends
 pub mod PassText
 pub mod Ending

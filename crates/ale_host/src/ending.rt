@@ -1,12 +1,12 @@
 //! How a run ends: its status and its text.
 
-ghost use Rattle.std.specs.Prelude.{◌≡◌, ◌≢◌, ℕ, List, ◌++◌, codes, OnOk, IfOk};
-ghost use Rattle.std.specs.Fmt.{decimal};
-ghost use Rattle.ale_host.specs.Ending.{IsPrintable, status_of, text_of, shown_reason, shown_fault};
+ghost use Rattle.std.specs.Prelude.{◌≡◌, ◌≢◌, ◌++◌, codes, IfOk};
+ghost use Rattle.ale_host.specs.Ending.{IsPrintable, status_of, text_of, shown_reason, shown_fault, shown_record_fault, shown_quantity, fault_status, fault_text};
 
 use crate::pass_text::{pass_text, put};
-use crate::{Document, LineFault};
 use ale_base::{Items, OutOfMemory};
+use idoc_file::{FileFault, Quantity, RawDoc};
+use idoc_record::RecordFault;
 use std::alloc::Global;
 
 /// Why a file was not read.
@@ -24,11 +24,11 @@ pub enum NotRead {
 #[derive(Debug, Drop)]
 pub enum Ending {
     /// The documents of the file were taken, each once and in order.
-    Passed(Items<Document>),
+    Passed(Items<RawDoc>),
     /// The words have none of the three forms.
     Usage,
-    /// This line of the document file, counted from 1, is the first that is not read, and it has this fault.
-    Refused(usize, LineFault),
+    /// The document file has a bad line, and this is the fault of the first one.
+    Refused(FileFault),
     /// The file of this name was not read.
     Unread(Items<u8>, NotRead),
     /// Memory ran out.
@@ -37,8 +37,6 @@ pub enum Ending {
     RunNotBuilt,
     /// The command `load` is not built yet.
     LoadNotBuilt,
-    /// This line of the document file, counted from 1, is the first that is not read, and it is not built yet.
-    LineNotBuilt(usize),
 }
 
 impl Ending {
@@ -50,10 +48,10 @@ impl Ending {
         match self {
             Ending::Passed(_) => 0,
             Ending::Usage => 1,
-            Ending::Refused(..) => 3,
+            Ending::Refused(fault) => fault_status(*fault),
             Ending::Unread(..) => 5,
             Ending::OutOfMemory => 9,
-            Ending::RunNotBuilt | Ending::LoadNotBuilt | Ending::LineNotBuilt(_) => 13,
+            Ending::RunNotBuilt | Ending::LoadNotBuilt => 13,
         }
     }
 
@@ -65,12 +63,11 @@ impl Ending {
         match self {
             Ending::Passed(documents) => pass_text(alloc, documents.as_slice()),
             Ending::Usage => text_from(alloc, USAGE),
-            Ending::Refused(number, fault) => refused_text(alloc, *number, *fault),
+            Ending::Refused(fault) => fault_text(alloc, *fault),
             Ending::Unread(name, why) => unread_text(alloc, name.as_slice(), *why),
             Ending::OutOfMemory => text_from(alloc, OUT_OF_MEMORY),
             Ending::RunNotBuilt => text_from(alloc, b"not built: run\n"),
             Ending::LoadNotBuilt => text_from(alloc, b"not built: load\n"),
-            Ending::LineNotBuilt(number) => line_text(alloc, *number),
         }
     }
 }
@@ -106,40 +103,72 @@ fn reason(why: NotRead) -> &'static [u8]
     }
 }
 
-fn line_text(alloc: Global, number: usize) -> Result<Vec<u8>, OutOfMemory>
-    ensures { IfOk result (λ text. text.items ≡ codes "not built: line " ++ (decimal number ++ codes "\n")) }
-{
-    let mut text = text_from(alloc, b"not built: line ")?;
-    put(&mut text, number.to_string(alloc)?.as_bytes())?;
-    put(&mut text, b"\n")?;
-    Ok(text)
-}
-
-fn refused_text(alloc: Global, number: usize, fault: LineFault) -> Result<Vec<u8>, OutOfMemory>
-    ensures { IfOk result (λ text. text.items ≡ codes "documents refused: " ++ (decimal number ++ (codes " " ++ (shown_fault fault ++ codes "\n")))) }
-{
-    let mut text = text_from(alloc, b"documents refused: ")?;
-    put(&mut text, number.to_string(alloc)?.as_bytes())?;
-    put(&mut text, b" ")?;
-    put_fault(alloc, &mut text, fault)?;
-    put(&mut text, b"\n")?;
-    Ok(text)
-}
-
-fn put_fault(alloc: Global, text: &mut Vec<u8>, fault: LineFault) -> Result<(), OutOfMemory>
-    ensures { OnOk result (text.new.items ≡ text.old.items ++ shown_fault fault) }
+/// The status where a document file has this fault.
+fn fault_status(fault: FileFault) -> u8
+    ensures { result ≡ fault_status fault }
 {
     match fault {
-        LineFault::LineTooLong => put(text, b"LineTooLong"),
-        LineFault::NoControl => put(text, b"NoControl"),
-        LineFault::TooLong(length) => {
-            put(text, b"TooLong ")?;
-            put(text, length.to_string(alloc)?.as_bytes())
+        FileFault::TooMany(..) => 10,
+        FileFault::OutOfMemory => 9,
+        _ => 3,
+    }
+}
+
+/// What is printed where a document file has this fault.
+fn fault_text(alloc: Global, fault: FileFault) -> Result<Vec<u8>, OutOfMemory>
+    ensures { IfOk result (λ text. text.items ≡ fault_text fault) }
+{
+    match fault {
+        FileFault::LineTooLong(line) => refused_text(alloc, line, b"LineTooLong"),
+        FileFault::NoControl(line) => refused_text(alloc, line, b"NoControl"),
+        FileFault::Record(line, fault) => {
+            let fault = record_fault(alloc, fault)?;
+            refused_text(alloc, line, fault.as_slice())
         }
-        LineFault::WrongTable => put(text, b"WrongTable"),
-        LineFault::BadNumber(field) => {
-            put(text, b"BadNumber ")?;
-            put(text, field.name().as_bytes())
+        FileFault::TooMany(_, quantity) => text_from(alloc, limit_text(quantity)),
+        FileFault::OutOfMemory => text_from(alloc, OUT_OF_MEMORY),
+    }
+}
+
+fn refused_text(alloc: Global, line: u32, fault: &[u8]) -> Result<Vec<u8>, OutOfMemory>
+    ensures { IfOk result (λ text. text.items ≡ shown_fault line fault.now) }
+{
+    let mut text = text_from(alloc, b"documents refused: ")?;
+    put(&mut text, line.to_string(alloc)?.as_bytes())?;
+    put(&mut text, b" ")?;
+    put(&mut text, fault)?;
+    put(&mut text, b"\n")?;
+    Ok(text)
+}
+
+/// Why a line is no record, as it is printed.
+fn record_fault(alloc: Global, fault: RecordFault) -> Result<Vec<u8>, OutOfMemory>
+    ensures { IfOk result (λ text. text.items ≡ shown_record_fault fault) }
+{
+    match fault {
+        RecordFault::TooLong(length) => {
+            let mut text = text_from(alloc, b"TooLong ")?;
+            put(&mut text, length.to_string(alloc)?.as_bytes())?;
+            Ok(text)
         }
+        RecordFault::WrongTable => text_from(alloc, b"WrongTable"),
+        RecordFault::BadNumber(field) => {
+            let mut text = text_from(alloc, b"BadNumber ")?;
+            put(&mut text, field.name().as_bytes())?;
+            Ok(text)
+        }
+        // No line has this fault.
+        RecordFault::OutOfMemory => text_from(alloc, b"OutOfMemory"),
+    }
+}
+
+/// What is printed where a limit is passed, with the count that passed it.
+fn limit_text(quantity: Quantity) -> &'static [u8]
+    ensures { result.now ≡ shown_quantity quantity }
+{
+    match quantity {
+        Quantity::Documents => b"limit: documents 4097\n",
+        Quantity::Records => b"limit: records 1000001\n",
+        Quantity::Segments => b"limit: segments 10001\n",
     }
 }

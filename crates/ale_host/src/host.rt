@@ -1,21 +1,21 @@
 //! The top call. Nothing else reads a file or puts a text.
 
-ghost use Rattle.std.specs.Prelude.{◌≡◌, ◌≢◌, ℕ, List, ◌≤◌, map, string_bytes, IfOk};
+ghost use Rattle.std.specs.Prelude.{◌≡◌, ◌≢◌, ℕ, List, ◌≤◌, map, string_bytes, OnOk, IfOk};
 ghost use Rattle.std.specs.Io.KnownBytes.{Appends};
 ghost use Rattle.ale_base.specs.Faults.{Rose};
 ghost use Rattle.ale_io.specs.Written.{AppendsFront};
+ghost use Rattle.idoc_file.specs.declared.file_fault.FileFault.{FileFault};
+ghost use Rattle.idoc_file.specs.Reading.{Stands};
 ghost use Rattle.ale_host.specs.declared.ending.Ending.{Ending};
 ghost use Rattle.ale_host.specs.Ending.{Ends, EndsPass, EndsFile, IsPrintable, IsQuiet, status_of, text_of};
 
+use crate::document_file::read_document_file;
 use crate::ending::{Ending, NotRead, OUT_OF_MEMORY};
-use crate::reading::{ReadingEnd, read_documents};
 use crate::words::{Form, form_of};
 use ale_base::{Items, OutOfMemory};
 use ale_io::{FileEnd, Files, Sink};
+use idoc_file::{FileFault, Reader};
 use std::alloc::Global;
-
-/// The limit of a document file, in bytes.
-const FILE_LIMIT: usize = 67_108_864;
 
 /// The status where the sink did not take all of the text.
 const WRITE_FAULT: u8 = 6;
@@ -23,8 +23,8 @@ const WRITE_FAULT: u8 = 6;
 /// Does what the words ask for, prints its text to `out`, and gives the exit status.
 ///
 /// The status is 0 where the command was carried out, 1 where the words have none of the three forms, 3 where a line of
-/// the document file is refused, 5 where that file was not read, 6 where the sink did not take all of the text, 9 where
-/// memory ran out, and 13 where something is asked for that is not built yet. With each but 6 the text that was put is
+/// the document file is bad, 5 where that file was not read, 6 where the sink did not take all of the text, 9 where
+/// memory ran out, 10 where a line passes a limit of the document file, and 13 where something is asked for that is not built yet. With each but 6 the text that was put is
 /// exactly that of the ending, and with 6 it is a part of it that begins at its front. The bytes of a document file
 /// have one ending.
 pub fn aleflow<F: Files, K: Sink>(alloc: Global, words: &[String], files: &mut F, out: &mut K) -> u8
@@ -105,9 +105,8 @@ fn pass<F: Files>(alloc: Global, name: &str, files: &mut F) -> Result<Ending, Ou
     ensures counted { F.faults files.old ≤ F.faults files.new }
     ensures quiet { IfOk result (λ ending. IsQuiet ending (F.faults files.old) (F.faults files.new)) }
 {
-    let mut bytes = Vec::new(alloc);
-    match files.read_file(name, FILE_LIMIT, &mut bytes) {
-        Ok(()) => file_ending(alloc, bytes.as_slice()),
+    match read_document_file(alloc, name, files) {
+        Ok(reader) => file_ending(reader),
         Err(FileEnd::Missing) => unread_ending(alloc, name, NotRead::Missing),
         Err(FileEnd::TooLong) => unread_ending(alloc, name, NotRead::TooLong),
         Err(FileEnd::Failed) => unread_ending(alloc, name, NotRead::Failed),
@@ -115,16 +114,25 @@ fn pass<F: Files>(alloc: Global, name: &str, files: &mut F) -> Result<Ending, Ou
     }
 }
 
-/// How `pass` over a file of these bytes ends.
-fn file_ending(alloc: Global, bytes: &[u8]) -> Result<Ending, OutOfMemory>
-    ensures ends { IfOk result (EndsFile bytes.now) }
-    ensures printable { IfOk result IsPrintable }
+/// How `pass` over a file that was fed to this reader ends.
+fn file_ending(reader: Reader) -> Result<Ending, OutOfMemory>
+    ensures ends { IfOk result (λ ending. (bytes : List ℕ) → Stands reader bytes → EndsFile bytes ending) }
+    ensures printable { IfOk result (λ ending. (bytes : List ℕ) → Stands reader bytes → IsPrintable ending) }
 {
-    match read_documents(alloc, bytes) {
+    match reader.end() {
         Ok(documents) => Ok(Ending::Passed(documents)),
-        Err(ReadingEnd::NotBuilt(number)) => Ok(Ending::LineNotBuilt(number)),
-        Err(ReadingEnd::Refused(number, fault)) => Ok(Ending::Refused(number, fault)),
-        Err(ReadingEnd::OutOfMemory) => Err(OutOfMemory),
+        Err(fault) => refused(fault),
+    }
+}
+
+/// The ending where a file has this fault.
+fn refused(fault: FileFault) -> Result<Ending, OutOfMemory>
+    ensures ending { IfOk result (λ ending. ending ≡ Ending.Refused fault) }
+    ensures bad { OnOk result (fault ≢ FileFault.OutOfMemory) }
+{
+    match fault {
+        FileFault::OutOfMemory => Err(OutOfMemory),
+        _ => Ok(Ending::Refused(fault)),
     }
 }
 

@@ -2,19 +2,14 @@
 //!
 //! Contract: a run has an ending whose cause stands in its words and files, or is a fault or want of memory, and it
 //! puts exactly the text of that ending; the bytes of a file have one. The definitions are in `specs/`: `Words`,
-//! `DocumentFile` (which documents a file holds, and why a line is not read), `PassText`, `Ending`.
+//! `Feeding` (how far a file was read), `PassText`, `Ending`.
 #![tactic(auto)]
 
-mod documents;
+mod document_file;
 mod ending;
 mod host;
-mod line_fault;
-mod lines;
 mod pass_text;
-mod reading;
 mod words;
 
-pub use documents::Document;
 pub use ending::{Ending, NotRead};
 pub use host::{aleflow, out_of_memory};
-pub use line_fault::LineFault;

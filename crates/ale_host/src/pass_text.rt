@@ -3,13 +3,13 @@
 ghost use Rattle.std.specs.Prelude.{◌≡◌, ℕ, ◌≤◌, List, ◌++◌, length, codes, OnOk, IfOk};
 ghost use Rattle.ale_host.specs.PassText.{shown, shown_field, shown_unit, shown_address, shown_count, line_of, pass_text};
 
-use crate::Document;
 use ale_base::{OutOfMemory, SystemNo, Tid};
+use idoc_file::RawDoc;
 use idoc_record::ControlField;
 use std::alloc::Global;
 
 /// The text that `pass` prints for the documents of a file.
-pub fn pass_text(alloc: Global, documents: &[Document]) -> Result<Vec<u8>, OutOfMemory>
+pub fn pass_text(alloc: Global, documents: &[RawDoc]) -> Result<Vec<u8>, OutOfMemory>
     requires { length documents.now ≤ 4096 }
     ensures { IfOk result (λ text. text.items ≡ pass_text documents.now) }
 {
@@ -27,7 +27,7 @@ fn put_line(
     alloc: Global,
     text: &mut Vec<u8>,
     number: u32,
-    document: &Document,
+    document: &RawDoc,
 ) -> Result<(), OutOfMemory>
     requires least { 1 ≤ number }
     requires most { number ≤ 65536 }
@@ -49,7 +49,7 @@ fn put_unit(alloc: Global, text: &mut Vec<u8>, number: u32) -> Result<(), OutOfM
 }
 
 /// Appends sender, receiver and message type.
-fn put_address(text: &mut Vec<u8>, document: &Document) -> Result<(), OutOfMemory>
+fn put_address(text: &mut Vec<u8>, document: &RawDoc) -> Result<(), OutOfMemory>
     ensures { OnOk result (text.new.items ≡ text.old.items ++ shown_address document.now) }
 {
     put_field(text, document, ControlField::Sndprn)?;
@@ -58,7 +58,7 @@ fn put_address(text: &mut Vec<u8>, document: &Document) -> Result<(), OutOfMemor
 }
 
 /// Appends the number of data records, and ends the line.
-fn put_count(alloc: Global, text: &mut Vec<u8>, document: &Document) -> Result<(), OutOfMemory>
+fn put_count(alloc: Global, text: &mut Vec<u8>, document: &RawDoc) -> Result<(), OutOfMemory>
     ensures { OnOk result (text.new.items ≡ text.old.items ++ shown_count document.now) }
 {
     put(text, document.segments.len().to_string(alloc)?.as_bytes())?;
@@ -66,11 +66,7 @@ fn put_count(alloc: Global, text: &mut Vec<u8>, document: &Document) -> Result<(
 }
 
 /// Appends a field as it is printed, and a blank.
-fn put_field(
-    text: &mut Vec<u8>,
-    document: &Document,
-    field: ControlField,
-) -> Result<(), OutOfMemory>
+fn put_field(text: &mut Vec<u8>, document: &RawDoc, field: ControlField) -> Result<(), OutOfMemory>
     ensures { OnOk result (text.new.items ≡ text.old.items ++ shown_field document.now field) }
 {
     put_word(text, shown(document.control.get(field)))
