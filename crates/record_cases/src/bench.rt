@@ -1,7 +1,7 @@
 //! What the items of a case work on.
 
 use crate::answer::Answer;
-use crate::{definitions, ground, hierarchy, outside, records, trees};
+use crate::{definitions, document_files, ground, hierarchy, outside, records, trees};
 use ale_base::{Items, OutOfMemory};
 use ale_io::{Calls, MapFiles, VecSink};
 use case_form::{Item, LineEnd};
@@ -68,6 +68,10 @@ impl Bench {
 
     /// The same of the items on definitions, IDoc types and documents.
     fn answer_on_documents(&mut self, alloc: Global, item: &Item) -> Result<Answer, LineEnd> {
+        let answer = document_files::answer(alloc, &mut self.files, item)?;
+        if !answer.is_foreign() {
+            return Ok(answer);
+        }
         let answer = definitions::answer(alloc, &mut self.definitions, item)?;
         if !answer.is_foreign() {
             return Ok(answer);

@@ -8,6 +8,7 @@
 mod answer;
 mod bench;
 mod definitions;
+mod document_files;
 mod ground;
 mod hierarchy;
 mod lists;

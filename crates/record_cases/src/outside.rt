@@ -94,7 +94,7 @@ fn piece(alloc: Global, files: &mut MapFiles, rest: &[u8]) -> Result<Vec<u8>, Li
 }
 
 /// The name of a file: a word, or `""` for no name.
-fn name_of(word: &[u8]) -> Result<&str, LineEnd> {
+pub(crate) fn name_of(word: &[u8]) -> Result<&str, LineEnd> {
     if word == b"\"\"".as_slice() {
         return Ok("");
     }
@@ -102,7 +102,7 @@ fn name_of(word: &[u8]) -> Result<&str, LineEnd> {
 }
 
 /// Why a file was not read, as a line.
-fn end_line(alloc: Global, end: &FileEnd) -> Result<Vec<u8>, LineEnd> {
+pub(crate) fn end_line(alloc: Global, end: &FileEnd) -> Result<Vec<u8>, LineEnd> {
     let end = end.clone()?;
     let told = format!(in alloc; "{end}")?;
     Ok(line_of(alloc, told.as_bytes())?)
