@@ -1,5 +1,5 @@
 -- The bytes of a file have one ending.
-use Rattle.std.proofs.Common.{◌≡◌, ℕ, Ok, Err, List, ap}
+use Rattle.std.proofs.Common.{◌≡◌, ℕ, List, ap}
 use Rattle.ale_host.specs.declared.ending.Ending.{Ending}
 use Rattle.ale_host.specs.declared.ending.Ending.TheVariants as ending
 use Rattle.idoc_file.specs.Lines.{lines_of}

@@ -45,6 +45,7 @@ module _ (lines : List (List ℕ)) (fault : FileFault) (bad : IsFirstBad lines f
       let front = front_of (bad.before ++ bad.line ∷ []) behind documents (subst (λ all. AreDocuments all documents) (sym (append_assoc bad.before (bad.line ∷ []) behind)) are) in
       unread front.0 front.1
 
+  -- so the lines are those of no documents
   pub not_documents : (documents : List RawDoc) → AreDocuments lines documents → ⊥
   not_documents documents are = unread_further bad.behind documents (subst (λ all. AreDocuments all documents) bad.stands are)
 
@@ -64,6 +65,7 @@ fault_once lines one other bad another =
       | inr (inr (mid, is)) ↦ absurd (unread_further lines other another mid bad.read (subst (λ front. AreDocuments front bad.read) is bad.are))
     ]
 
+-- documents or a fault, and one of them
 pub one_answer : (lines : List (List ℕ)) (one other : Result (List RawDoc) FileFault) → IsAnswer lines one → IsAnswer lines other → one ≡ other
 one_answer lines (Ok documents) (Ok others) are_one are_other = ap Ok (same_documents lines documents others are_one are_other)
 one_answer lines (Ok documents) (Err fault) are_one are_other = absurd (not_documents lines fault are_other documents are_one)

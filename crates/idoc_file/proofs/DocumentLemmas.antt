@@ -1,6 +1,6 @@
 -- Documents and the lines that they are read from.
-use Rattle.std.proofs.Common.{◌≡◌, ℕ, ◌+◌, ◌-◌, ◌<◌, ◌≤◌, Bool, true, false, inl, inr, Some, None, List, [], ◌∷◌, ◌++◌, length, map, if◌then◌else◌, refl, sym, ap, subst, ◌∙◌, arith, append_assoc, append-nil, length-append}
-use Rattle.std.specs.Prelude.{sum_by, slice_get, nat_lt, nat_le, nat_eq}
+use Rattle.std.proofs.Common.{◌≡◌, ℕ, ◌+◌, ◌-◌, ◌<◌, ◌≤◌, true, false, inl, inr, Some, None, List, [], ◌∷◌, ◌++◌, length, map, refl, sym, ap, subst, ◌∙◌, arith, append_assoc, append-nil, length-append}
+use Rattle.std.specs.Prelude.{sum_by, slice_get, nat_eq}
 use Rattle.std.specs.Option.{option_map_or}
 use Rattle.std.specs.List.{AllZip, AllByRecursion, flat_map}
 use Rattle.std.proofs.lemmas.Grind.{flat_map-append}
@@ -11,7 +11,7 @@ use Rattle.std.proofs.lemmas.List.Sums.{sum_by-append}
 use Rattle.idoc_record.specs.Control.{IsControlLine}
 use Rattle.idoc_record.specs.Data.{DataRecord, IsDataLine}
 use Rattle.idoc_file.specs.declared.raw_doc.RawDoc.{RawDoc}
-use Rattle.idoc_file.specs.DocumentFile.{is_blank, filled_from, FileRecord, control, segment, records_of, IsLineOf, segment_count, last_count, begun, with_segment, AreDocuments, first_fault, control_fault, data_fault}
+use Rattle.idoc_file.specs.DocumentFile.{is_blank, filled_from, FileRecord, control, segment, records_of, IsLineOf, segment_count, last_count, begun, with_segment, AreDocuments, first_fault}
 use Rattle.ale_base.proofs.SnocLemmas.{Snoc, none, some, snoc, AllByRecursion-snoc, AllByRecursion-front, AllZip-snoc, AllZip-front, AllZip-long}
 use Rattle.idoc_file.proofs.RecordLemmas.{control_kind, data_kind, control_read-Ok, data_read-Ok, same_records}
 
@@ -233,6 +233,7 @@ module _ (lines : List (List ℕ)) (line : List ℕ) where
       absurd (AllZip-long IsLineOf (filled_from 1 lines) (length lines + 1, line) (subst (λ lines. AllZip IsLineOf lines []) (filled-line 1 (length lines + 1) lines line filled refl) are.spelled))
   follows_by _ (some front last) filled are = follows_last front last.line last.control last.segments (snoc last.segments) filled are
 
+  -- the lines before the last one
   pub follows : (documents : List RawDoc) → AreDocuments (lines ++ line ∷ []) documents → Follows lines line
   follows documents are =
       elim (cases_Bool (is_blank line)) [

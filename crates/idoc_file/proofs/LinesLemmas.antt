@@ -1,12 +1,10 @@
 -- The lines of some bytes, found by their ends.
-use Rattle.std.proofs.Common.{◌≡◌, ℕ, zero, suc, ◌+◌, ◌<◌, ◌≤◌, ◌&&◌, Bool, true, false, nat_eq, inl, inr, List, [], ◌∷◌, ◌++◌, length, get_or, take, drop, refl, sym, ap, subst, ◌∙◌, arith}
+use Rattle.std.proofs.Common.{◌≡◌, ℕ, zero, suc, ◌+◌, ◌<◌, ◌≤◌, ◌&&◌, Bool, true, false, nat_eq, inl, inr, List, [], ◌∷◌, ◌++◌, length, take, refl, sym, ap, subst, ◌∙◌, arith}
 use Rattle.std.specs.List.{AllByRecursion}
 use Rattle.std.proofs.lemmas.Bool.Decides.{eqb_tells}
-use Rattle.std.specs.Cmp.Lexicographic.{pointwise, bytes_decides}
 use Rattle.std.proofs.lemmas.Bool.{cases_Bool, false≢true}
 use Rattle.std.proofs.lemmas.List.{take_all}
 use Rattle.memchr.specs.Find.{Nowhere, Passes, is_byte}
-use Rattle.ale_base.proofs.SnocLemmas.{Snoc, none, some, snoc}
 use Rattle.idoc_file.specs.Lines.{onto_first, ends_here, lines_of, without_return, IsNoEnd}
 
 no_end_next : (r : Bool) → (r && false) ≡ false
@@ -27,11 +25,12 @@ lines_of-ended (b ∷ []) rest unended =
 lines_of-ended (b ∷ c ∷ line) rest unended =
     first_byte b (c ∷ (line ++ 10 ∷ rest)) unended.0 unended.1.0 ∙ ap (onto_first b) (lines_of-ended (c ∷ line) rest unended.1)
 
--- a line that lacks its end
+-- a line that lacks its end, by its first byte
 lines_of-last : (b : ℕ) (bs : List ℕ) → AllByRecursion IsNoEnd (b ∷ bs) → lines_of (b ∷ bs) ≡ (b ∷ bs) ∷ []
 lines_of-last b [] unended = rw (unended.0, no_end_next (nat_eq b 13)) refl
 lines_of-last b (c ∷ cs) unended = first_byte b (c ∷ cs) unended.0 unended.1.0 ∙ ap (onto_first b) (lines_of-last c cs unended.1)
 
+-- a line that lacks its end
 pub lines_of-unended : (line : List ℕ) → nat_eq (length line) 0 ≡ false → AllByRecursion IsNoEnd line → lines_of line ≡ line ∷ []
 lines_of-unended [] filled unended = absurd (false≢true (sym filled))
 lines_of-unended (b ∷ bs) filled unended = lines_of-last b bs unended
@@ -75,8 +74,10 @@ no_end_below (b ∷ bs) (suc n) within nowhere = (
   no_end_below bs n (omega arith) (λ k low high. nowhere (suc k) (omega arith) (omega arith)),
 )
 
+-- the bytes before the first LF
 pub IsNoEnd-before : (bytes : List ℕ) (n : ℕ) → n < length bytes → Nowhere (Passes (is_byte 10) bytes) 0 n → AllByRecursion IsNoEnd (take n bytes)
 IsNoEnd-before bytes n within nowhere = no_end_below bytes n (omega arith) nowhere
 
+-- bytes in which there is none
 pub IsNoEnd-all : (bytes : List ℕ) → Nowhere (Passes (is_byte 10) bytes) 0 (length bytes) → AllByRecursion IsNoEnd bytes
 IsNoEnd-all bytes nowhere = subst (AllByRecursion IsNoEnd) (take_all (length bytes) bytes (omega arith)) (no_end_below bytes (length bytes) (omega arith) nowhere)

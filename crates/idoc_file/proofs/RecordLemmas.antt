@@ -1,7 +1,7 @@
 -- A line is one record at most, and a record has no fault.
-use Rattle.std.proofs.Common.{◌≡◌, ◌≢◌, ℕ, ◌<◌, ◌≤◌, Bool, true, false, nat_eq, nat_lt, nat_le, inl, inr, Some, None, Ok, Err, List, [], ◌∷◌, ◌++◌, length, take, refl, sym, ap, subst, ◌∙◌, arith, length-append}
-use Rattle.std.specs.Prelude.{codes, not, sum_by, slice_get}
-use Rattle.std.proofs.lemmas.Bool.{false≢true, cases_Bool, not-true, le-ltb, lt-leb}
+use Rattle.std.proofs.Common.{◌≡◌, ℕ, true, false, inl, inr, Ok, List, [], ◌∷◌, length, take, refl, sym, ap, subst, ◌∙◌, arith}
+use Rattle.std.specs.Prelude.{codes, not}
+use Rattle.std.proofs.lemmas.Bool.{false≢true, cases_Bool, not-true, le-ltb}
 use Rattle.std.specs.List.{AllZip}
 use Rattle.std.specs.Cmp.Lexicographic.{bytes_decides}
 use Rattle.std.proofs.lemmas.Bool.Decides.{eqb_tells}

@@ -1,4 +1,4 @@
-use Rattle.std.proofs.Common.{◌≡◌, ℕ, ◌+◌, List, [], ◌++◌, length, sym, ap, subst, ◌∙◌}
+use Rattle.std.proofs.Common.{◌≡◌, ℕ, List, ◌++◌, length, sym, ap, subst, ◌∙◌}
 use Rattle.ale_io.specs.Piece.{IsPiece}
 use Rattle.ale_host.specs.Feeding.{MayBegin}
 use Rattle.ale_host.proofs.FeedingLemmas.{MayBegin-more}

@@ -1,4 +1,4 @@
-use Rattle.std.proofs.Common.{◌≡◌, refl}
+use Rattle.std.proofs.Common.{refl}
 use Rattle.ale_base.specs.Faults.{Rose}
 use Rattle.ale_host.proofs.EndingLemmas.{if_ok, EndsPass-file, IsQuiet-same}
 use Rattle.ale_host.proofs.host.pass.Goals as goal

@@ -1,7 +1,5 @@
-use Rattle.std.proofs.Common.{◌≡◌, ◌+◌, suc, ◌∷◌, ◌++◌, length, get_or, take, drop, sym, ap, subst, ◌∙◌, arith, add-one, drop-cons, eqb-true}
+use Rattle.std.proofs.Common.{◌≡◌, ◌+◌, suc, ◌∷◌, ◌++◌, get_or, take, drop, sym, ap, ◌∙◌, arith, add-one, drop-cons, eqb-true}
 use Rattle.std.proofs.lemmas.List.{length-drop, take_rest, take-append-drop}
-use Rattle.std.specs.List.{AllByRecursion}
-use Rattle.idoc_file.specs.Lines.{IsNoEnd}
 use Rattle.idoc_file.proofs.LinesLemmas.{IsNoEnd-before, IsNoEnd-all}
 use Rattle.idoc_file.proofs.line_ends.split_line.Goals as goal
 

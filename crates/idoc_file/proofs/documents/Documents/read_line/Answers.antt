@@ -1,4 +1,4 @@
-use Rattle.std.proofs.Common.{◌≡◌, ◌<◌, ◌≤◌, false, List, [], ◌∷◌, ◌++◌, length, sym, ap, subst, ◌∙◌, arith}
+use Rattle.std.proofs.Common.{◌≡◌, ◌<◌, false, List, [], ◌∷◌, ◌++◌, sym, ap, subst, ◌∙◌, arith}
 use Rattle.std.specs.Prelude.{sum_by}
 use Rattle.idoc_file.specs.declared.raw_doc.RawDoc.{RawDoc}
 use Rattle.idoc_file.specs.DocumentFile.{AreDocuments, is_blank, segment_count, last_count}

@@ -1,4 +1,4 @@
-use Rattle.std.proofs.Common.{◌≡◌, ℕ, [], ◌∷◌, ◌++◌, List, length, sym, subst, ◌∙◌, arith, eqb-true}
+use Rattle.std.proofs.Common.{length, sym, subst, ◌∙◌, arith, eqb-true}
 use Rattle.std.proofs.lemmas.List.{nil_from_length}
 use Rattle.ale_base.proofs.OnOkLemmas.{on_ok}
 use Rattle.idoc_file.specs.Reading.{AreRead}

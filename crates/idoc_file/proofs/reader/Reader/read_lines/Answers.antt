@@ -1,7 +1,5 @@
-use Rattle.std.proofs.Common.{◌≡◌, ℕ, ◌+◌, ◌<◌, List, [], ◌∷◌, ◌++◌, length, refl, sym, ap, subst, ◌∙◌, arith, append_assoc, length-append}
+use Rattle.std.proofs.Common.{◌≡◌, ◌<◌, [], ◌∷◌, ◌++◌, length, refl, sym, ap, ◌∙◌, arith, append_assoc, length-append}
 use Rattle.ale_base.proofs.OnOkLemmas.{on_ok}
-use Rattle.idoc_file.specs.declared.lines_read.LinesRead.{LinesRead}
-use Rattle.idoc_file.specs.Reading.{IsReading}
 use Rattle.idoc_file.proofs.ReadingLemmas.{IsReading-kept, IsReading-same}
 use Rattle.idoc_file.proofs.reader.Reader.read_lines.Goals as goal
 
