@@ -1,6 +1,6 @@
 //! A file of the system that is open, and where the next read of it begins.
 
-ghost use Rattle.std.specs.Prelude.{◌≡◌, ◌≢◌, ◌+◌, ◌≤◌, length, Err, IfOk};
+ghost use Rattle.std.specs.Prelude.{◌≡◌, ◌≢◌, ◌++◌, ◌+◌, ◌≤◌, length, take, Err, IfOk, IfSome};
 ghost use Rattle.std.specs.Io.{StartsWith};
 
 use ale_io::FileEnd;
@@ -42,6 +42,10 @@ impl<F: Read + Seek + Drop> OpenFile<F> {
         ensures kept { StartsWith into.new.items into.old.items }
         ensures counted { IfOk result (λ read. (length into.new.items ≡ length into.old.items + read.1) × (read.1 ≤ most)) }
         ensures not_too_long { result ≢ Err FileEnd.TooLong }
+
+        // A piece that goes on where the last one ended has the next bytes, where the file tells them.
+        ensures read { at ≡ self.at → IfOk result (λ _. IfSome (F.remaining self.file) (λ left.
+            into.new.items ≡ into.old.items ++ take most left)) }
     {
         let OpenFile {
             name,
@@ -52,17 +56,30 @@ impl<F: Read + Seek + Drop> OpenFile<F> {
         if place != at && file.seek(SeekFrom::Start(at)).is_err() {
             return Err(FileEnd::Failed);
         }
-        let mut head = file.take(most as u64);
-        match head.read_to_end(into) {
-            Ok(count) if count <= most => {
-                let file = head.into_inner();
-                let at = at.saturating_add(count as u64);
-                Ok((OpenFile { name, file, at }, count))
-            }
-            // More than was asked for is never read, which no contract says.
-            Ok(_) => Err(FileEnd::Failed),
-            Err(error) if error.kind() == ErrorKind::OutOfMemory => Err(FileEnd::OutOfMemory),
-            Err(_) => Err(FileEnd::Failed),
-        }
+        let (file, count) = append_front(file, most, into)?;
+        let at = at.saturating_add(count as u64);
+        Ok((OpenFile { name, file, at }, count))
+    }
+}
+
+/// Appends the next bytes of a file, at most so many, and gives the file back with their number. After an `Err` some of
+/// them may have been appended.
+fn append_front<F: Read + Drop>(
+    file: F,
+    most: usize,
+    into: &mut Vec<u8>,
+) -> Result<(F, usize), FileEnd>
+    ensures kept { StartsWith into.new.items into.old.items }
+    ensures counted { IfOk result (λ read. (length into.new.items ≡ length into.old.items + read.1) × (read.1 ≤ most)) }
+    ensures not_too_long { result ≢ Err FileEnd.TooLong }
+    ensures read { IfOk result (λ _. IfSome (F.remaining file) (λ left. into.new.items ≡ into.old.items ++ take most left)) }
+{
+    let mut head = file.take(most as u64);
+    match head.read_to_end(into) {
+        Ok(count) if count <= most => Ok((head.into_inner(), count)),
+        // More than was asked for is never read, which no contract says.
+        Ok(_) => Err(FileEnd::Failed),
+        Err(error) if error.kind() == ErrorKind::OutOfMemory => Err(FileEnd::OutOfMemory),
+        Err(_) => Err(FileEnd::Failed),
     }
 }
