@@ -24,9 +24,9 @@ const WRITE_FAULT: u8 = 6;
 ///
 /// The status is 0 where the command was carried out, 1 where the words have none of the three forms, 3 where a line of
 /// the document file is bad, 5 where that file was not read, 6 where the sink did not take all of the text, 9 where
-/// memory ran out, 10 where a line passes a limit of the document file, and 13 where something is asked for that is not built yet. With each but 6 the text that was put is
-/// exactly that of the ending, and with 6 it is a part of it that begins at its front. The bytes of a document file
-/// have one ending.
+/// memory ran out, 10 where a line passes a limit of the document file, and 13 where something is asked for that is not
+/// built yet. With each but 6 the text that was put is exactly that of the ending, and with 6 it is a part of it that
+/// begins at its front. The bytes of a document file have one ending.
 pub fn aleflow<F: Files, K: Sink>(alloc: Global, words: &[String], files: &mut F, out: &mut K) -> u8
     ensures ended { result ≢ 6 → (ending : Ending)
         × Ends (map string_bytes words.now) (F.told files.old) (Rose (F.faults files.old) (F.faults files.new)) ending
@@ -36,6 +36,7 @@ pub fn aleflow<F: Files, K: Sink>(alloc: Global, words: &[String], files: &mut F
     ensures write_fault { result ≡ 6 → Rose (K.faults out.old) (K.faults out.new)
         × ((ending : Ending)
         × Ends (map string_bytes words.now) (F.told files.old) (Rose (F.faults files.old) (F.faults files.new)) ending
+        × IsQuiet ending (F.faults files.old) (F.faults files.new)
         × AppendsFront (K.contents out.old) (K.contents out.new) (text_of ending)) }
     ensures one_ending { (bytes : List ℕ) (one other : Ending) → EndsFile bytes one → EndsFile bytes other → one ≡ other }
     ensures files_kept { (name : List ℕ) → F.told files.new name ≡ F.told files.old name }

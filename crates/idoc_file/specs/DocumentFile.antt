@@ -61,13 +61,13 @@ abbrev pub control_fault : ℕ → List RawDoc → Result (List ℕ) RecordFault
 control_fault n read (Err fault) = Some (Record n fault)
 control_fault n read (Ok bytes) = if nat_le 4096 (length read) then Some (TooMany n Documents) else None
 
--- what is wrong with a data line behind these documents: it is no data record, or one too many of the file or of its
--- document
+-- what is wrong with a data line behind these documents: it is no data record, or one too many of its document or of the
+-- file
 abbrev pub data_fault : ℕ → List RawDoc → Result DataRecord RecordFault → Option FileFault
 data_fault n read (Err fault) = Some (Record n fault)
 data_fault n read (Ok new) =
-    if nat_le 1000000 (sum_by segment_count read) then Some (TooMany n Records)
-    else (if nat_le 10000 (last_count read) then Some (TooMany n Segments) else None)
+    if nat_le 10000 (last_count read) then Some (TooMany n Segments)
+    else (if nat_le 1000000 (sum_by segment_count read) then Some (TooMany n Records) else None)
 
 -- the first fault of the line of this number behind these documents
 abbrev pub first_fault : ℕ → List RawDoc → List ℕ → Option FileFault

@@ -115,11 +115,11 @@ impl Documents {
             → data_fault number self.old (data_read line.now) ≡ Some fault }
     {
         match read_data(alloc, line) {
-            Ok(_) if self.records >= MAX_RECORDS => {
-                Err(FileFault::TooMany(number, Quantity::Records))
-            }
             Ok(_) if last_count(self.documents.as_slice()) >= MAX_SEGMENTS => {
                 Err(FileFault::TooMany(number, Quantity::Segments))
+            }
+            Ok(_) if self.records >= MAX_RECORDS => {
+                Err(FileFault::TooMany(number, Quantity::Records))
             }
             Ok(segment) => self.add(segment),
             Err(RecordFault::OutOfMemory) => Err(FileFault::OutOfMemory),

@@ -28,7 +28,7 @@ pub enum FileFault {
     /// It is no record, for this reason.
     #[error("line {0}: {1}")]
     Record(u32, RecordFault),
-    /// It passes a limit of the file or of its document. Where it passes two, that of the file's records counts.
+    /// It passes a limit of the file or of its document. Where it passes two, that of its document counts.
     #[error("line {0}: over the limit of {1:?}")]
     TooMany(u32, Quantity),
     /// A request for memory was refused.

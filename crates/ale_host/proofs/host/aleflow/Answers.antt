@@ -8,7 +8,7 @@ returns-clause-ended g c = λ taken.
 
 pub returns-clause-write_fault : goal.returns-clause-write_fault
 returns-clause-write_fault g c = λ failed.
-    let put = c.out_of_memory.ensures.write_fault failed in (put.0, (OutOfMemory, tt, put.1))
+    let put = c.out_of_memory.ensures.write_fault failed in (put.0, (OutOfMemory, tt, tt, put.1))
 
 pub returns-in-Ok-clause-one_ending : goal.returns-in-Ok-clause-one_ending
 returns-in-Ok-clause-one_ending g c = one_ending
