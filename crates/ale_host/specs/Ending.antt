@@ -14,6 +14,8 @@ use Rattle.idoc_file.specs.declared.file_fault.FileFault.{FileFault}
 use Rattle.idoc_file.specs.declared.file_fault.FileFault.TheVariants as file_fault
 use Rattle.idoc_file.specs.declared.file_fault.Quantity.{Quantity}
 use Rattle.idoc_file.specs.declared.file_fault.Quantity.TheVariants.{Documents, Records, Segments}
+use Rattle.idoc_file.specs.declared.reader.TheConstants.Reader.{MOST_BYTES}
+use Rattle.idoc_file.specs.declared.documents.TheConstants.{MAX_DOCUMENTS}
 use Rattle.idoc_file.specs.Lines.{lines_of}
 use Rattle.idoc_file.specs.DocumentFile.{AreDocuments, IsFirstBad}
 use Rattle.ale_host.specs.Words.{form_of, document_file}
@@ -21,12 +23,12 @@ use Rattle.ale_host.specs.PassText.{pass_text}
 
 -- as far as it is told, the document file has these bytes, within the limit
 abbrev pub IsFile : Told → List ℕ → Type 0
-IsFile told bytes = MayHold told bytes × (length bytes ≤ 67108864)
+IsFile told bytes = MayHold told bytes × (length bytes ≤ MOST_BYTES)
 
 -- why a file is not read; faults is that a fault of the files came in this call
 abbrev pub EndsUnread : Told → Type 0 → NotRead → Type 0
 EndsUnread told faults Missing = MayLack told
-EndsUnread told faults TooLong = (bytes : List ℕ) × MayHold told bytes × (67108864 < length bytes)
+EndsUnread told faults TooLong = (bytes : List ℕ) × MayHold told bytes × (MOST_BYTES < length bytes)
 EndsUnread told faults Failed = faults
 
 -- why `pass` over a file of these bytes ends so
@@ -108,7 +110,7 @@ text_of ending.LoadNotBuilt = codes "not built: load\n"
 
 -- there are as many documents as units at most
 abbrev pub IsPrintable : Ending → Type 0
-IsPrintable (ending.Passed documents) = length documents ≤ 4096
+IsPrintable (ending.Passed documents) = length documents ≤ MAX_DOCUMENTS
 IsPrintable end = ⊤
 
 -- no fault of the files came in the call, by their count before and after it, unless the ending may be one of a fault

@@ -3,6 +3,7 @@ use Rattle.std.specs.Prelude.{ℕ, ◌+◌, ◌-◌, ◌*◌, List, [], ◌∷�
 use Rattle.std.specs.Char.{is_ascii_digit}
 use Rattle.std.specs.List.{list_all}
 use Rattle.ale_base.specs.Text.{is_text}
+use Rattle.ale_host.specs.declared.words.TheConstants.{MAX_MASTERS, MAX_WORKERS}
 use Rattle.ale_host.specs.declared.words.Form.{Form}
 use Rattle.ale_host.specs.declared.words.Form.TheVariants.{Pass, Run, Load}
 
@@ -21,11 +22,11 @@ pass_form command = if is_text command (codes "pass") then Some Pass else None
 
 -- `load N WORKERS`, with N from 1 to 4,096 and 1 to 16 workers
 abbrev pub load_form : List ℕ → List ℕ → List ℕ → Option Form
-load_form command masters workers = if is_text command (codes "load") && (is_count 4096 masters && is_count 16 workers) then Some Load else None
+load_form command masters workers = if is_text command (codes "load") && (is_count MAX_MASTERS masters && is_count MAX_WORKERS workers) then Some Load else None
 
 -- `run MODEL DOCS SCRIPT WORKERS`, with 1 to 16 workers
 abbrev pub run_form : List ℕ → List ℕ → Option Form
-run_form command workers = if is_text command (codes "run") && is_count 16 workers then Some Run else None
+run_form command workers = if is_text command (codes "run") && is_count MAX_WORKERS workers then Some Run else None
 
 -- the form that the words have, if they have one
 abbrev pub form_of : List (List ℕ) → Option Form

@@ -3,6 +3,7 @@
 ghost use Rattle.std.specs.Prelude.{◌≡◌, ◌≢◌, ℕ, ◌+◌, ◌<◌, ◌≤◌, List, length, Ok, IsOk, IfOk, OnOk, IsErrOf};
 ghost use Rattle.ale_io.specs.Told.{MayHold, MayLack};
 ghost use Rattle.ale_io.specs.FaultCount.{IsCounted};
+ghost use Rattle.idoc_file.specs.declared.reader.TheConstants.Reader.{MOST_BYTES};
 ghost use Rattle.idoc_file.specs.Reading.{fed_of};
 ghost use Rattle.ale_host.specs.Feeding.{IsFed, IsFedWhole};
 
@@ -10,9 +11,6 @@ use ale_base::OutOfMemory;
 use ale_io::{FileEnd, Files};
 use idoc_file::Reader;
 use std::alloc::Global;
-
-/// The limit of a document file, in bytes.
-const FILE_LIMIT: u64 = 67_108_864;
 
 /// The most bytes of a piece.
 const PIECE_LEN: usize = 65_536;
@@ -26,7 +24,7 @@ pub(crate) fn read_document_file<F: Files>(
     ensures fed { IfOk result (IsFedWhole (F.told files.old name.now)) }
     ensures missing { IsErrOf result FileEnd.Missing → MayLack (F.told files.old name.now) }
     ensures too_long { IsErrOf result FileEnd.TooLong →
-        (bytes : List ℕ) × MayHold (F.told files.old name.now) bytes × (67108864 < length bytes) }
+        (bytes : List ℕ) × MayHold (F.told files.old name.now) bytes × (MOST_BYTES < length bytes) }
     ensures kept { (other : List ℕ) → F.told files.new other ≡ F.told files.old other }
     ensures faults { IsCounted (IsErrOf result FileEnd.Failed) (IsOk result) (F.faults files.old) (F.faults files.new) }
 {
@@ -43,20 +41,20 @@ fn feed_piece<F: Files>(
     piece: &mut Vec<u8>,
     reader: &mut Reader,
 ) -> Result<usize, FileEnd>
-    requires within { fed_of reader.old ≤ 67108864 }
+    requires within { fed_of reader.old ≤ MOST_BYTES }
     ensures fed { OnOk result (IsFed (F.told files.old name.now) reader.old → IsFed (F.told files.old name.now) reader.new) }
     ensures ended { result ≡ Ok 0 → IsFed (F.told files.old name.now) reader.old → IsFedWhole (F.told files.old name.now) reader.new }
-    ensures further { IfOk result (λ count. (fed_of reader.new ≡ fed_of reader.old + count) × (fed_of reader.new ≤ 67108864)) }
+    ensures further { IfOk result (λ count. (fed_of reader.new ≡ fed_of reader.old + count) × (fed_of reader.new ≤ MOST_BYTES)) }
     ensures missing { IsErrOf result FileEnd.Missing → MayLack (F.told files.old name.now) }
     ensures too_long { IsErrOf result FileEnd.TooLong →
-        (bytes : List ℕ) × MayHold (F.told files.old name.now) bytes × (67108864 < length bytes) }
+        (bytes : List ℕ) × MayHold (F.told files.old name.now) bytes × (MOST_BYTES < length bytes) }
     ensures kept { (other : List ℕ) → F.told files.new other ≡ F.told files.old other }
     ensures faults { IsCounted (IsErrOf result FileEnd.Failed) (IsOk result) (F.faults files.old) (F.faults files.new) }
 {
     piece.clear();
     let count = files.read_piece(name, reader.fed(), PIECE_LEN, piece)?;
     // A byte past the limit is not fed.
-    if piece.len() as u64 > FILE_LIMIT - reader.fed() {
+    if piece.len() as u64 > Reader::MOST_BYTES - reader.fed() {
         return Err(FileEnd::TooLong);
     }
     match reader.feed(piece.as_slice()) {

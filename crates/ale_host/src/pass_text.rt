@@ -1,6 +1,7 @@
 //! The text of the documents of a file.
 
 ghost use Rattle.std.specs.Prelude.{◌≡◌, ℕ, ◌≤◌, List, ◌++◌, length, codes, OnOk, IfOk};
+ghost use Rattle.idoc_file.specs.declared.documents.TheConstants.{MAX_DOCUMENTS};
 ghost use Rattle.ale_host.specs.PassText.{shown, shown_field, shown_unit, shown_address, shown_count, line_of, pass_text};
 
 use ale_base::{OutOfMemory, SystemNo, Tid};
@@ -10,7 +11,7 @@ use std::alloc::Global;
 
 /// The text that `pass` prints for the documents of a file.
 pub fn pass_text(alloc: Global, documents: &[RawDoc]) -> Result<Vec<u8>, OutOfMemory>
-    requires { length documents.now ≤ 4096 }
+    requires { length documents.now ≤ MAX_DOCUMENTS }
     ensures { IfOk result (λ text. text.items ≡ pass_text documents.now) }
 {
     let mut text = Vec::new(alloc);

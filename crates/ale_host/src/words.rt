@@ -16,10 +16,10 @@ pub enum Form {
 }
 
 /// The most masters of a load.
-const MAX_MASTERS: u32 = 4_096;
+pub(crate) const MAX_MASTERS: u32 = 4_096;
 
 /// The most workers.
-const MAX_WORKERS: u32 = 16;
+pub(crate) const MAX_WORKERS: u32 = 16;
 
 /// The form that the words have. None where they have none of the three.
 #[tactic(auto, using(crate::proofs::WordsLemmas::four_words))]

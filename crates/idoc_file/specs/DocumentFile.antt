@@ -7,6 +7,7 @@ use Rattle.ale_base.specs.Text.{is_text}
 use Rattle.idoc_record.specs.declared.fault.RecordFault.{RecordFault}
 use Rattle.idoc_record.specs.Data.{DataRecord, IsDataLine, data_read}
 use Rattle.idoc_record.specs.Control.{IsControlLine, control_read}
+use Rattle.idoc_file.specs.declared.documents.TheConstants.{MAX_LINE, MAX_DOCUMENTS, MAX_SEGMENTS, MAX_RECORDS}
 use Rattle.idoc_file.specs.declared.raw_doc.RawDoc.{RawDoc}
 use Rattle.idoc_file.specs.declared.file_fault.Quantity.TheVariants.{Documents, Records, Segments}
 use Rattle.idoc_file.specs.declared.file_fault.FileFault.{FileFault}
@@ -46,10 +47,10 @@ last_count documents = option_map_or segment_count (slice_get documents (length 
 -- the lines that are not blank are, one for one, the records of the documents, no line is too long, and no limit is passed
 pub record AreDocuments (lines : List (List ℕ)) (documents : List RawDoc) : Type 0 where
   pub spelled : AllZip IsLineOf (filled_from 1 lines) (flat_map records_of documents)
-  pub short : AllByRecursion (λ line. length line ≤ 4096) lines
-  pub few : length documents ≤ 4096
-  pub each : AllByRecursion (λ document. segment_count document ≤ 10000) documents
-  pub within : sum_by segment_count documents ≤ 1000000
+  pub short : AllByRecursion (λ line. length line ≤ MAX_LINE) lines
+  pub few : length documents ≤ MAX_DOCUMENTS
+  pub each : AllByRecursion (λ document. segment_count document ≤ MAX_SEGMENTS) documents
+  pub within : sum_by segment_count documents ≤ MAX_RECORDS
 
 -- the first ten bytes tell the kind of a line: where they are `EDI_DC40` and blanks it is a control line, and else a
 -- data line
@@ -59,20 +60,20 @@ is_control_kind line = is_text (trimmed (take 10 line)) (codes "EDI_DC40")
 -- what is wrong with a control line behind these documents: it is no control record, or it is one document too many
 abbrev pub control_fault : ℕ → List RawDoc → Result (List ℕ) RecordFault → Option FileFault
 control_fault n read (Err fault) = Some (Record n fault)
-control_fault n read (Ok bytes) = if nat_le 4096 (length read) then Some (TooMany n Documents) else None
+control_fault n read (Ok bytes) = if nat_le MAX_DOCUMENTS (length read) then Some (TooMany n Documents) else None
 
 -- what is wrong with a data line behind these documents: it is no data record, or one too many of its document or of the
 -- file
 abbrev pub data_fault : ℕ → List RawDoc → Result DataRecord RecordFault → Option FileFault
 data_fault n read (Err fault) = Some (Record n fault)
 data_fault n read (Ok new) =
-    if nat_le 10000 (last_count read) then Some (TooMany n Segments)
-    else (if nat_le 1000000 (sum_by segment_count read) then Some (TooMany n Records) else None)
+    if nat_le MAX_SEGMENTS (last_count read) then Some (TooMany n Segments)
+    else (if nat_le MAX_RECORDS (sum_by segment_count read) then Some (TooMany n Records) else None)
 
 -- the first fault of the line of this number behind these documents
 abbrev pub first_fault : ℕ → List RawDoc → List ℕ → Option FileFault
 first_fault n read line =
-    if nat_lt 4096 (length line) then Some (LineTooLong n)
+    if nat_lt MAX_LINE (length line) then Some (LineTooLong n)
     else (if is_blank line then None
     else (if is_control_kind line then control_fault n read (control_read line)
     else (if length read == 0 then Some (NoControl n) else data_fault n read (data_read line))))
@@ -111,13 +112,13 @@ pub record AddsToLast (before after : List RawDoc) (new : DataRecord) : Type 0 w
 pub record BeginsDocument (number : ℕ) (before after : List RawDoc) (line : List ℕ) : Type 0 where
   pub bytes : List ℕ
   pub is : IsControlLine line bytes
-  pub room : length before < 4096
+  pub room : length before < MAX_DOCUMENTS
   pub becomes : after ≡ before ++ begun number bytes ∷ []
 
 -- for `AreDocuments`: the line is a data record of one more segment of the last document
 pub record GoesOn (before after : List RawDoc) (line : List ℕ) : Type 0 where
   pub new : DataRecord
   pub is : IsDataLine line new
-  pub room : last_count before < 10000
-  pub within : sum_by segment_count before < 1000000
+  pub room : last_count before < MAX_SEGMENTS
+  pub within : sum_by segment_count before < MAX_RECORDS
   pub adds : AddsToLast before after new

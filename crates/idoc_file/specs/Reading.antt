@@ -4,6 +4,7 @@ use Rattle.std.specs.List.{AllByRecursion}
 use Rattle.idoc_file.specs.declared.file_fault.FileFault.{FileFault}
 use Rattle.idoc_file.specs.declared.file_fault.FileFault.TheVariants.{OutOfMemory}
 use Rattle.idoc_file.specs.declared.lines_read.LinesRead.{LinesRead}
+use Rattle.idoc_file.specs.declared.reader.TheConstants.Reader.{MOST_BYTES}
 use Rattle.idoc_file.specs.declared.reader.Reader.{Reader}
 use Rattle.idoc_file.specs.Lines.{lines_of, IsNoEnd}
 use Rattle.idoc_file.specs.DocumentFile.{AreDocuments, IsFirstBad}
@@ -24,9 +25,9 @@ pub record IsReading (read : LinesRead) (unfinished bytes : List ℕ) : Type 0 w
   pub no_end : AllByRecursion IsNoEnd unfinished
   pub are : AreRead read lines
 
--- the reader stands for the bytes that it was fed, of which there are 67,108,864 at most
+-- the reader stands for the bytes that it was fed, of which there are `MOST_BYTES` at most
 pub record Stands (reader : Reader) (bytes : List ℕ) : Type 0 where
-  pub within : length bytes ≤ 67108864
+  pub within : length bytes ≤ MOST_BYTES
   pub fed : reader.fed ≡ length bytes
   pub reading : IsReading reader.read reader.unfinished.items bytes
 

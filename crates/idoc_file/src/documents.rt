@@ -1,6 +1,7 @@
 //! The documents of a file, grown line by line.
 
 ghost use Rattle.std.specs.Prelude.{◌≡◌, ◌<◌, length, OnOk, OnErr};
+ghost use Rattle.idoc_file.specs.declared.documents.TheConstants.{MAX_RECORDS};
 ghost use Rattle.idoc_file.specs.DocumentFile.{AddsToLast, last_count, is_blank, is_control_kind};
 
 use crate::{FileFault, Quantity, RawDoc};
@@ -10,19 +11,19 @@ use std::alloc::Global;
 use std::marker::Model;
 
 /// The greatest length of a line, in bytes.
-const MAX_LINE: usize = 4_096;
+pub(crate) const MAX_LINE: usize = 4_096;
 
 /// The first bytes of a line, which tell its kind.
 const KIND_LEN: usize = 10;
 
 /// The most documents of a file.
-const MAX_DOCUMENTS: usize = 4_096;
+pub const MAX_DOCUMENTS: usize = 4_096;
 
 /// The most data records of a document.
-const MAX_SEGMENTS: usize = 10_000;
+pub(crate) const MAX_SEGMENTS: usize = 10_000;
 
 /// The most data records of a file.
-const MAX_RECORDS: u32 = 1_000_000;
+pub(crate) const MAX_RECORDS: u32 = 1_000_000;
 
 /// The documents of the lines that were read so far. Contracts see the documents.
 #[derive(Drop)]
@@ -146,7 +147,7 @@ impl Documents {
     /// Adds a segment to the last document.
     fn add(&mut self, segment: Data) -> Result<(), FileFault>
         requires some { 0 < length self.old }
-        requires within { sum_by segment_count self.old < 1000000 }
+        requires within { sum_by segment_count self.old < MAX_RECORDS }
         ensures added { OnOk result (AddsToLast self.old self.new segment) }
         ensures err { IfErr result (λ fault. fault ≡ FileFault.OutOfMemory) }
     {

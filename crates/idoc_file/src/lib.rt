@@ -13,6 +13,7 @@ mod lines_read;
 mod raw_doc;
 mod reader;
 
+pub use documents::MAX_DOCUMENTS;
 pub use file_fault::{FileFault, Quantity};
 pub use raw_doc::RawDoc;
 pub use reader::Reader;

@@ -16,6 +16,7 @@ pub(crate) struct LinesRead {
 impl LinesRead {
     ghost use Rattle.std.specs.Prelude.{◌≡◌, ◌≢◌, ℕ, ◌<◌, ◌≤◌, List, [], ◌∷◌, ◌++◌, length, Some, None, Ok, Err, OnOk, OnErr, IfOk};
     ghost use Rattle.idoc_file.specs.declared.file_fault.FileFault.{FileFault};
+    ghost use Rattle.idoc_file.specs.declared.reader.TheConstants.Reader.{MOST_BYTES};
     ghost use Rattle.idoc_file.specs.DocumentFile.{AreDocuments, IsFirstBad};
     ghost use Rattle.idoc_file.specs.Reading.{AreRead, IsReading};
     ghost use Rattle.idoc_file.specs.Lines.{lines_of};
@@ -50,7 +51,7 @@ impl LinesRead {
 
     /// Reads the last line, which lacks its end, where there is one. A CR at its end is a byte of it.
     pub(crate) fn read_last(&mut self, alloc: Global, unfinished: &[u8]) -> Result<(), OutOfMemory>
-        ensures read { OnOk result ((bytes : List ℕ) → length bytes ≤ 67108864 → IsReading self.old unfinished.now bytes
+        ensures read { OnOk result ((bytes : List ℕ) → length bytes ≤ MOST_BYTES → IsReading self.old unfinished.now bytes
             → AreRead self.new (lines_of bytes)) }
         ensures gone { OnErr result (self.new.fault ≡ Some FileFault.OutOfMemory) }
         ensures stays { (fault : FileFault) → self.old.fault ≡ Some fault → self.new.fault ≡ Some fault }

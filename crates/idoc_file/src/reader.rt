@@ -21,10 +21,14 @@ impl Reader {
     ghost use Rattle.std.specs.Prelude.{◌≡◌, ◌≢◌, ℕ, ◌+◌, ◌<◌, ◌≤◌, List, [], ◌∷◌, ◌++◌, length, Result, Some, Err, OnOk, OnErr, IfOk};
     ghost use Rattle.std.specs.List.{AllByRecursion};
     ghost use Rattle.idoc_file.specs.declared.file_fault.FileFault.{FileFault};
+    ghost use Rattle.idoc_file.specs.declared.reader.TheConstants.Reader.{MOST_BYTES};
     ghost use Rattle.idoc_file.specs.Lines.{lines_of, IsNoEnd};
     ghost use Rattle.idoc_file.specs.DocumentFile.{AreDocuments, IsFirstBad, IsAnswer};
     ghost use Rattle.idoc_file.specs.declared.raw_doc.RawDoc.{RawDoc};
     ghost use Rattle.idoc_file.specs.Reading.{IsReading, Stands, IsGone, fed_of};
+
+    /// The greatest length of a document file, in bytes.
+    pub const MOST_BYTES: u64 = 67_108_864;
 
     /// No bytes were fed. It takes no memory.
     pub fn new(alloc: Global) -> Reader
@@ -47,10 +51,10 @@ impl Reader {
         self.fed
     }
 
-    /// Reads the next bytes of the file, of which there are 67,108,864 at most. After an `Err` the reader is only good
+    /// Reads the next bytes of the file, of which there are [`Reader::MOST_BYTES`] at most. After an `Err` the reader is only good
     /// to be ended, and `end` answers want of memory.
     pub fn feed(&mut self, piece: &[u8]) -> Result<(), OutOfMemory>
-        requires fits { fed_of self.old + length piece.now ≤ 67108864 }
+        requires fits { fed_of self.old + length piece.now ≤ MOST_BYTES }
         ensures stands { OnOk result ((bytes : List ℕ) → Stands self.old bytes → Stands self.new (bytes ++ piece.now)) }
         ensures fed { fed_of self.new ≡ fed_of self.old + length piece.now }
         ensures gone { OnErr result (IsGone self.new) }
@@ -62,7 +66,7 @@ impl Reader {
 
     /// Reads the lines that end in these bytes, and keeps what is left.
     fn read_lines(&mut self, piece: &[u8]) -> Result<(), OutOfMemory>
-        ensures reading { OnOk result ((bytes : List ℕ) → length bytes + length piece.now ≤ 67108864
+        ensures reading { OnOk result ((bytes : List ℕ) → length bytes + length piece.now ≤ MOST_BYTES
             → IsReading self.old.read self.old.unfinished.items bytes
             → IsReading self.new.read self.new.unfinished.items (bytes ++ piece.now)) }
         ensures fed { self.new.fed ≡ self.old.fed }
