@@ -117,11 +117,14 @@ impl Reader {
 
     fn read_item(&mut self, line: &[u8]) -> Result<(), LineEnd> {
         let (word, rest) = first_word(line);
-        match word {
-            b"title" => self.read_title(rest),
-            _ if !self.is_titled => Err(Rule::ONE_TITLE.into()),
-            b"differs" if rest.is_empty() => self.read_mark(),
-            _ => self.add_item(word, rest),
+        if word == b"title".as_slice() {
+            self.read_title(rest)
+        } else if !self.is_titled {
+            Err(Rule::ONE_TITLE.into())
+        } else if line == b"differs".as_slice() {
+            self.read_mark()
+        } else {
+            self.add_item(word, rest)
         }
     }
 

@@ -21,5 +21,5 @@ pub use item::{BlockLine, Item, read_items};
 pub use judging::{CaseFile, JudgedCase, Suite};
 pub use report::{Report, run_cases};
 pub use rule::{CaseFault, LineEnd, Rule};
-pub use text::{cut, first_word, number_of, put_text, put_times};
+pub use text::{cut, first_word, meaning_of, number_of, put_text, put_times};
 pub use verdict::{Comparison, Outcome, Relation, Step};

@@ -1,5 +1,9 @@
 //! Words, numbers and texts of case files.
 
+ghost use Rattle.std.specs.Prelude.{◌≡◌, find, nat_eq};
+ghost use Rattle.std.specs.Option.{option_map};
+ghost use Rattle.std.specs.Cmp.Lexicographic.{pointwise};
+
 use crate::rule::{LineEnd, Rule};
 use std::str;
 
@@ -12,6 +16,16 @@ pub fn cut(text: &[u8], at: u8) -> Option<(&[u8], &[u8])> {
 /// The first word of a line, and what stands behind the blank at its end.
 pub fn first_word(line: &[u8]) -> (&[u8], &[u8]) {
     cut(line, b' ').unwrap_or((line, &[]))
+}
+
+/// What a word stands for by a table of words: the meaning in its first row. None exactly where no row has the word.
+///
+/// A table is cheaper to prove than a `match` on texts, of which the checker sees each byte as a branch.
+pub fn meaning_of<T: Copy>(words: &[(&'static [u8], T)], word: &[u8]) -> Option<T>
+    ensures { result ≡ option_map (λ row. row.1) (find (λ row. pointwise nat_eq row.0.now word.now) words.now) }
+{
+    let (_, meaning) = words.iter().find(|row| row.0 == word)?;
+    Some(*meaning)
 }
 
 /// The number that decimal digits spell.
@@ -40,21 +54,29 @@ pub fn put_text(bytes: &mut Vec<u8>, text: &[u8]) -> Result<(), LineEnd> {
     Ok(())
 }
 
+/// Bytes by their names.
+const NAMED_BYTES: [(&'static [u8], u8); 3] = [(b"blank", b' '), (b"CR", b'\r'), (b"LF", b'\n')];
+
 /// Appends what stands between braces: `WHAT`, or `COUNT*WHAT`.
 fn put_braced(bytes: &mut Vec<u8>, inner: &[u8]) -> Result<(), LineEnd> {
     let (count, what) = match cut(inner, b'*') {
         Some((count, what)) => (number_of(count)?, what),
         None => (1, inner),
     };
-    match what {
-        b"blank" => put_times(bytes, b" ", count),
-        b"CR" => put_times(bytes, b"\r", count),
-        b"LF" => put_times(bytes, b"\n", count),
-        [b'#', number @ ..] => match u8::try_from(number_of(number)?) {
-            Ok(byte) => put_times(bytes, &[byte], count),
-            Err(_) => Err(Rule::BAD_NUMBER.into()),
+    match what.strip_prefix(b"#") {
+        Some(number) => put_times(bytes, &[byte_of(number)?], count),
+        None => match meaning_of(&NAMED_BYTES, what) {
+            Some(byte) => put_times(bytes, &[byte], count),
+            None => put_times(bytes, what, count),
         },
-        text => put_times(bytes, text, count),
+    }
+}
+
+/// The byte of this number.
+fn byte_of(number: &[u8]) -> Result<u8, LineEnd> {
+    match u8::try_from(number_of(number)?) {
+        Ok(byte) => Ok(byte),
+        Err(_) => Err(Rule::BAD_NUMBER.into()),
     }
 }
 

@@ -27,10 +27,13 @@ fn steps_of(alloc: Global, file: &str, bytes: &[u8]) -> Result<Items<Step>, Case
 
 /// The step of an item.
 fn step_of(alloc: Global, item: &Item) -> Result<Step, CaseFault> {
-    match item.word.as_slice() {
-        b"finds" => Step::of(alloc, item, echo(alloc, item)?),
-        b"broken" => broken(alloc, item),
-        _ => Err(LineEnd::Broken(NO_SUCH_ITEM).at(item.line)),
+    let word = item.word.as_slice();
+    if word == b"finds".as_slice() {
+        Step::of(alloc, item, echo(alloc, item)?)
+    } else if word == b"broken".as_slice() {
+        broken(alloc, item)
+    } else {
+        Err(LineEnd::Broken(NO_SUCH_ITEM).at(item.line))
     }
 }
 

@@ -10,11 +10,26 @@ use crate::text::{line_of, plain, put_shown, shown, volume_word};
 use ale_base::Items;
 use ale_volumes::{MemoryVolumes, Volumes};
 use byte_journal::{AppendFault, Journal, OpenFault, open};
-use case_form::LineEnd;
+use case_form::{LineEnd, meaning_of};
 use std::alloc::{AllocError, Global};
 
 /// The most bytes of a body that is shown whole.
 const SHOWN: usize = 64;
+
+/// What an item on journals is about.
+#[derive(Clone, Copy)]
+enum About {
+    Open,
+    Appends,
+    Both,
+}
+
+/// The words of these items.
+const WORDS: [(&'static [u8], About); 3] = [
+    (b"open", About::Open),
+    (b"appends", About::Appends),
+    (b"both", About::Both),
+];
 
 /// Answers `open`, `appends` and `both`.
 pub(crate) fn answer(
@@ -23,16 +38,25 @@ pub(crate) fn answer(
     word: &[u8],
     rest: &[u8],
 ) -> Result<Answer, LineEnd> {
-    if !matches!(word, b"open" | b"appends" | b"both") {
-        return Ok(Answer::Foreign);
+    match meaning_of(&WORDS, word) {
+        Some(about) => Ok(Answer::Text(found(alloc, vols, about, rest)?)),
+        None => Ok(Answer::Foreign),
     }
+}
+
+/// What an item on journals finds.
+fn found(
+    alloc: Global,
+    vols: &mut MemoryVolumes,
+    about: About,
+    rest: &[u8],
+) -> Result<Vec<u8>, LineEnd> {
     let (n, rest) = volume_word(rest)?;
-    let found = match word {
-        b"open" => open_one(alloc, vols, n)?,
-        b"appends" => appends(alloc, vols, n, rest)?,
-        _ => both(alloc, vols, n, rest)?,
-    };
-    Ok(Answer::Text(found))
+    match about {
+        About::Open => open_one(alloc, vols, n),
+        About::Appends => appends(alloc, vols, n, rest),
+        About::Both => both(alloc, vols, n, rest),
+    }
 }
 
 /// `open N`: the place of the last gate and the bodies of the log, or why there is none.

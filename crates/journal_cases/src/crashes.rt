@@ -8,9 +8,19 @@ use crate::text::{line_of, number_word, numbers, volume_word};
 use ale_base::{Items, OutOfMemory};
 use ale_volumes::{MemoryVolumes, Survivors};
 use byte_journal::open;
-use case_form::LineEnd;
+use case_form::{LineEnd, meaning_of};
 use std::alloc::Global;
 use std::array;
+
+/// What an item on a crash is about.
+#[derive(Clone, Copy)]
+enum About {
+    Crash,
+    Logs,
+}
+
+/// The words of these items.
+const WORDS: [(&'static [u8], About); 2] = [(b"crash", About::Crash), (b"logs", About::Logs)];
 
 /// Answers `crash` and `logs`.
 pub(crate) fn answer(
@@ -19,19 +29,28 @@ pub(crate) fn answer(
     word: &[u8],
     rest: &[u8],
 ) -> Result<Answer, LineEnd> {
-    if !matches!(word, b"crash" | b"logs") {
-        return Ok(Answer::Foreign);
+    match meaning_of(&WORDS, word) {
+        Some(about) => Ok(Answer::Text(found(alloc, vols, about, rest)?)),
+        None => Ok(Answer::Foreign),
     }
+}
+
+/// What an item on a crash finds.
+fn found(
+    alloc: Global,
+    vols: &MemoryVolumes,
+    about: About,
+    rest: &[u8],
+) -> Result<Vec<u8>, LineEnd> {
     let (n, rest) = volume_word(rest)?;
     let (moment, rest) = number_word(rest)?;
     if u64::from(moment) > vols.clock() {
         return Err(NO_SUCH_MOMENT.into());
     }
-    let found = match word {
-        b"crash" => crash(alloc, vols, n, u64::from(moment), rest)?,
-        _ => logs(alloc, vols, n, u64::from(moment))?,
-    };
-    Ok(Answer::Text(found))
+    match about {
+        About::Crash => crash(alloc, vols, n, u64::from(moment), rest),
+        About::Logs => logs(alloc, vols, n, u64::from(moment)),
+    }
 }
 
 /// `crash N MOMENT BACK COUNT ..`: what a crash at a moment leaves of a volume: of the lengths that it may have had since

@@ -31,13 +31,13 @@ pub(crate) fn disk_of(alloc: Global, item: &Item) -> Result<MemoryVolumes, CaseF
 /// Reads `volume N TEXT` or `failing K ..`.
 fn read_line(alloc: Global, given: &mut Given, line: &[u8]) -> Result<(), LineEnd> {
     let (word, rest) = first_word(line);
-    match word {
-        b"volume" => {
-            let (n, text) = volume_word(rest)?;
-            given.contents[usize::from(n)] = Items::from_vec(plain(alloc, text)?);
-        }
-        b"failing" => given.failing = numbers(alloc, rest)?,
-        _ => return Err(NO_SUCH_LINE.into()),
+    if word == b"volume".as_slice() {
+        let (n, text) = volume_word(rest)?;
+        given.contents[usize::from(n)] = Items::from_vec(plain(alloc, text)?);
+    } else if word == b"failing".as_slice() {
+        given.failing = numbers(alloc, rest)?;
+    } else {
+        return Err(NO_SUCH_LINE.into());
     }
     Ok(())
 }

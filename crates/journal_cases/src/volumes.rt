@@ -6,8 +6,41 @@ use crate::answer::Answer;
 use crate::rules::{NO_SUCH_MOMENT, PAST_THE_END};
 use crate::text::{line_of, number_word, plain, put_shown, shown, volume_word};
 use ale_volumes::{MemoryVolumes, Volumes};
-use case_form::LineEnd;
+use case_form::{LineEnd, meaning_of};
 use std::alloc::Global;
+
+/// What an item on volumes is about.
+#[derive(Clone, Copy)]
+enum About {
+    Clock,
+    Calls,
+    Volume(AboutVolume),
+}
+
+/// What an item does or asks of one volume.
+#[derive(Clone, Copy)]
+enum AboutVolume {
+    Write,
+    Sync,
+    Length,
+    Read,
+    Holds,
+    Faults,
+    Known,
+}
+
+/// The words of these items.
+const WORDS: [(&'static [u8], About); 9] = [
+    (b"clock", About::Clock),
+    (b"calls", About::Calls),
+    (b"write", About::Volume(AboutVolume::Write)),
+    (b"sync", About::Volume(AboutVolume::Sync)),
+    (b"length", About::Volume(AboutVolume::Length)),
+    (b"read", About::Volume(AboutVolume::Read)),
+    (b"holds", About::Volume(AboutVolume::Holds)),
+    (b"faults", About::Volume(AboutVolume::Faults)),
+    (b"known", About::Volume(AboutVolume::Known)),
+];
 
 /// Answers `write`, `sync`, `length`, `read`, `holds`, `faults`, `known`, `clock` and `calls`.
 pub(crate) fn answer(
@@ -16,38 +49,31 @@ pub(crate) fn answer(
     word: &[u8],
     rest: &[u8],
 ) -> Result<Answer, LineEnd> {
-    let found = match word {
-        b"clock" => shown(alloc, &vols.clock())?,
-        b"calls" => shown(alloc, &vols.calls().made)?,
-        _ => return on_a_volume(alloc, vols, word, rest),
-    };
-    Ok(Answer::Text(found))
+    match meaning_of(&WORDS, word) {
+        Some(About::Clock) => Ok(Answer::Text(shown(alloc, &vols.clock())?)),
+        Some(About::Calls) => Ok(Answer::Text(shown(alloc, &vols.calls().made)?)),
+        Some(About::Volume(about)) => Ok(Answer::Text(found(alloc, vols, about, rest)?)),
+        None => Ok(Answer::Foreign),
+    }
 }
 
-/// The same of the items that name a volume.
-fn on_a_volume(
+/// What an item finds that names a volume.
+fn found(
     alloc: Global,
     vols: &mut MemoryVolumes,
-    word: &[u8],
+    about: AboutVolume,
     rest: &[u8],
-) -> Result<Answer, LineEnd> {
-    if !matches!(
-        word,
-        b"write" | b"sync" | b"length" | b"read" | b"holds" | b"faults" | b"known"
-    ) {
-        return Ok(Answer::Foreign);
-    }
+) -> Result<Vec<u8>, LineEnd> {
     let (n, rest) = volume_word(rest)?;
-    let found = match word {
-        b"write" => write(alloc, vols, n, rest)?,
-        b"sync" => sync(alloc, vols, n)?,
-        b"length" => length(alloc, vols, n)?,
-        b"read" => read(alloc, vols, n, rest)?,
-        b"holds" => line_of(alloc, vols.contents(n))?,
-        b"faults" => shown(alloc, &vols.calls().faults[usize::from(n)])?,
-        _ => known(alloc, vols, n, rest)?,
-    };
-    Ok(Answer::Text(found))
+    match about {
+        AboutVolume::Write => write(alloc, vols, n, rest),
+        AboutVolume::Sync => sync(alloc, vols, n),
+        AboutVolume::Length => length(alloc, vols, n),
+        AboutVolume::Read => read(alloc, vols, n, rest),
+        AboutVolume::Holds => Ok(line_of(alloc, vols.contents(n))?),
+        AboutVolume::Faults => Ok(shown(alloc, &vols.calls().faults[usize::from(n)])?),
+        AboutVolume::Known => known(alloc, vols, n, rest),
+    }
 }
 
 /// `write N AT TEXT`: `ok`, or why it failed.

@@ -7,11 +7,44 @@ use crate::answer::Answer;
 use crate::rules::{NO_SUCH_NAME, NO_SUCH_NUMBER, NO_TYPE, NOT_VALID};
 use crate::text::{line_of, plain, put_line, put_pair};
 use ale_base::Items;
-use case_form::{BlockLine, Item, LineEnd, first_word, number_of};
+use case_form::{BlockLine, Item, LineEnd, first_word, meaning_of, number_of};
 use segment_defs::{
     Definitions, Field, SegmentType, TypeNo, Version, VersionNo, cut, is_name, is_segment_name,
 };
 use std::alloc::Global;
+
+/// What an item on definitions is about.
+#[derive(Clone, Copy)]
+enum About {
+    Type,
+    Clear,
+    Version,
+    Name,
+    Definitions,
+    LookUp(AboutNames),
+}
+
+/// What is looked up by a name.
+#[derive(Clone, Copy)]
+enum AboutNames {
+    Find,
+    Newest,
+    Cut,
+    Fitted,
+}
+
+/// The words of these items.
+const WORDS: [(&'static [u8], About); 9] = [
+    (b"type", About::Type),
+    (b"clear", About::Clear),
+    (b"version", About::Version),
+    (b"name", About::Name),
+    (b"definitions", About::Definitions),
+    (b"find", About::LookUp(AboutNames::Find)),
+    (b"newest", About::LookUp(AboutNames::Newest)),
+    (b"cut", About::LookUp(AboutNames::Cut)),
+    (b"fitted", About::LookUp(AboutNames::Fitted)),
+];
 
 /// Answers an item on definitions.
 pub(crate) fn answer(
@@ -20,20 +53,19 @@ pub(crate) fn answer(
     item: &Item,
 ) -> Result<Answer, LineEnd> {
     let rest = item.rest.as_slice();
-    match item.word.as_slice() {
-        b"type" => {
-            definitions.types.push(type_of(alloc, rest)?)?;
-            Ok(Answer::Taken)
-        }
-        b"clear" => {
+    match meaning_of(&WORDS, item.word.as_slice()) {
+        Some(About::Type) => add_type(alloc, definitions, rest),
+        Some(About::Clear) => {
             definitions.types = Items::new(alloc);
             Ok(Answer::Taken)
         }
-        b"version" => add_version(alloc, definitions, item),
-        b"name" => Ok(Answer::Text(name(alloc, rest)?)),
-        b"definitions" => Ok(Answer::Text(are_valid(alloc, definitions)?)),
-        _ if !definitions.is_valid() => Ok(Answer::Foreign),
-        word => look_up(alloc, definitions, word, rest),
+        Some(About::Version) => add_version(alloc, definitions, item),
+        Some(About::Name) => Ok(Answer::Text(name(alloc, rest)?)),
+        Some(About::Definitions) => Ok(Answer::Text(are_valid(alloc, definitions)?)),
+        Some(About::LookUp(about)) if definitions.is_valid() => {
+            Ok(Answer::Text(look_up(alloc, definitions, about, rest)?))
+        }
+        _ => Ok(Answer::Foreign),
     }
 }
 
@@ -41,22 +73,26 @@ pub(crate) fn answer(
 fn look_up(
     alloc: Global,
     definitions: &Definitions,
-    word: &[u8],
+    about: AboutNames,
     rest: &[u8],
-) -> Result<Answer, LineEnd>
+) -> Result<Vec<u8>, LineEnd>
     requires { AreDefinitions definitions.now }
 {
-    let text = match word {
-        b"find" => find(alloc, definitions, rest)?,
-        b"newest" => newest(alloc, definitions, rest)?,
-        b"cut" => cut_text(alloc, definitions, rest)?,
-        b"fitted" => fitted(alloc, definitions, rest)?,
-        _ => return Ok(Answer::Foreign),
-    };
-    Ok(Answer::Text(text))
+    match about {
+        AboutNames::Find => find(alloc, definitions, rest),
+        AboutNames::Newest => newest(alloc, definitions, rest),
+        AboutNames::Cut => cut_text(alloc, definitions, rest),
+        AboutNames::Fitted => fitted(alloc, definitions, rest),
+    }
 }
 
 /// `type NAME`: from here on there is a segment type of this name, with the definitions behind it.
+fn add_type(alloc: Global, definitions: &mut Definitions, rest: &[u8]) -> Result<Answer, LineEnd> {
+    definitions.types.push(type_of(alloc, rest)?)?;
+    Ok(Answer::Taken)
+}
+
+/// A segment type of this name, with no definition yet.
 fn type_of(alloc: Global, rest: &[u8]) -> Result<SegmentType, LineEnd> {
     let name = plain(alloc, rest)?;
     Ok(SegmentType {

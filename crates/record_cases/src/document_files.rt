@@ -12,14 +12,14 @@ use idoc_file::{FileFault, RawDoc, Reader};
 use std::alloc::{AllocError, Global};
 
 /// The most bytes of a document file.
-const LIMIT: usize = 67_108_864;
+const LIMIT: usize = Reader::MOST_BYTES as usize;
 
 /// Answers an item on document files.
 pub(crate) fn answer(alloc: Global, files: &mut MapFiles, item: &Item) -> Result<Answer, LineEnd> {
-    match item.word.as_slice() {
-        b"documents" => Ok(Answer::Text(documents(alloc, files, item.rest.as_slice())?)),
-        _ => Ok(Answer::Foreign),
+    if item.word.as_slice() != b"documents".as_slice() {
+        return Ok(Answer::Foreign);
     }
+    Ok(Answer::Text(documents(alloc, files, item.rest.as_slice())?))
 }
 
 /// `documents NAME N`: the documents of the file of this name, fed to a reader in pieces of N bytes, or what is wrong

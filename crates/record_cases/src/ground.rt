@@ -5,25 +5,56 @@ use crate::lists;
 use crate::rules::NO_SUCH_NUMBER;
 use crate::text::{line_of, plain, put_line, put_pair};
 use ale_base::{Change, FieldValue, Fixed, Items, QueueName, SystemNo, Tid, told_length, trimmed};
-use case_form::{Item, LineEnd, Rule, cut, first_word, number_of};
+use case_form::{Item, LineEnd, Rule, cut, first_word, meaning_of, number_of};
 use std::alloc::Global;
 use std::str;
+
+/// What an item on the ground is about.
+#[derive(Clone, Copy)]
+enum About {
+    System,
+    Tid,
+    Spelled,
+    Fixed,
+    Queue,
+    Length,
+    Change,
+    List,
+}
+
+/// The words of these items.
+const WORDS: [(&'static [u8], About); 8] = [
+    (b"system", About::System),
+    (b"tid", About::Tid),
+    (b"spelled", About::Spelled),
+    (b"fixed", About::Fixed),
+    (b"queue", About::Queue),
+    (b"length", About::Length),
+    (b"change", About::Change),
+    (b"list", About::List),
+];
 
 /// Answers an item on the ground.
 pub(crate) fn answer(alloc: Global, item: &Item) -> Result<Answer, LineEnd> {
     let rest = item.rest.as_slice();
-    let text = match item.word.as_slice() {
-        b"system" => system(alloc, rest)?,
-        b"tid" => tid(alloc, rest)?,
-        b"spelled" => spelled(alloc, rest)?,
-        b"fixed" => fixed(alloc, rest)?,
-        b"queue" => queue(alloc, rest)?,
-        b"length" => length(alloc, rest)?,
-        b"change" => change(alloc, rest)?,
-        b"list" => lists::list(alloc, rest)?,
-        _ => return Ok(Answer::Foreign),
-    };
-    Ok(Answer::Text(text))
+    match meaning_of(&WORDS, item.word.as_slice()) {
+        Some(about) => Ok(Answer::Text(found(alloc, about, rest)?)),
+        None => Ok(Answer::Foreign),
+    }
+}
+
+/// What an item on the ground finds.
+fn found(alloc: Global, about: About, rest: &[u8]) -> Result<Vec<u8>, LineEnd> {
+    match about {
+        About::System => system(alloc, rest),
+        About::Tid => tid(alloc, rest),
+        About::Spelled => spelled(alloc, rest),
+        About::Fixed => fixed(alloc, rest),
+        About::Queue => queue(alloc, rest),
+        About::Length => length(alloc, rest),
+        About::Change => change(alloc, rest),
+        About::List => lists::list(alloc, rest),
+    }
 }
 
 /// `system NUMBER`: the number, or that there is no such system.

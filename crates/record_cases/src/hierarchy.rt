@@ -5,9 +5,32 @@ use crate::definitions::verdict;
 use crate::rules::{NO_SUCH_NAME, NO_SUCH_NUMBER};
 use crate::text::{line_of, put_line, put_pair};
 use ale_base::Items;
-use case_form::{Item, LineEnd, first_word, number_of};
+use case_form::{Item, LineEnd, first_word, meaning_of, number_of};
 use segment_defs::{Definitions, IdocType, TypeNo, TypePlace};
 use std::alloc::{AllocError, Global};
+
+/// What an item on the IDoc type is about.
+#[derive(Clone, Copy)]
+enum About {
+    Idoc,
+    Read(AboutRead),
+}
+
+/// What an item reads.
+#[derive(Clone, Copy)]
+enum AboutRead {
+    Hierarchy,
+    Entry,
+    Above,
+}
+
+/// The words of these items.
+const WORDS: [(&'static [u8], About); 4] = [
+    (b"idoc", About::Idoc),
+    (b"hierarchy", About::Read(AboutRead::Hierarchy)),
+    (b"entry", About::Read(AboutRead::Entry)),
+    (b"above", About::Read(AboutRead::Above)),
+];
 
 /// Answers an item on the IDoc type.
 pub(crate) fn answer(
@@ -17,15 +40,28 @@ pub(crate) fn answer(
     item: &Item,
 ) -> Result<Answer, LineEnd> {
     let rest = item.rest.as_slice();
-    match item.word.as_slice() {
-        b"idoc" => {
+    match meaning_of(&WORDS, item.word.as_slice()) {
+        Some(About::Idoc) => {
             *ty = idoc_type(alloc, definitions, item)?;
             Ok(Answer::Taken)
         }
-        b"hierarchy" => Ok(Answer::Text(line_of(alloc, verdict(ty.is_valid(definitions)))?)),
-        b"entry" => Ok(Answer::Text(entry(alloc, definitions, ty, rest)?)),
-        b"above" => Ok(Answer::Text(above(alloc, definitions, ty, rest)?)),
-        _ => Ok(Answer::Foreign),
+        Some(About::Read(about)) => Ok(Answer::Text(found(alloc, definitions, ty, about, rest)?)),
+        None => Ok(Answer::Foreign),
+    }
+}
+
+/// What an item finds that changes nothing.
+fn found(
+    alloc: Global,
+    definitions: &Definitions,
+    ty: &IdocType,
+    about: AboutRead,
+    rest: &[u8],
+) -> Result<Vec<u8>, LineEnd> {
+    match about {
+        AboutRead::Hierarchy => Ok(line_of(alloc, verdict(ty.is_valid(definitions)))?),
+        AboutRead::Entry => entry(alloc, definitions, ty, rest),
+        AboutRead::Above => above(alloc, definitions, ty, rest),
     }
 }
 

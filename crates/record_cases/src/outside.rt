@@ -5,9 +5,36 @@ use crate::rules::{NO_SUCH_ITEM, NO_TEXT};
 use crate::text::{line_of, plain, put_line, size_of};
 use ale_base::Items;
 use ale_io::{Calls, FileEnd, Files, MapFiles, Sink, StoredFile, VecSink};
-use case_form::{Item, LineEnd, first_word, number_of};
+use case_form::{Item, LineEnd, first_word, meaning_of, number_of};
 use std::alloc::{AllocError, Global};
 use std::str;
+
+/// What an item on files or on the sink is about.
+#[derive(Clone, Copy)]
+enum About {
+    File,
+    Failing,
+    Call(AboutCall),
+}
+
+/// Which call an item makes.
+#[derive(Clone, Copy)]
+enum AboutCall {
+    Read,
+    Piece,
+    Put,
+    Any,
+}
+
+/// The words of these items.
+const WORDS: [(&'static [u8], About); 6] = [
+    (b"file", About::File),
+    (b"failing", About::Failing),
+    (b"read", About::Call(AboutCall::Read)),
+    (b"piece", About::Call(AboutCall::Piece)),
+    (b"put", About::Call(AboutCall::Put)),
+    (b"call", About::Call(AboutCall::Any)),
+];
 
 /// Answers an item on files or on the sink.
 pub(crate) fn answer(
@@ -17,21 +44,37 @@ pub(crate) fn answer(
     item: &Item,
 ) -> Result<Answer, LineEnd> {
     let rest = item.rest.as_slice();
-    match item.word.as_slice() {
-        b"file" => {
-            files.files.push(file_of(alloc, rest)?)?;
-            Ok(Answer::Taken)
-        }
-        b"failing" => failing(files, sink, rest),
-        b"read" => Ok(Answer::Text(read(alloc, files, rest)?)),
-        b"piece" => Ok(Answer::Text(piece(alloc, files, rest)?)),
-        b"put" => Ok(Answer::Text(put(alloc, sink, rest)?)),
-        b"call" => Ok(Answer::Text(call(alloc)?)),
-        _ => Ok(Answer::Foreign),
+    match meaning_of(&WORDS, item.word.as_slice()) {
+        Some(About::File) => add_file(alloc, files, rest),
+        Some(About::Failing) => failing(files, sink, rest),
+        Some(About::Call(about)) => Ok(Answer::Text(called(alloc, files, sink, about, rest)?)),
+        None => Ok(Answer::Foreign),
+    }
+}
+
+/// What an item finds that makes a call.
+fn called(
+    alloc: Global,
+    files: &mut MapFiles,
+    sink: &mut VecSink,
+    about: AboutCall,
+    rest: &[u8],
+) -> Result<Vec<u8>, LineEnd> {
+    match about {
+        AboutCall::Read => read(alloc, files, rest),
+        AboutCall::Piece => piece(alloc, files, rest),
+        AboutCall::Put => put(alloc, sink, rest),
+        AboutCall::Any => call(alloc),
     }
 }
 
 /// `file NAME TEXT`: from here on there is a file of this name with this text.
+fn add_file(alloc: Global, files: &mut MapFiles, rest: &[u8]) -> Result<Answer, LineEnd> {
+    files.files.push(file_of(alloc, rest)?)?;
+    Ok(Answer::Taken)
+}
+
+/// The file of `NAME TEXT`.
 fn file_of(alloc: Global, rest: &[u8]) -> Result<StoredFile, LineEnd> {
     let (name, text) = first_word(rest);
     let bytes = plain(alloc, text)?;
@@ -45,9 +88,9 @@ fn file_of(alloc: Global, rest: &[u8]) -> Result<StoredFile, LineEnd> {
 fn failing(files: &mut MapFiles, sink: &mut VecSink, rest: &[u8]) -> Result<Answer, LineEnd> {
     let (which, number) = first_word(rest);
     let number = u64::from(number_of(number)?);
-    match which {
-        b"read" => files.calls.failing.push(number)?,
-        b"put" => sink.calls.failing.push(number)?,
+    match meaning_of(&WORDS, which) {
+        Some(About::Call(AboutCall::Read)) => files.calls.failing.push(number)?,
+        Some(About::Call(AboutCall::Put)) => sink.calls.failing.push(number)?,
         _ => return Err(NO_SUCH_ITEM.into()),
     }
     Ok(Answer::Taken)

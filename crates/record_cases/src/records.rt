@@ -9,11 +9,42 @@ use crate::rules::{
 };
 use crate::text::{line_of, plain, put_line, put_pair, size_of};
 use ale_base::trimmed;
-use case_form::{Item, LineEnd, first_word, number_of, put_text};
+use case_form::{Item, LineEnd, first_word, meaning_of, number_of, put_text};
 use idoc_record::{
     Control, ControlField, Place, RecordFault, read_control, read_data, write_control, write_data,
 };
 use std::alloc::{AllocError, Global};
+
+/// What an item on records is about.
+#[derive(Clone, Copy)]
+enum About {
+    Line,
+    Control,
+    Set,
+    Read(AboutRead),
+}
+
+/// What an item reads.
+#[derive(Clone, Copy)]
+enum AboutRead {
+    Data,
+    Get,
+    Fields,
+    Written,
+    Layout,
+}
+
+/// The words of these items.
+const WORDS: [(&'static [u8], About); 8] = [
+    (b"line", About::Line),
+    (b"control", About::Control),
+    (b"set", About::Set),
+    (b"data", About::Read(AboutRead::Data)),
+    (b"get", About::Read(AboutRead::Get)),
+    (b"fields", About::Read(AboutRead::Fields)),
+    (b"written", About::Read(AboutRead::Written)),
+    (b"layout", About::Read(AboutRead::Layout)),
+];
 
 /// Answers an item on the line, on the control record or on the layout.
 pub(crate) fn answer(
@@ -23,19 +54,38 @@ pub(crate) fn answer(
     item: &Item,
 ) -> Result<Answer, LineEnd> {
     let rest = item.rest.as_slice();
-    match item.word.as_slice() {
-        b"line" => {
+    match meaning_of(&WORDS, item.word.as_slice()) {
+        Some(About::Line) => {
             *line = made_line(alloc, item)?;
             Ok(Answer::Taken)
         }
-        b"control" => Ok(Answer::Text(control_of(alloc, line.as_slice(), control)?)),
-        b"data" => Ok(Answer::Text(data_of(alloc, line.as_slice())?)),
-        b"get" => Ok(Answer::Text(get(alloc, control.as_ref(), rest)?)),
-        b"set" => set(alloc, control.as_mut(), rest),
-        b"fields" => Ok(Answer::Text(fields(alloc, control.as_ref())?)),
-        b"written" => Ok(Answer::Text(written(alloc, control.as_ref(), line.as_slice(), rest)?)),
-        b"layout" => Ok(Answer::Text(layout(alloc)?)),
-        _ => Ok(Answer::Foreign),
+        Some(About::Set) => set(alloc, control.as_mut(), rest),
+        Some(About::Control) => Ok(Answer::Text(control_of(alloc, line.as_slice(), control)?)),
+        Some(About::Read(about)) => Ok(Answer::Text(found(
+            alloc,
+            line.as_slice(),
+            control.as_ref(),
+            about,
+            rest,
+        )?)),
+        None => Ok(Answer::Foreign),
+    }
+}
+
+/// What an item finds that changes nothing.
+fn found(
+    alloc: Global,
+    line: &[u8],
+    control: Option<&Control>,
+    about: AboutRead,
+    rest: &[u8],
+) -> Result<Vec<u8>, LineEnd> {
+    match about {
+        AboutRead::Data => data_of(alloc, line),
+        AboutRead::Get => get(alloc, control, rest),
+        AboutRead::Fields => fields(alloc, control),
+        AboutRead::Written => written(alloc, control, line, rest),
+        AboutRead::Layout => layout(alloc),
     }
 }
 
@@ -140,11 +190,14 @@ fn written(
     rest: &[u8],
 ) -> Result<Vec<u8>, LineEnd> {
     let control = control.ok_or(NO_CONTROL)?;
+    let (kind, place) = first_word(rest);
     let mut bytes = Vec::new(alloc);
-    match first_word(rest) {
-        (b"control", _) => write_control(control, &mut bytes)?,
-        (b"data", place) => write_line(alloc, control, line, place, &mut bytes)?,
-        _ => return Err(NO_SUCH_ITEM.into()),
+    if kind == b"control".as_slice() {
+        write_control(control, &mut bytes)?;
+    } else if kind == b"data".as_slice() {
+        write_line(alloc, control, line, place, &mut bytes)?;
+    } else {
+        return Err(NO_SUCH_ITEM.into());
     }
     Ok(line_of(alloc, bytes.as_slice())?)
 }

@@ -8,33 +8,65 @@ use crate::bench::Bench;
 use crate::rules::{NO_DOCUMENT, NO_RECORD, NO_SUCH_NUMBER, NOT_VALID};
 use crate::text::{line_of, plain, put_line, put_pair};
 use ale_base::Items;
-use case_form::{Item, LineEnd, first_word, number_of};
+use case_form::{Item, LineEnd, first_word, meaning_of, number_of};
 use idoc_record::{Control, Data, RecordFault, read_control, read_data};
 use idoc_tree::{Node, SyntaxFault, build, flatten};
 use segment_defs::{Definitions, Field, IdocType, SegmentType, TypeNo, TypePlace, Version};
 use std::alloc::{AllocError, Global};
 
+/// What an item on documents is about.
+#[derive(Clone, Copy)]
+enum About {
+    Records,
+    Chain,
+    Document(AboutDocument),
+}
+
+/// What is made of a document.
+#[derive(Clone, Copy)]
+enum AboutDocument {
+    Build,
+    Flatten,
+    Count,
+}
+
+/// The words of these items.
+const WORDS: [(&'static [u8], About); 5] = [
+    (b"records", About::Records),
+    (b"chain", About::Chain),
+    (b"build", About::Document(AboutDocument::Build)),
+    (b"flatten", About::Document(AboutDocument::Flatten)),
+    (b"count", About::Document(AboutDocument::Count)),
+];
+
 /// Answers an item on documents.
 pub(crate) fn answer(alloc: Global, bench: &mut Bench, item: &Item) -> Result<Answer, LineEnd> {
-    match item.word.as_slice() {
-        b"records" => {
+    match meaning_of(&WORDS, item.word.as_slice()) {
+        Some(About::Records) => {
             bench.records = records_of(alloc, item)?;
             Ok(Answer::Taken)
         }
-        b"chain" => {
+        Some(About::Chain) => {
             set_chain(alloc, bench, item.rest.as_slice())?;
             Ok(Answer::Taken)
         }
-        _ if !bench.definitions.is_valid() => Err(NOT_VALID.into()),
-        _ if !bench.ty.is_valid(&bench.definitions) => Err(NOT_VALID.into()),
-        word => look_into(
-            alloc,
-            &bench.definitions,
-            &bench.ty,
-            bench.records.as_slice(),
-            word,
-        ),
+        Some(About::Document(about)) => Ok(Answer::Text(document(alloc, bench, about)?)),
+        None => Ok(Answer::Foreign),
     }
+}
+
+/// What an item finds that builds a document, where the definitions and the IDoc type keep their rules.
+fn document(alloc: Global, bench: &Bench, about: AboutDocument) -> Result<Vec<u8>, LineEnd> {
+    let Bench {
+        definitions,
+        ty,
+        records,
+        ..
+    } = bench;
+    if !definitions.is_valid() || !ty.is_valid(definitions) {
+        return Err(NOT_VALID.into());
+    }
+    look_into(alloc, definitions, ty, records.as_slice(), about)
 }
 
 /// The same of the items that build a document of the records.
@@ -43,18 +75,16 @@ fn look_into(
     definitions: &Definitions,
     ty: &IdocType,
     records: &[Data],
-    word: &[u8],
-) -> Result<Answer, LineEnd>
+    about: AboutDocument,
+) -> Result<Vec<u8>, LineEnd>
     requires definitions { AreDefinitions definitions.now }
     requires kept { IsIdocType definitions.now ty.now }
 {
-    let text = match word {
-        b"build" => built(alloc, definitions, ty, records)?,
-        b"flatten" => flattened(alloc, definitions, ty, records)?,
-        b"count" => counted(alloc, definitions, ty, records)?,
-        _ => return Ok(Answer::Foreign),
-    };
-    Ok(Answer::Text(text))
+    match about {
+        AboutDocument::Build => built(alloc, definitions, ty, records),
+        AboutDocument::Flatten => flattened(alloc, definitions, ty, records),
+        AboutDocument::Count => counted(alloc, definitions, ty, records),
+    }
 }
 
 /// `records NAME ..`: the document has a record of each name, with no data; or, in the block, of each line `NAME DATA`.

@@ -42,10 +42,13 @@ impl FileText {
 
     /// Adds what a line of the file's block stands for.
     pub(crate) fn add(&mut self, alloc: Global, text: &[u8]) -> Result<(), LineEnd> {
-        match first_word(text) {
-            (b"repeat", count) => self.begin_repeat(count),
-            (b"end", b"") => self.end_repeat(alloc),
-            _ => self.add_line(alloc, text),
+        let (word, count) = first_word(text);
+        if word == b"repeat".as_slice() {
+            self.begin_repeat(count)
+        } else if text == b"end".as_slice() {
+            self.end_repeat(alloc)
+        } else {
+            self.add_line(alloc, text)
         }
     }
 
@@ -96,28 +99,38 @@ fn put_line(alloc: Global, bytes: &mut Vec<u8>, text: &[u8]) -> Result<(), LineE
 
 /// Appends what stands in a line.
 fn put_content(alloc: Global, bytes: &mut Vec<u8>, text: &[u8]) -> Result<(), LineEnd> {
-    match first_word(text) {
-        (b"line", text) => put_text(bytes, text),
-        (b"control", fields) => put_short(bytes, control_record(alloc, fields)?.as_slice()),
-        (b"data", fields) => put_short(bytes, data_record(alloc, fields)?.as_slice()),
-        (b"full", record) => put_full(alloc, bytes, record),
-        _ => Err(rules::NO_SUCH_LINE.into()),
+    let (word, behind) = first_word(text);
+    if word == b"line".as_slice() {
+        put_text(bytes, behind)
+    } else if word == b"full".as_slice() {
+        put_full(alloc, bytes, behind)
+    } else {
+        put_short(alloc, bytes, text)
+    }
+}
+
+/// A record in full width, of `control FIELDS` or `data FIELDS`.
+fn record_of(alloc: Global, text: &[u8]) -> Result<Vec<u8>, LineEnd> {
+    let (kind, fields) = first_word(text);
+    if kind == b"control".as_slice() {
+        control_record(alloc, fields)
+    } else if kind == b"data".as_slice() {
+        data_record(alloc, fields)
+    } else {
+        Err(rules::NO_SUCH_LINE.into())
     }
 }
 
 /// Appends a record without the blanks at its end.
-fn put_short(bytes: &mut Vec<u8>, record: &[u8]) -> Result<(), LineEnd> {
-    bytes.extend_from_slice(trimmed(record))?;
+fn put_short(alloc: Global, bytes: &mut Vec<u8>, text: &[u8]) -> Result<(), LineEnd> {
+    let record = record_of(alloc, text)?;
+    bytes.extend_from_slice(trimmed(record.as_slice()))?;
     Ok(())
 }
 
 /// Appends a record in full width.
 fn put_full(alloc: Global, bytes: &mut Vec<u8>, text: &[u8]) -> Result<(), LineEnd> {
-    let record = match first_word(text) {
-        (b"control", fields) => control_record(alloc, fields)?,
-        (b"data", fields) => data_record(alloc, fields)?,
-        _ => return Err(rules::NO_SUCH_LINE.into()),
-    };
+    let record = record_of(alloc, text)?;
     bytes.extend_from_slice(record.as_slice())?;
     Ok(())
 }

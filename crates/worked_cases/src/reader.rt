@@ -6,7 +6,8 @@ use crate::rules;
 use ale_base::Items;
 use ale_io::StoredFile;
 use case_form::{
-    CaseFault, Item, LineEnd, Relation, Rule, first_word, number_of, put_text, read_items,
+    CaseFault, Item, LineEnd, Relation, Rule, first_word, meaning_of, number_of, put_text,
+    read_items,
 };
 use std::alloc::Global;
 use std::str;
@@ -26,6 +27,49 @@ pub(crate) fn read_case(alloc: Global, file: &str, bytes: &[u8]) -> Result<Case,
     }
     reader.finish()
 }
+
+/// What an item is about.
+#[derive(Clone, Copy)]
+enum ItemKind {
+    File,
+    Run,
+    Failing,
+    Status,
+    Prints,
+    Broken,
+}
+
+/// The first words of items.
+const ITEMS: [(&'static [u8], ItemKind); 7] = [
+    (b"file", ItemKind::File),
+    (b"run", ItemKind::Run),
+    (b"wordless", ItemKind::Run),
+    (b"failing", ItemKind::Failing),
+    (b"status", ItemKind::Status),
+    (b"prints", ItemKind::Prints),
+    (b"broken", ItemKind::Broken),
+];
+
+/// A call that is to fail.
+#[derive(Clone, Copy)]
+enum FailingCall {
+    Read,
+    Put,
+}
+
+/// The words of the calls that may fail.
+const CALLS: [(&'static [u8], FailingCall); 2] = [
+    (b"read", FailingCall::Read),
+    (b"put", FailingCall::Put),
+];
+
+/// How a text that is printed is told.
+const RELATIONS: [(&'static [u8], Relation); 4] = [
+    (b"", Relation::Whole),
+    (b"a front of", Relation::FrontOf),
+    (b"first", Relation::First),
+    (b"last", Relation::Last),
+];
 
 /// A run whose items are being read.
 #[derive(Drop)]
@@ -79,14 +123,14 @@ struct Reader {
 
 impl Reader {
     fn read_item(&mut self, item: Item) -> Result<(), CaseFault> {
-        match item.word.as_slice() {
-            b"file" => self.read_file(&item),
-            b"run" | b"wordless" => self.begin_run(&item),
-            b"failing" => self.read_failing(&item),
-            b"status" => self.read_status(&item),
-            b"prints" => self.read_prints(&item),
-            b"broken" => self.read_broken(item),
-            _ => Err(broken(item.line, rules::NO_SUCH_ITEM)),
+        match meaning_of(&ITEMS, item.word.as_slice()) {
+            Some(ItemKind::File) => self.read_file(&item),
+            Some(ItemKind::Run) => self.begin_run(&item),
+            Some(ItemKind::Failing) => self.read_failing(&item),
+            Some(ItemKind::Status) => self.read_status(&item),
+            Some(ItemKind::Prints) => self.read_prints(&item),
+            Some(ItemKind::Broken) => self.read_broken(item),
+            None => Err(broken(item.line, rules::NO_SUCH_ITEM)),
         }
     }
 
@@ -157,12 +201,10 @@ impl Reader {
     fn read_failing(&mut self, item: &Item) -> Result<(), CaseFault> {
         unblocked(item)?;
         let run = self.run(item, false)?;
-        let (kind, number) = first_word(item.rest.as_slice());
-        let number = u64::from(number_of(number).map_err(|end| end.at(item.line))?);
-        match kind {
-            b"read" if number > 0 => run.failing_reads.push(number)?,
-            b"put" if number > 0 => run.failing_puts.push(number)?,
-            _ => return Err(broken(item.line, rules::NO_SUCH_CALL)),
+        let (call, number) = failing_call(item)?;
+        match call {
+            FailingCall::Read => run.failing_reads.push(number)?,
+            FailingCall::Put => run.failing_puts.push(number)?,
         }
         Ok(())
     }
@@ -183,12 +225,8 @@ impl Reader {
     fn read_prints(&mut self, item: &Item) -> Result<(), CaseFault> {
         let text = item.text(self.alloc)?;
         let run = self.run(item, true)?;
-        let relation = match item.rest.as_slice() {
-            b"" => Relation::Whole,
-            b"a front of" => Relation::FrontOf,
-            b"first" => Relation::First,
-            b"last" => Relation::Last,
-            _ => return Err(broken(item.line, rules::NO_SUCH_PRINTS)),
+        let Some(relation) = meaning_of(&RELATIONS, item.rest.as_slice()) else {
+            return Err(broken(item.line, rules::NO_SUCH_PRINTS));
         };
         run.outputs.push(Output { relation, text })?;
         Ok(())
@@ -203,19 +241,30 @@ impl Reader {
     }
 
     fn finish(mut self) -> Result<Case, CaseFault> {
-        let is_run = self.run.is_some();
-        self.end_run()?;
-        let Reader {
-            files,
-            parts,
-            line,
-            ..
-        } = self;
-        match parts.last() {
-            Some(Part::Broken(item)) if item.line == line => Ok(Case { files, parts }),
-            Some(_) if is_run => Ok(Case { files, parts }),
-            _ => Err(broken(line, rules::NO_RUN)),
+        if self.run.is_none() && !self.ends_broken() {
+            return Err(broken(self.line, rules::NO_RUN));
         }
+        self.end_run()?;
+        let Reader { files, parts, .. } = self;
+        Ok(Case { files, parts })
+    }
+
+    /// Whether the last item is a text that is no case.
+    fn ends_broken(&self) -> bool {
+        match self.parts.last() {
+            Some(Part::Broken(item)) => item.line == self.line,
+            _ => false,
+        }
+    }
+}
+
+/// The call that an item chooses to fail, as `read` or `put` and its number from 1.
+fn failing_call(item: &Item) -> Result<(FailingCall, u64), CaseFault> {
+    let (word, number) = first_word(item.rest.as_slice());
+    let number = number_of(number).map_err(|end| end.at(item.line))?;
+    match meaning_of(&CALLS, word) {
+        Some(call) if number > 0 => Ok((call, u64::from(number))),
+        _ => Err(broken(item.line, rules::NO_SUCH_CALL)),
     }
 }
 
