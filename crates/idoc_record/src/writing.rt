@@ -93,20 +93,20 @@ fn data_line(control: &Control, place: Place, line: &Data) -> [u8; 1063]
 }
 
 /// Writes client and number of the document.
-fn put_address(record: &mut [u8; 1063], control: &Control)
-    ensures { record.new ≡ addressed control.now record.old }
+fn put_address(bytes: &mut [u8; 1063], control: &Control)
+    ensures { bytes.new ≡ addressed control.now bytes.old }
 {
-    put_at(record, MANDT, control.get(ControlField::Mandt));
-    put_at(record, DOCNUM, control.get(ControlField::Docnum));
+    put_at(bytes, MANDT, control.get(ControlField::Mandt));
+    put_at(bytes, DOCNUM, control.get(ControlField::Docnum));
 }
 
 /// Writes the place of the segment.
-fn put_place(record: &mut [u8; 1063], place: Place)
-    ensures { record.new ≡ placed place record.old }
+fn put_place(bytes: &mut [u8; 1063], place: Place)
+    ensures { bytes.new ≡ placed place bytes.old }
 {
-    put_at(record, SEGNUM, &digits::<6>(place.segnum));
-    put_at(record, PSGNUM, &digits::<6>(place.parent));
-    put_at(record, HLEVEL, &digits::<2>(u32::from(place.level)));
+    put_at(bytes, SEGNUM, &digits::<6>(place.segnum));
+    put_at(bytes, PSGNUM, &digits::<6>(place.parent));
+    put_at(bytes, HLEVEL, &digits::<2>(u32::from(place.level)));
 }
 
 /// A record of blanks.
@@ -118,12 +118,12 @@ fn blank_record() -> [u8; 1063]
 }
 
 /// Writes a text to its place, and blanks behind it there.
-fn put_at(record: &mut [u8; 1063], place: Span, text: &[u8])
+fn put_at(bytes: &mut [u8; 1063], place: Span, text: &[u8])
     requires within { place.offset + place.length ≤ DATA_LEN }
     requires fits { length text.now ≤ place.length }
-    ensures { record.new ≡ with_text place text.now record.old }
+    ensures { bytes.new ≡ with_text place text.now bytes.old }
 {
-    let (_, rest) = record.split_at_mut(place.offset);
+    let (_, rest) = bytes.split_at_mut(place.offset);
     let (part, _) = rest.split_at_mut(place.length);
     put_padded(part, text);
 }
