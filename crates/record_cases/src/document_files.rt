@@ -56,24 +56,40 @@ fn reader_of(alloc: Global, bytes: &[u8], length: usize) -> Result<Reader, LineE
 
 /// The reader's end: a line a document, or the fault.
 fn told(alloc: Global, reader: Reader) -> Result<Vec<u8>, LineEnd> {
-    let fed = reader.fed();
-    let told = format!(in alloc; "fed {fed}")?;
-    let mut text = line_of(alloc, told.as_bytes())?;
+    let mut text = fed_line(alloc, reader.fed())?;
     match reader.end() {
-        Ok(documents) => {
-            for document in &documents {
-                put_document(alloc, &mut text, document)?;
-            }
-            Ok(text)
-        }
-        Err(FileFault::OutOfMemory) => Err(LineEnd::OutOfMemory),
-        Err(fault) => {
-            let fault = fault.clone()?;
-            let told = format!(in alloc; "{fault}")?;
-            put_line(&mut text, told.as_bytes())?;
-            Ok(text)
-        }
+        Ok(documents) => put_documents(alloc, &mut text, documents.as_slice())?,
+        Err(fault) => put_fault(alloc, &mut text, fault)?,
     }
+    Ok(text)
+}
+
+/// Appends the fault of a file.
+fn put_fault(alloc: Global, text: &mut Vec<u8>, fault: FileFault) -> Result<(), LineEnd> {
+    if fault == FileFault::OutOfMemory {
+        return Err(LineEnd::OutOfMemory);
+    }
+    let fault = fault.clone()?;
+    let told = format!(in alloc; "{fault}")?;
+    Ok(put_line(text, told.as_bytes())?)
+}
+
+/// Appends documents, a line each.
+fn put_documents(
+    alloc: Global,
+    text: &mut Vec<u8>,
+    documents: &[RawDoc],
+) -> Result<(), AllocError> {
+    for document in documents {
+        put_document(alloc, text, document)?;
+    }
+    Ok(())
+}
+
+/// How many bytes were fed.
+fn fed_line(alloc: Global, fed: u64) -> Result<Vec<u8>, AllocError> {
+    let told = format!(in alloc; "fed {fed}")?;
+    line_of(alloc, told.as_bytes())
 }
 
 /// The number of a document's control line, and its segments.

@@ -4,9 +4,11 @@ use crate::answer::Answer;
 use crate::lists;
 use crate::rules::NO_SUCH_NUMBER;
 use crate::text::{line_of, plain, put_line, put_pair};
-use ale_base::{Change, FieldValue, Fixed, Items, QueueName, SystemNo, Tid, told_length, trimmed};
+use ale_base::{
+    Change, FieldValue, Fixed, Items, NameFault, QueueName, SystemNo, Tid, told_length, trimmed,
+};
 use case_form::{Item, LineEnd, Rule, cut, first_word, meaning_of, number_of};
-use std::alloc::Global;
+use std::alloc::{AllocError, Global};
 use std::str;
 
 /// What an item on the ground is about.
@@ -126,12 +128,15 @@ fn queue(alloc: Global, rest: &[u8]) -> Result<Vec<u8>, LineEnd> {
     let bytes = plain(alloc, rest)?;
     match QueueName::of(bytes.as_slice()) {
         Ok(name) => Ok(line_of(alloc, name.clone()?.bytes())?),
-        Err(fault) => {
-            let fault = fault.clone()?;
-            let told = format!(in alloc; "no name: {fault}")?;
-            Ok(line_of(alloc, told.as_bytes())?)
-        }
+        Err(fault) => Ok(name_fault(alloc, fault)?),
     }
+}
+
+/// Why a text is no name of a queue.
+fn name_fault(alloc: Global, fault: NameFault) -> Result<Vec<u8>, AllocError> {
+    let fault = fault.clone()?;
+    let told = format!(in alloc; "no name: {fault}")?;
+    line_of(alloc, told.as_bytes())
 }
 
 /// `length NUMBER`: the length as faults tell it.
@@ -147,22 +152,38 @@ fn length(alloc: Global, rest: &[u8]) -> Result<Vec<u8>, LineEnd> {
 
 /// `change KIND KEY FIELD=VALUE`: the change, and a copy of its field.
 fn change(alloc: Global, rest: &[u8]) -> Result<Vec<u8>, LineEnd> {
-    let (kind, rest) = first_word(rest);
-    let (key, field) = first_word(rest);
-    let mut fields = Items::new(alloc);
-    fields.push(field_of(alloc, field)?)?;
-    let change = Change {
-        kind: Items::from_slice(alloc, kind)?,
-        key: Items::from_slice(alloc, key)?,
-        fields,
-    };
+    let change = change_of(alloc, rest)?;
     let mut text = Vec::new(alloc);
     put_pair(&mut text, change.kind.as_slice(), change.key.as_slice())?;
-    for field in &change.fields {
-        let copy = field.clone()?;
-        put_pair(&mut text, copy.field.as_slice(), copy.value.as_slice())?;
-    }
+    put_fields(&mut text, change.fields.as_slice())?;
     Ok(text)
+}
+
+/// The change of `KIND KEY FIELD=VALUE`.
+fn change_of(alloc: Global, text: &[u8]) -> Result<Change, LineEnd> {
+    let (kind, rest) = first_word(text);
+    let (key, field) = first_word(rest);
+    let kind = Items::from_slice(alloc, kind)?;
+    let key = Items::from_slice(alloc, key)?;
+    let fields = fields_of(alloc, field)?;
+    Ok(Change { kind, key, fields })
+}
+
+/// A list of the one field of `FIELD=VALUE`.
+fn fields_of(alloc: Global, text: &[u8]) -> Result<Items<FieldValue>, LineEnd> {
+    let field = field_of(alloc, text)?;
+    let mut fields = Items::new(alloc);
+    fields.push(field)?;
+    Ok(fields)
+}
+
+/// Appends copies of fields, a line each.
+fn put_fields(text: &mut Vec<u8>, fields: &[FieldValue]) -> Result<(), AllocError> {
+    for field in fields {
+        let copy = field.clone()?;
+        put_pair(text, copy.field.as_slice(), copy.value.as_slice())?;
+    }
+    Ok(())
 }
 
 /// The field and the value of `FIELD=VALUE`.

@@ -1,24 +1,44 @@
 //! The item on lists.
 
-use crate::text::{put_line, yes_or_no};
+use crate::text::{line_of, put_line, yes_or_no};
 use ale_base::{DocNum, Items, OutOfMemory};
 use case_form::{LineEnd, number_of};
 use std::alloc::{AllocError, Global};
 
 /// `list FIRST SECOND`: a list of two numbers of documents, and what each method makes of it.
 pub(crate) fn list(alloc: Global, rest: &[u8]) -> Result<Vec<u8>, LineEnd> {
-    let mut numbers = Items::new(alloc);
-    let is_empty = yes_or_no(numbers.is_empty());
-    for digits in rest.split(|byte| *byte == b' ') {
-        numbers.push(DocNum(u64::from(number_of(digits)?)))?;
-    }
-    let mut text = Vec::new(alloc);
-    let told = format!(in alloc; "empty at first: {is_empty}")?;
-    put_line(&mut text, told.as_bytes())?;
-    put_places(alloc, &mut text, &numbers)?;
-    put_copies(alloc, &mut text, &mut numbers)?;
+    let mut numbers = numbers_of(alloc, rest)?;
+    let mut text = empty_list(alloc)?;
+    put_all(alloc, &mut text, &mut numbers)?;
     put_vectors(alloc, &mut text, numbers)?;
     Ok(text)
+}
+
+/// The numbers that the words spell.
+fn numbers_of(alloc: Global, words: &[u8]) -> Result<Items<DocNum>, LineEnd> {
+    let mut numbers = Items::new(alloc);
+    for digits in words.split(|byte| *byte == b' ') {
+        let number = number_of(digits)?;
+        numbers.push(DocNum(u64::from(number)))?;
+    }
+    Ok(numbers)
+}
+
+/// Whether a list is empty at first.
+fn empty_list(alloc: Global) -> Result<Vec<u8>, AllocError> {
+    let is_empty = yes_or_no(Items::<DocNum>::new(alloc).is_empty());
+    let told = format!(in alloc; "empty at first: {is_empty}")?;
+    line_of(alloc, told.as_bytes())
+}
+
+/// What each method makes of a list.
+fn put_all(
+    alloc: Global,
+    text: &mut Vec<u8>,
+    numbers: &mut Items<DocNum>,
+) -> Result<(), AllocError> {
+    put_places(alloc, text, numbers)?;
+    put_copy(alloc, text, numbers)
 }
 
 /// How many items there are, and which is at a place.
@@ -34,8 +54,8 @@ fn put_places(
     put_line(text, told.as_bytes())
 }
 
-/// Whether a copy is the same list, also after the first item is written.
-fn put_copies(
+/// Whether a copy is the same list, also after the first item is written, and the sums of both then.
+fn put_copy(
     alloc: Global,
     text: &mut Vec<u8>,
     numbers: &mut Items<DocNum>,
@@ -46,13 +66,24 @@ fn put_copies(
         *numbers.at_mut(0) = DocNum(4);
     }
     let after = yes_or_no(copy == *numbers);
+    put_told(alloc, text, before, after)?;
+    put_sums(alloc, text, sum_of(numbers), sum_of(&copy))
+}
+
+fn put_told(
+    alloc: Global,
+    text: &mut Vec<u8>,
+    before: &str,
+    after: &str,
+) -> Result<(), AllocError> {
     let told = format!(in alloc;
         "a copy is the same: {before}, with 4 as the first item: {after}"
     )?;
-    put_line(text, told.as_bytes())?;
-    let sum = sum_of(numbers);
-    let sum_of_copy = sum_of(&copy);
-    let told = format!(in alloc; "sum {sum}, of the copy {sum_of_copy}")?;
+    put_line(text, told.as_bytes())
+}
+
+fn put_sums(alloc: Global, text: &mut Vec<u8>, sum: u64, of_copy: u64) -> Result<(), AllocError> {
+    let told = format!(in alloc; "sum {sum}, of the copy {of_copy}")?;
     put_line(text, told.as_bytes())
 }
 
@@ -63,17 +94,30 @@ fn put_vectors(
     numbers: Items<DocNum>,
 ) -> Result<(), OutOfMemory> {
     let mut again = Items::from_vec(numbers.into_vec());
-    let from_slice = Items::from_slice(alloc, again.as_slice())?;
-    let is_same = yes_or_no(from_slice == again);
-    let told = format!(in alloc; "a list of its slice is the same: {is_same}")?;
-    put_line(text, told.as_bytes())?;
+    put_slice(alloc, text, &again)?;
     put_numbers(alloc, text, &again)?;
     again.retain(|number| number.0 != 4);
     put_numbers(alloc, text, &again)?;
+    Ok(put_want(alloc, text)?)
+}
+
+/// Whether the list of a list's slice is the same.
+fn put_slice(
+    alloc: Global,
+    text: &mut Vec<u8>,
+    numbers: &Items<DocNum>,
+) -> Result<(), OutOfMemory> {
+    let from_slice = Items::from_slice(alloc, numbers.as_slice())?;
+    let is_same = yes_or_no(from_slice == *numbers);
+    let told = format!(in alloc; "a list of its slice is the same: {is_same}")?;
+    Ok(put_line(text, told.as_bytes())?)
+}
+
+/// Whether want of memory is one answer.
+fn put_want(alloc: Global, text: &mut Vec<u8>) -> Result<(), AllocError> {
     let is_one = yes_or_no(OutOfMemory.clone()? == OutOfMemory);
     let told = format!(in alloc; "out of memory is one answer: {is_one}")?;
-    put_line(text, told.as_bytes())?;
-    Ok(())
+    put_line(text, told.as_bytes())
 }
 
 /// The numbers of a list, in order.

@@ -123,17 +123,23 @@ fn piece(alloc: Global, files: &mut MapFiles, rest: &[u8]) -> Result<Vec<u8>, Li
         return Err(NO_SUCH_ITEM.into());
     }
     let mut into = Vec::from_slice(alloc, b"so far ")?;
-    let mut text = match files.read_piece(name, at, most, &mut into) {
-        Ok(count) => {
-            let told = format!(in alloc; "read {count}")?;
-            line_of(alloc, told.as_bytes())?
-        }
-        Err(FileEnd::OutOfMemory) => return Err(LineEnd::OutOfMemory),
-        Err(end) => end_line(alloc, &end)?,
-    };
+    let answer = files.read_piece(name, at, most, &mut into);
+    let mut text = piece_line(alloc, answer)?;
     put_line(&mut text, into.as_slice())?;
     put_counts(alloc, &mut text, &files.calls)?;
     Ok(text)
+}
+
+/// The answer to a request for a piece.
+fn piece_line(alloc: Global, answer: Result<usize, FileEnd>) -> Result<Vec<u8>, LineEnd> {
+    match answer {
+        Ok(count) => {
+            let told = format!(in alloc; "read {count}")?;
+            Ok(line_of(alloc, told.as_bytes())?)
+        }
+        Err(FileEnd::OutOfMemory) => Err(LineEnd::OutOfMemory),
+        Err(end) => end_line(alloc, &end),
+    }
 }
 
 /// The name of a file: a word, or `""` for no name.

@@ -11,7 +11,8 @@ use crate::text::{line_of, plain, put_line, put_pair, size_of};
 use ale_base::trimmed;
 use case_form::{Item, LineEnd, first_word, meaning_of, number_of, put_text};
 use idoc_record::{
-    Control, ControlField, Place, RecordFault, read_control, read_data, write_control, write_data,
+    Control, ControlField, Data, Place, RecordFault, read_control, read_data, write_control,
+    write_data,
 };
 use std::alloc::{AllocError, Global};
 
@@ -211,11 +212,17 @@ fn write_line(
     bytes: &mut Vec<u8>,
 ) -> Result<(), LineEnd> {
     let place = place_of(place)?;
+    let data = data_record(alloc, line)?;
     if place.segnum >= 1_000_000 || place.parent >= 1_000_000 || place.level >= 100 {
         return Err(NO_SUCH_NUMBER.into());
     }
+    Ok(write_data(control, place, &data, bytes)?)
+}
+
+/// The line's data record.
+fn data_record(alloc: Global, line: &[u8]) -> Result<Data, LineEnd> {
     match read_data(alloc, line) {
-        Ok(data) => Ok(write_data(control, place, &data, bytes)?),
+        Ok(data) => Ok(data),
         Err(RecordFault::OutOfMemory) => Err(LineEnd::OutOfMemory),
         Err(_) => Err(NO_RECORD.into()),
     }
@@ -271,15 +278,20 @@ fn field_of(name: &[u8]) -> Option<ControlField> {
 fn layout(alloc: Global) -> Result<Vec<u8>, LineEnd> {
     let mut text = Vec::new(alloc);
     for field in ControlField::ALL {
-        let field = field.clone()?;
-        let span = field.span().clone()?;
-        let offset = span.offset;
-        let length = span.length;
-        let told = format!(in alloc; "{offset} {length}")?;
-        put_pair(&mut text, field.name().as_bytes(), told.as_bytes())?;
+        put_field(alloc, &mut text, field)?;
     }
     let length = Control::LEN;
     let told = format!(in alloc; "in all {length}")?;
     put_line(&mut text, told.as_bytes())?;
     Ok(text)
+}
+
+/// Appends the name, the offset and the length of a field.
+fn put_field(alloc: Global, text: &mut Vec<u8>, field: ControlField) -> Result<(), AllocError> {
+    let field = field.clone()?;
+    let span = field.span().clone()?;
+    let offset = span.offset;
+    let length = span.length;
+    let told = format!(in alloc; "{offset} {length}")?;
+    put_pair(text, field.name().as_bytes(), told.as_bytes())
 }

@@ -4,7 +4,7 @@ use crate::answer::Answer;
 use crate::bench::Bench;
 use crate::rules::NO_SUCH_ITEM;
 use ale_base::{Items, OutOfMemory};
-use case_form::{CaseFault, LineEnd, Outcome, Step, Suite, read_items};
+use case_form::{CaseFault, Item, LineEnd, Outcome, Step, Suite, read_items};
 use std::alloc::Global;
 
 /// The cases of records and trees.
@@ -22,11 +22,22 @@ fn steps_of(alloc: Global, file: &str, bytes: &[u8]) -> Result<Items<Step>, Case
     let mut bench = Bench::new(alloc)?;
     let mut steps = Items::new(alloc);
     for item in &items {
-        match bench.answer(alloc, item).map_err(|end| end.at(item.line))? {
-            Answer::Text(found) => steps.push(Step::of(alloc, item, found)?)?,
-            Answer::Taken => {}
-            Answer::Foreign => return Err(LineEnd::from(NO_SUCH_ITEM).at(item.line)),
-        }
+        put_step(alloc, &mut bench, item, &mut steps)?;
     }
     Ok(steps)
+}
+
+/// Adds the step of an item, where it finds a text.
+fn put_step(
+    alloc: Global,
+    bench: &mut Bench,
+    item: &Item,
+    steps: &mut Items<Step>,
+) -> Result<(), CaseFault> {
+    match bench.answer(alloc, item) {
+        Ok(Answer::Text(found)) => Ok(steps.push(Step::of(alloc, item, found)?)?),
+        Ok(Answer::Taken) => Ok(()),
+        Ok(Answer::Foreign) => Err(LineEnd::from(NO_SUCH_ITEM).at(item.line)),
+        Err(end) => Err(end.at(item.line)),
+    }
 }

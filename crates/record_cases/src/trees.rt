@@ -92,14 +92,25 @@ fn records_of(alloc: Global, item: &Item) -> Result<Vec<Data>, LineEnd> {
     let mut records = Vec::new(alloc);
     for name in item.rest.as_slice().split(|byte| *byte == b' ') {
         if !name.is_empty() {
-            records.push(record_of(alloc, name, b"")?)?;
+            put_record(alloc, &mut records, name, b"")?;
         }
     }
     for line in &item.block {
         let (name, sdata) = first_word(line.text.as_slice());
-        records.push(record_of(alloc, name, sdata)?)?;
+        put_record(alloc, &mut records, name, sdata)?;
     }
     Ok(records)
+}
+
+/// Adds a data record.
+fn put_record(
+    alloc: Global,
+    records: &mut Vec<Data>,
+    name: &[u8],
+    sdata: &[u8],
+) -> Result<(), LineEnd> {
+    let new = record_of(alloc, name, sdata)?;
+    Ok(records.push(new)?)
 }
 
 /// A data record.
@@ -134,13 +145,20 @@ fn built(
     requires kept { IsIdocType definitions.now ty.now }
 {
     match build(alloc, definitions, ty, control()?, records) {
-        Ok(doc) => {
-            let mut text = Vec::new(alloc);
-            put_nodes(&mut text, definitions, doc.forest.as_slice(), 0)?;
-            Ok(text)
-        }
+        Ok(doc) => Ok(nodes_text(alloc, definitions, doc.forest.as_slice())?),
         Err(fault) => fault_text(alloc, &fault),
     }
+}
+
+/// Nodes as a text.
+fn nodes_text(
+    alloc: Global,
+    definitions: &Definitions,
+    nodes: &[Node],
+) -> Result<Vec<u8>, AllocError> {
+    let mut text = Vec::new(alloc);
+    put_nodes(&mut text, definitions, nodes, 0)?;
+    Ok(text)
 }
 
 /// The fault of a document.
@@ -265,15 +283,19 @@ fn set_chain(alloc: Global, bench: &mut Bench, rest: &[u8]) -> Result<(), LineEn
     bench.ty.segments = Items::new(alloc);
     bench.records = Vec::new(alloc);
     for level in 0..levels {
-        let name = format!(in alloc; "L{level}")?;
-        bench
-            .definitions
-            .types
-            .push(chained(alloc, name.as_bytes())?)?;
-        bench.ty.segments.push(link(level))?;
-        bench.records.push(record_of(alloc, name.as_bytes(), b"")?)?;
+        add_link(alloc, bench, level)?;
     }
     Ok(())
+}
+
+/// Adds a level to a chain.
+fn add_link(alloc: Global, bench: &mut Bench, level: u16) -> Result<(), LineEnd> {
+    let name = format!(in alloc; "L{level}")?;
+    let segment = chained(alloc, name.as_bytes())?;
+    bench.definitions.types.push(segment)?;
+    bench.ty.segments.push(link(level))?;
+    let new = record_of(alloc, name.as_bytes(), b"")?;
+    Ok(bench.records.push(new)?)
 }
 
 /// An entry below the one before it.
@@ -289,22 +311,34 @@ fn link(level: u16) -> TypePlace {
 
 /// A segment type with one definition, which has one field of ten bytes.
 fn chained(alloc: Global, name: &[u8]) -> Result<SegmentType, LineEnd> {
-    let mut fields = Items::new(alloc);
-    fields.push(Field {
-        name: Items::from_slice(alloc, b"KEY")?,
-        offset: 0,
-        length: 10,
-    })?;
-    let mut definition = Vec::from_slice(alloc, name)?;
-    definition.extend_from_slice(b"_1")?;
+    let definition = definition_of(alloc, name)?;
     let mut versions = Items::new(alloc);
-    versions.push(Version {
-        name: Items::from_vec(definition),
-        release: 0,
-        fields,
-    })?;
+    versions.push(definition)?;
     Ok(SegmentType {
         name: Items::from_slice(alloc, name)?,
         versions,
     })
+}
+
+/// The one definition of a segment type.
+fn definition_of(alloc: Global, name: &[u8]) -> Result<Version, LineEnd> {
+    let mut definition = Vec::from_slice(alloc, name)?;
+    definition.extend_from_slice(b"_1")?;
+    Ok(Version {
+        name: Items::from_vec(definition),
+        release: 0,
+        fields: key_field(alloc)?,
+    })
+}
+
+/// The one field of a definition.
+fn key_field(alloc: Global) -> Result<Items<Field>, LineEnd> {
+    let name = Items::from_slice(alloc, b"KEY")?;
+    let mut fields = Items::new(alloc);
+    fields.push(Field {
+        name,
+        offset: 0,
+        length: 10,
+    })?;
+    Ok(fields)
 }
