@@ -83,6 +83,10 @@ pub enum Record {
     Repost {
         doc: DocNum,
     },
+    /// The model was replaced: the text of the new one.
+    Model {
+        text: Items<u8>,
+    },
 }
 
 impl Record {
