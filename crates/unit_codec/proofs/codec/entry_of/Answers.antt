@@ -1,0 +1,14 @@
+use Rattle.std.proofs.Common.{arith, length, subst, ℕ, ◌≤◌}
+use Rattle.unit_codec.specs.Entries.{an_entry}
+use Rattle.unit_codec.proofs.EntryLemmas.{an_entry-exact}
+use Rattle.unit_codec.proofs.EntryLemmas.{fault-within, rest-within}
+use Rattle.unit_codec.proofs.codec.entry_of.Goals as goal
+
+pub fault_in-requires : goal.fault_in-requires
+fault_in-requires c =
+    fault-within an_entry an_entry-exact c.args.bytes.now c.new-from.result c.take_entry.new.from (λ i. omega (arith, c.type_inv.bytes i)) c.new-from.ensures c.in-Err.fault c.in-Err.ensures
+
+pub bad-requires : goal.bad-requires
+bad-requires c =
+    let within = rest-within an_entry an_entry-exact c.args.bytes.now c.new-from.result c.take_entry.new.from (λ i. omega (arith, c.type_inv.bytes i)) c.new-from.ensures c.in-Ok.entry c.in-Ok.ensures in
+    omega (arith, within)

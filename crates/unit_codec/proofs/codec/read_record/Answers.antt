@@ -1,0 +1,11 @@
+use Rattle.std.proofs.Common.{arith}
+use Rattle.unit_codec.specs.Records.{a_record}
+use Rattle.unit_codec.proofs.RecordLemmas.{a_record-exact}
+use Rattle.unit_codec.proofs.EntryLemmas.{whole-found, whole-only}
+use Rattle.unit_codec.proofs.codec.read_record.Goals as goal
+
+pub returns-clause-found : goal.returns-clause-found
+returns-clause-found c = whole-found a_record c.args.bytes.now c.record_of.result a_record-exact (λ i. omega (arith, c.type_inv.bytes i)) c.record_of.ensures
+
+pub returns-clause-only : goal.returns-clause-only
+returns-clause-only c = whole-only a_record c.args.bytes.now c.record_of.result a_record-exact c.record_of.ensures
