@@ -1,7 +1,7 @@
 -- The spelling of entries is exact, and so is reading all of some bytes.
-use Rattle.std.specs.Prelude.{IfSome, IfOk, IsTrue}
-use Rattle.std.specs.Int.{w8, w64}
-use Rattle.std.proofs.Common.{◌≡◌, ◌≢◌, ℕ, ◌+◌, ◌-◌, ◌*◌, ◌%◌, ◌<◌, ◌≤◌, Bool, true, false, cond, eqb, Option, Some, None, List, [], ◌∷◌, ◌++◌, length, Result, Ok, Err, refl, sym, ap, subst, ◌∙◌, append_assoc, ⊎_elim, inl, inr, arith}
+use Rattle.std.specs.Prelude.{IfSome, IfOk}
+use Rattle.std.specs.Int.{w64}
+use Rattle.std.proofs.Common.{◌≡◌, ◌≢◌, ℕ, ◌-◌, ◌%◌, ◌≤◌, false, eqb, Option, Some, None, List, [], ◌∷◌, ◌++◌, length, Result, Ok, Err, refl, sym, ap, subst, ◌∙◌, append_assoc, ⊎_elim, inl, inr, arith}
 use Rattle.std.proofs.lemmas.Bool.Decides.{eqb_tells}
 use Rattle.std.proofs.lemmas.List.{append-nil, nil_from_length}
 use Rattle.unit_core.specs.declared.records.Record.{Record}
@@ -11,11 +11,11 @@ use Rattle.unit_codec.specs.declared.fault.CodecFault.{CodecFault}
 use Rattle.unit_codec.specs.declared.fault.CodecFault.TheVariants.{Bad, OutOfMemory}
 use Rattle.unit_codec.specs.declared.fault.FieldFault.{FieldFault}
 use Rattle.unit_codec.specs.declared.fault.FieldFault.TheVariants as field
-use Rattle.unit_codec.specs.Reading.{Reading, ◌>>=◌, Takes, IsWithin, fault_in}
-use Rattle.unit_codec.specs.Kind.{Kind, number, byte}
+use Rattle.unit_codec.specs.Reading.{Reading, ◌>>=◌, Takes, IsWithin}
+use Rattle.unit_codec.specs.Kind.{Kind, number}
 use Rattle.unit_codec.specs.Records.{spelled_as, a_record}
 use Rattle.unit_codec.specs.Entries.{moment_byte, moment_spelling, entry_at, entry_read, an_entry, whole}
-use Rattle.unit_codec.proofs.KindLemmas.{IsExact, AreBytes, AreBytes-behind, bind_ok, bind_err, ok_is, err_is, not_err, rest_bytes, rest_within, wide64, number-exact}
+use Rattle.unit_codec.proofs.KindLemmas.{IsExact, AreBytes, AreBytes-behind, bind_ok, bind_err, ok_is, not_err, rest_bytes, rest_within, wide64, number-exact}
 use Rattle.unit_codec.proofs.RecordLemmas.{a_record-exact}
 
 -- no record begins with the byte of a moment
@@ -75,18 +75,18 @@ an_entry-takes [] x are is = plain_takes [] x are is
 an_entry-takes (first ∷ bytes) x are is =
     elim (eqb_tells first moment_byte) [
       | inl here ↦
-      (let behind : AreBytes bytes = AreBytes-behind (first ∷ []) bytes are in
-      let rest : ((number w64).read bytes >>= λ moment. entry_at (Some moment.0) moment.1) ≡ Ok x =
-      sym (let e : entry_read (first ∷ bytes) ≡ ((number w64).read bytes >>= λ moment. entry_at (Some moment.0) moment.1) = rw here.0 refl in e) ∙ is in
-      let a = bind_ok ((number w64).read bytes) (λ moment. entry_at (Some moment.0) moment.1) x rest in
-      let n = moment-exact.takes bytes a.0 behind a.1 in
-      let t = entry_at-takes (Some a.0.0) a.0.1 x (rest_bytes (number w64) moment-exact bytes a.0 behind a.1) a.2 in
-      let whole : first ∷ bytes ≡ (moment_spelling (Some a.0.0) ++ a_record.spell x.0.what) ++ x.1 =
-      ap (λ (k : ℕ). k ∷ bytes) here.1 ∙ ap (λ (l : List ℕ). moment_byte ∷ l) (n.1 ∙ ap (λ (l : List ℕ). (number w64).spell a.0.0 ++ l) t.2)
-      ∙ sym (append_assoc (moment_spelling (Some a.0.0)) (a_record.spell x.0.what) x.1) in
-      ((subst (λ (m : Option ℕ). IfSome m (number w64).Fits) (sym t.0) n.0, t.1), whole ∙ ap (λ (m : Option ℕ). (moment_spelling m ++ a_record.spell x.0.what) ++ x.1) (sym t.0)))
+          (let behind : AreBytes bytes = AreBytes-behind (first ∷ []) bytes are in
+          let rest : ((number w64).read bytes >>= λ moment. entry_at (Some moment.0) moment.1) ≡ Ok x =
+          sym (let e : entry_read (first ∷ bytes) ≡ ((number w64).read bytes >>= λ moment. entry_at (Some moment.0) moment.1) = rw here.0 refl in e) ∙ is in
+          let a = bind_ok ((number w64).read bytes) (λ moment. entry_at (Some moment.0) moment.1) x rest in
+          let n = moment-exact.takes bytes a.0 behind a.1 in
+          let t = entry_at-takes (Some a.0.0) a.0.1 x (rest_bytes (number w64) moment-exact bytes a.0 behind a.1) a.2 in
+          let whole : first ∷ bytes ≡ (moment_spelling (Some a.0.0) ++ a_record.spell x.0.what) ++ x.1 =
+          ap (λ (k : ℕ). k ∷ bytes) here.1 ∙ ap (λ (l : List ℕ). moment_byte ∷ l) (n.1 ∙ ap (λ (l : List ℕ). (number w64).spell a.0.0 ++ l) t.2)
+          ∙ sym (append_assoc (moment_spelling (Some a.0.0)) (a_record.spell x.0.what) x.1) in
+          ((subst (λ (m : Option ℕ). IfSome m (number w64).Fits) (sym t.0) n.0, t.1), whole ∙ ap (λ (m : Option ℕ). (moment_spelling m ++ a_record.spell x.0.what) ++ x.1) (sym t.0)))
       | inr other ↦
-      plain_takes (first ∷ bytes) x are (sym (let e : entry_read (first ∷ bytes) ≡ entry_at None (first ∷ bytes) = rw other.0 refl in e) ∙ is)
+          plain_takes (first ∷ bytes) x are (sym (let e : entry_read (first ∷ bytes) ≡ entry_at None (first ∷ bytes) = rw other.0 refl in e) ∙ is)
     ]
 
 an_entry-within : (bytes : List ℕ) (left : ℕ) → AreBytes bytes → entry_read bytes ≡ Err left → left ≤ length bytes
@@ -94,14 +94,14 @@ an_entry-within [] left are is = entry_at-within None [] left are is
 an_entry-within (first ∷ bytes) left are is =
     elim (eqb_tells first moment_byte) [
       | inl here ↦
-      (let behind : AreBytes bytes = AreBytes-behind (first ∷ []) bytes are in
-      let rest : ((number w64).read bytes >>= λ moment. entry_at (Some moment.0) moment.1) ≡ Err left =
-      sym (let e : entry_read (first ∷ bytes) ≡ ((number w64).read bytes >>= λ moment. entry_at (Some moment.0) moment.1) = rw here.0 refl in e) ∙ is in
-      ⊎_elim (λ (e : (number w64).read bytes ≡ Err left). omega (arith, moment-exact.within bytes left behind e))
-      (λ e. omega (arith, entry_at-within (Some e.0.0) e.0.1 left (rest_bytes (number w64) moment-exact bytes e.0 behind e.1) e.2, rest_within (number w64) moment-exact bytes e.0 behind e.1))
-      (bind_err ((number w64).read bytes) (λ moment. entry_at (Some moment.0) moment.1) left rest))
+          (let behind : AreBytes bytes = AreBytes-behind (first ∷ []) bytes are in
+          let rest : ((number w64).read bytes >>= λ moment. entry_at (Some moment.0) moment.1) ≡ Err left =
+          sym (let e : entry_read (first ∷ bytes) ≡ ((number w64).read bytes >>= λ moment. entry_at (Some moment.0) moment.1) = rw here.0 refl in e) ∙ is in
+          ⊎_elim (λ (e : (number w64).read bytes ≡ Err left). omega (arith, moment-exact.within bytes left behind e))
+          (λ e. omega (arith, entry_at-within (Some e.0.0) e.0.1 left (rest_bytes (number w64) moment-exact bytes e.0 behind e.1) e.2, rest_within (number w64) moment-exact bytes e.0 behind e.1))
+          (bind_err ((number w64).read bytes) (λ moment. entry_at (Some moment.0) moment.1) left rest))
       | inr other ↦
-      entry_at-within None (first ∷ bytes) left are (sym (let e : entry_read (first ∷ bytes) ≡ entry_at None (first ∷ bytes) = rw other.0 refl in e) ∙ is)
+          entry_at-within None (first ∷ bytes) left are (sym (let e : entry_read (first ∷ bytes) ≡ entry_at None (first ∷ bytes) = rw other.0 refl in e) ∙ is)
     ]
 
 entry_at-again : (moment : Option ℕ) (what : Record) (rest : List ℕ) → a_record.Fits what → entry_at moment (a_record.spell what ++ rest) ≡ Ok (record { moment = moment; what = what }, rest)
@@ -136,7 +136,7 @@ whole_ok : {A : Type 0} (size : ℕ) (r : Reading A) (x : A) → whole size r �
 whole_ok size (Ok y) x is =
     elim (eqb_tells (length y.1) 0) [
       | inl none ↦ (let e : whole size (Ok y) ≡ Ok y.0 = rw none.0 refl in let same : y.0 ≡ x = (let f = sym e ∙ is in cc) in
-      let nothing : y.1 ≡ [] = nil_from_length y.1 none.1 in ap (λ p. Ok p) (let pair : (y.0, y.1) ≡ (x, []) = cc in pair))
+          let nothing : y.1 ≡ [] = nil_from_length y.1 none.1 in ap (λ p. Ok p) (let pair : (y.0, y.1) ≡ (x, []) = cc in pair))
       | inr some ↦ (let e : whole size (Ok y) ≡ Err (Bad (size - length y.1)) = rw some.0 refl in absurd (let f = sym e ∙ is in cc))
     ]
 whole_ok size (Err left) x is = absurd cc

@@ -1,15 +1,14 @@
 -- Kinds of fields whose spelling is exact: what is read is spelled so, and what is spelled so is read.
 use Rattle.std.specs.Prelude.{IfSome}
-use Rattle.std.specs.List.{flat_map}
+use Rattle.std.specs.List.{flat_map, AllByRecursion}
 use Rattle.std.specs.Int.{Width, w8, w16, w32, w64, byte_len, from_be_bytes, to_be_bytes}
-use Rattle.std.proofs.Common.{◌≡◌, ℕ, zero, suc, ◌+◌, ◌*◌, ◌-◌, ◌^◌, ◌<◌, ◌≤◌, ◌⊎◌, inl, inr, ⊎_elim, ◌%◌, Bool, true, false, cond, ltb, eqb, IsTrue, Option, Some, None, List, [], ◌∷◌, ◌++◌, length, take, drop, get_or, Result, Ok, Err, refl, sym, ap, subst, ◌∙◌, append_assoc, arith, if◌then◌else◌}
-use Rattle.std.proofs.lemmas.Bool.{cases_lt, ltb-false, ltb-true, le-ltb, eqb-true}
+use Rattle.std.proofs.Common.{◌≡◌, ℕ, zero, suc, ◌+◌, ◌^◌, ◌<◌, ◌≤◌, ◌⊎◌, inl, inr, ⊎_elim, ◌%◌, Bool, true, false, cond, ltb, IsTrue, Option, Some, None, List, [], ◌∷◌, ◌++◌, length, take, drop, get_or, Ok, Err, refl, sym, ap, subst, ◌∙◌, append_assoc, arith, if◌then◌else◌}
+use Rattle.std.proofs.lemmas.Bool.{cases_lt, ltb-false, le-ltb}
 use Rattle.std.proofs.lemmas.Bool.Decides.{eqb_tells}
-use Rattle.std.proofs.lemmas.List.{take_at, drop_at, take-append-drop, length-append, length-take, length-drop, get_or-append-add, get_or-take, get_or_past, append-nil}
-use Rattle.std.proofs.lemmas.List.Concat.{flat_map-cons}
+use Rattle.std.proofs.lemmas.List.{take_at, drop_at, take-append-drop, length-append, length-take, get_or-append-add, get_or-take, get_or_past, append-nil}
 use Rattle.std.proofs.lemmas.Nat.{be_bytes_2, be_bytes_4, be_bytes_8, from_be_bytes-to_be_bytes_2, from_be_bytes-to_be_bytes_4, from_be_bytes-to_be_bytes_8}
 use Rattle.unit_codec.specs.Reading.{Reading, ◌>>=◌, ruled, found}
-use Rattle.unit_codec.specs.Kind.{Kind, part, plain, number, byte, sized, such_that, decoded, shaped, ◌then◌, optional, optional_spelling, optional_at, listed_at, AllFit, listed}
+use Rattle.unit_codec.specs.Kind.{Kind, part, plain, number, byte, sized, such_that, decoded, shaped, ◌then◌, optional, optional_spelling, optional_at, listed_at, AllFollow, listed}
 
 -- each is a byte
 abbrev pub AreBytes : List ℕ → Type 0
@@ -173,9 +172,10 @@ sized-exact w wide = record {
   takes = λ bytes x are is.
       let a = bind_ok ((number w).read bytes) (λ n. part (length bytes) n.0 n.1) x is in
       let n = (number-exact w wide).takes bytes a.0 are a.1 in
-      let t = part_ok (length bytes) a.0.0 a.0.1 x a.2 in
-      (subst (λ (k : ℕ). k < 256 ^ byte_len w) (sym t.0) n.0,
-      n.1 ∙ ap (λ (l : List ℕ). to_be_bytes w a.0.0 ++ l) t.1 ∙ sym (append_assoc (to_be_bytes w a.0.0) x.0 x.1) ∙ ap (λ (k : ℕ). (to_be_bytes w k ++ x.0) ++ x.1) (sym t.0));
+      let t = part_ok (length bytes) a.0.0 a.0.1 x a.2 in (
+        subst (λ (k : ℕ). k < 256 ^ byte_len w) (sym t.0) n.0,
+        n.1 ∙ ap (λ (l : List ℕ). to_be_bytes w a.0.0 ++ l) t.1 ∙ sym (append_assoc (to_be_bytes w a.0.0) x.0 x.1) ∙ ap (λ (k : ℕ). (to_be_bytes w k ++ x.0) ++ x.1) (sym t.0),
+      );
   again = λ text rest fits.
       ap (λ (l : List ℕ). (number w).read l >>= λ n. part (length l) n.0 n.1) (append_assoc (to_be_bytes w (length text)) text rest)
       ∙ rw ((number-exact w wide).again (length text) (text ++ rest) fits) (part_again _ text rest (length text) refl);
@@ -274,43 +274,43 @@ optional_ok : {A : Type 0} (kind : Kind A) (exact : IsExact kind) (left : ℕ) (
 optional_ok {A} kind exact left flag x are is =
     elim (eqb_tells flag.0 0) [
       | inl none ↦
-      (let test = none.0 in
-      let same : (None, flag.1) ≡ x = ok_is (None, flag.1) x (sym (let e : optional_at kind left flag ≡ Ok (None, flag.1) = rw test refl in e) ∙ is) in
-      subst (λ (y : Option A × List ℕ). IfSome y.0 kind.Fits × (byte.spell flag.0 ++ flag.1 ≡ optional_spelling kind y.0 ++ y.1)) same (tt, ap (λ (k : ℕ). byte.spell k ++ flag.1) none.1))
+          (let test = none.0 in
+          let same : (None, flag.1) ≡ x = ok_is (None, flag.1) x (sym (let e : optional_at kind left flag ≡ Ok (None, flag.1) = rw test refl in e) ∙ is) in
+          subst (λ (y : Option A × List ℕ). IfSome y.0 kind.Fits × (byte.spell flag.0 ++ flag.1 ≡ optional_spelling kind y.0 ++ y.1)) same (tt, ap (λ (k : ℕ). byte.spell k ++ flag.1) none.1))
       | inr some ↦
-      (let test = some.0 in
-      elim (eqb_tells flag.0 1) [
-        | inl one ↦
-        (let second = one.0 in
-        let rest : (kind.read flag.1 >>= λ y. Ok (Some y.0, y.1)) ≡ Ok x = sym (let e : optional_at kind left flag ≡ (kind.read flag.1 >>= λ y. Ok (Some y.0, y.1)) = rw (test, second) refl in e) ∙ is in
-        let a = bind_ok (kind.read flag.1) (λ y. Ok (Some y.0, y.1)) x rest in
-        let t = exact.takes flag.1 a.0 are a.1 in
-        subst (λ (y : Option A × List ℕ). IfSome y.0 kind.Fits × (byte.spell flag.0 ++ flag.1 ≡ optional_spelling kind y.0 ++ y.1)) (ok_is (Some a.0.0, a.0.1) x a.2)
-        (t.0, ap (λ (k : ℕ). byte.spell k ++ flag.1) one.1 ∙ ap (λ (l : List ℕ). byte.spell 1 ++ l) t.1 ∙ sym (append_assoc (byte.spell 1) (kind.spell a.0.0) a.0.1)))
-        | inr other ↦
-        (let second = other.0 in
-        let e : optional_at kind left flag ≡ Err left = rw (test, second) refl in
-        absurd (let f = sym e ∙ is in cc))
-      ])
+          (let test = some.0 in
+          elim (eqb_tells flag.0 1) [
+            | inl one ↦
+                (let second = one.0 in
+                let rest : (kind.read flag.1 >>= λ y. Ok (Some y.0, y.1)) ≡ Ok x = sym (let e : optional_at kind left flag ≡ (kind.read flag.1 >>= λ y. Ok (Some y.0, y.1)) = rw (test, second) refl in e) ∙ is in
+                let a = bind_ok (kind.read flag.1) (λ y. Ok (Some y.0, y.1)) x rest in
+                let t = exact.takes flag.1 a.0 are a.1 in
+                subst (λ (y : Option A × List ℕ). IfSome y.0 kind.Fits × (byte.spell flag.0 ++ flag.1 ≡ optional_spelling kind y.0 ++ y.1)) (ok_is (Some a.0.0, a.0.1) x a.2)
+                (t.0, ap (λ (k : ℕ). byte.spell k ++ flag.1) one.1 ∙ ap (λ (l : List ℕ). byte.spell 1 ++ l) t.1 ∙ sym (append_assoc (byte.spell 1) (kind.spell a.0.0) a.0.1)))
+            | inr other ↦
+                (let second = other.0 in
+                let e : optional_at kind left flag ≡ Err left = rw (test, second) refl in
+                absurd (let f = sym e ∙ is in cc))
+          ])
     ]
 
 optional_err : {A : Type 0} (kind : Kind A) (exact : IsExact kind) (left : ℕ) (flag : ℕ × List ℕ) (k : ℕ) → AreBytes flag.1 → optional_at kind left flag ≡ Err k → (k ≡ left) ⊎ (k ≤ length flag.1)
 optional_err {A} kind exact left flag k are is =
     elim (eqb_tells flag.0 0) [
       | inl none ↦
-      (let test = none.0 in
-      absurd (let f = sym is ∙ (let e : optional_at kind left flag ≡ Ok (None, flag.1) = rw test refl in e) in cc))
+          (let test = none.0 in
+          absurd (let f = sym is ∙ (let e : optional_at kind left flag ≡ Ok (None, flag.1) = rw test refl in e) in cc))
       | inr some ↦
-      (let test = some.0 in
-      elim (eqb_tells flag.0 1) [
-        | inl one ↦
-        (let second = one.0 in
-        let rest : (kind.read flag.1 >>= λ y. Ok (Some y.0, y.1)) ≡ Err k = sym (let e : optional_at kind left flag ≡ (kind.read flag.1 >>= λ y. Ok (Some y.0, y.1)) = rw (test, second) refl in e) ∙ is in
-        ⊎_elim (λ (e : kind.read flag.1 ≡ Err k). inr (exact.within flag.1 k are e)) (λ e. absurd (not_err (Some e.0.0, e.0.1) k e.2)) (bind_err (kind.read flag.1) (λ y. Ok (Some y.0, y.1)) k rest))
-        | inr other ↦
-        (let second = other.0 in
-        inl (let e : optional_at kind left flag ≡ Err left = rw (test, second) refl in err_is k left (sym is ∙ e)))
-      ])
+          (let test = some.0 in
+          elim (eqb_tells flag.0 1) [
+            | inl one ↦
+                (let second = one.0 in
+                let rest : (kind.read flag.1 >>= λ y. Ok (Some y.0, y.1)) ≡ Err k = sym (let e : optional_at kind left flag ≡ (kind.read flag.1 >>= λ y. Ok (Some y.0, y.1)) = rw (test, second) refl in e) ∙ is in
+                ⊎_elim (λ (e : kind.read flag.1 ≡ Err k). inr (exact.within flag.1 k are e)) (λ e. absurd (not_err (Some e.0.0, e.0.1) k e.2)) (bind_err (kind.read flag.1) (λ y. Ok (Some y.0, y.1)) k rest))
+            | inr other ↦
+                (let second = other.0 in
+                inl (let e : optional_at kind left flag ≡ Err left = rw (test, second) refl in err_is k left (sym is ∙ e)))
+          ])
     ]
 
 pub optional-exact : {A : Type 0} (kind : Kind A) → IsExact kind → IsExact (optional kind)
@@ -339,30 +339,31 @@ optional-exact kind exact = record {
 
 module _ {A : Type 0} (kind : Kind A) (rule : List A → A → Bool) (exact : IsExact kind) where
   listed_takes : (count : ℕ) (front : List A) (bytes : List ℕ) (x : List A × List ℕ) → AreBytes bytes → listed_at kind rule count front bytes ≡ Ok x
-      → (xs : List A) × (x.0 ≡ front ++ xs) × (length xs ≡ count) × AllFit kind rule front xs × (bytes ≡ flat_map kind.spell xs ++ x.1)
+      → (xs : List A) × (x.0 ≡ front ++ xs) × (length xs ≡ count) × (AllByRecursion kind.Fits xs × AllFollow rule front xs) × (bytes ≡ flat_map kind.spell xs ++ x.1)
   unfolding listed_at
   listed_takes zero front bytes x are is =
       let same : (front, bytes) ≡ x = ok_is (front, bytes) x is in
-      ([], sym (ap (λ (p : List A × List ℕ). p.0) same) ∙ sym (append-nil front), refl, tt, ap (λ (p : List A × List ℕ). p.1) same)
+      ([], sym (ap (λ (p : List A × List ℕ). p.0) same) ∙ sym (append-nil front), refl, (tt, tt), ap (λ (p : List A × List ℕ). p.1) same)
   listed_takes (suc count) front bytes x are is =
       let a = bind_ok (kind.read bytes) (λ y. ruled (length bytes) (rule front y.0) y >>= λ y. listed_at kind rule count (front ++ y.0 ∷ []) y.1) x is in
       let r = bind_ok (ruled (length bytes) (rule front a.0.0) a.0) (λ y. listed_at kind rule count (front ++ y.0 ∷ []) y.1) x a.2 in
       let g = ruled_ok (length bytes) (rule front a.0.0) a.0 r.0 r.1 in
       let rest : listed_at kind rule count (front ++ a.0.0 ∷ []) a.0.1 ≡ Ok x = subst (λ (y : A × List ℕ). listed_at kind rule count (front ++ y.0 ∷ []) y.1 ≡ Ok x) (sym g.1) r.2 in
       let t = exact.takes bytes a.0 are a.1 in
-      let more = listed_takes count (front ++ a.0.0 ∷ []) a.0.1 x (rest_bytes kind exact bytes a.0 are a.1) rest in
-      (a.0.0 ∷ more.0,
-      more.1 ∙ append_assoc front (a.0.0 ∷ []) more.0,
-      ap suc more.2,
-      (t.0, g.0, more.3),
-      t.1 ∙ ap (λ (l : List ℕ). kind.spell a.0.0 ++ l) more.4 ∙ sym (append_assoc (kind.spell a.0.0) (flat_map kind.spell more.0) x.1))
+      let more = listed_takes count (front ++ a.0.0 ∷ []) a.0.1 x (rest_bytes kind exact bytes a.0 are a.1) rest in (
+        a.0.0 ∷ more.0,
+        more.1 ∙ append_assoc front (a.0.0 ∷ []) more.0,
+        ap suc more.2,
+        ((t.0, more.3.0), (g.0, more.3.1)),
+        t.1 ∙ ap (λ (l : List ℕ). kind.spell a.0.0 ++ l) more.4 ∙ sym (append_assoc (kind.spell a.0.0) (flat_map kind.spell more.0) x.1),
+      )
 
-  listed_again : (xs front : List A) (rest : List ℕ) → AllFit kind rule front xs → listed_at kind rule (length xs) front (flat_map kind.spell xs ++ rest) ≡ Ok (front ++ xs, rest)
+  listed_again : (xs front : List A) (rest : List ℕ) → AllByRecursion kind.Fits xs → AllFollow rule front xs → listed_at kind rule (length xs) front (flat_map kind.spell xs ++ rest) ≡ Ok (front ++ xs, rest)
   unfolding listed_at
-  listed_again [] front rest fit = ap (λ (l : List A). Ok (l, rest)) (sym (append-nil front))
-  listed_again (x ∷ xs) front rest fit =
+  listed_again [] front rest fit follow = ap (λ (l : List A). Ok (l, rest)) (sym (append-nil front))
+  listed_again (x ∷ xs) front rest fit follow =
       ap (listed_at kind rule (suc (length xs)) front) (append_assoc (kind.spell x) (flat_map kind.spell xs) rest)
-      ∙ rw (exact.again x (flat_map kind.spell xs ++ rest) fit.0, fit.1) (listed_again xs (front ++ x ∷ []) rest fit.2)
+      ∙ rw (exact.again x (flat_map kind.spell xs ++ rest) fit.0, follow.0) (listed_again xs (front ++ x ∷ []) rest fit.1 follow.1)
       ∙ ap (λ (l : List A). Ok (l, rest)) (append_assoc front (x ∷ []) xs)
 
   listed_within : (count : ℕ) (front : List A) (bytes : List ℕ) (left : ℕ) → AreBytes bytes → listed_at kind rule count front bytes ≡ Err left → left ≤ length bytes
@@ -386,13 +387,14 @@ module _ {A : Type 0} (kind : Kind A) (rule : List A → A → Bool) (exact : Is
         let a = bind_ok (count.read bytes) (λ n. listed_at kind rule n.0 [] n.1) x is in
         let n = exact_count.takes bytes a.0 are a.1 in
         let t = listed_takes a.0.0 [] a.0.1 x (rest_bytes count exact_count bytes a.0 are a.1) a.2 in
-        let many : length x.0 ≡ a.0.0 = ap length t.1 ∙ t.2 in
-        ((subst count.Fits (sym many) n.0, subst (AllFit kind rule []) (sym t.1) t.3),
-        n.1 ∙ ap (λ (l : List ℕ). count.spell a.0.0 ++ l) t.4 ∙ sym (append_assoc (count.spell a.0.0) (flat_map kind.spell t.0) x.1)
-        ∙ ap (λ (k : ℕ). (count.spell k ++ flat_map kind.spell t.0) ++ x.1) (sym many) ∙ ap (λ (l : List A). (count.spell (length x.0) ++ flat_map kind.spell l) ++ x.1) (sym t.1));
+        let many : length x.0 ≡ a.0.0 = ap length t.1 ∙ t.2 in (
+          (subst count.Fits (sym many) n.0, subst (AllByRecursion kind.Fits) (sym t.1) t.3.0, subst (AllFollow rule []) (sym t.1) t.3.1),
+          n.1 ∙ ap (λ (l : List ℕ). count.spell a.0.0 ++ l) t.4 ∙ sym (append_assoc (count.spell a.0.0) (flat_map kind.spell t.0) x.1)
+              ∙ ap (λ (k : ℕ). (count.spell k ++ flat_map kind.spell t.0) ++ x.1) (sym many) ∙ ap (λ (l : List A). (count.spell (length x.0) ++ flat_map kind.spell l) ++ x.1) (sym t.1),
+        );
     again = λ xs rest fits.
         ap (listed count kind rule).read (append_assoc (count.spell (length xs)) (flat_map kind.spell xs) rest)
-        ∙ rw (exact_count.again (length xs) (flat_map kind.spell xs ++ rest) fits.0) (listed_again xs [] rest fits.1);
+        ∙ rw (exact_count.again (length xs) (flat_map kind.spell xs ++ rest) fits.0) (listed_again xs [] rest fits.1 fits.2);
     within = λ bytes left are is.
         ⊎_elim (λ (e : count.read bytes ≡ Err left). exact_count.within bytes left are e)
         (λ e. omega (arith, listed_within e.0.0 [] e.0.1 left (rest_bytes count exact_count bytes e.0 are e.1) e.2, rest_within count exact_count bytes e.0 are e.1))

@@ -1,13 +1,13 @@
 -- The spelling of each record is exact.
 use Rattle.std.specs.Int.{w8}
-use Rattle.std.proofs.Common.{◌≡◌, ℕ, ◌<◌, ◌≤◌, Bool, true, false, cond, eqb, List, ◌++◌, length, Result, Ok, Err, refl, sym, ap, subst, ◌∙◌, append_assoc, ⊎_elim, ◌⊎◌, inl, inr, lit<, arith}
+use Rattle.std.proofs.Common.{◌≡◌, ℕ, ◌<◌, ◌≤◌, Bool, true, false, cond, eqb, List, ◌++◌, length, Ok, Err, refl, sym, ap, subst, ◌∙◌, append_assoc, ⊎_elim, ◌⊎◌, inl, inr, lit<, arith}
 use Rattle.std.proofs.lemmas.Bool.{eqb-true}
 use Rattle.unit_core.specs.declared.records.Record.{Record}
 use Rattle.unit_core.specs.declared.records.Record.TheVariants.{Genesis, Commit, Dispatch, Mark, Done, Ended, Accept, Execute, Direct, Fail, Forget, Stop, Start, Retry, Put, App, Repost, Model}
 use Rattle.unit_codec.specs.Reading.{Reading, ◌>>=◌}
 use Rattle.unit_codec.specs.Kind.{Kind, byte, ◌then◌, optional}
 use Rattle.unit_codec.specs.Fields.{name, text, way, cause, tid, queue, destination, doc_number, documents, a_unit, field_values}
-use Rattle.unit_codec.specs.Records.{genesis, commit, nothing, mark, stop, retry, put, spelled_as, fields_at, record_at, a_record}
+use Rattle.unit_codec.specs.Records.{genesis, commit, nothing, mark, stop, retry, put, fields_at, record_at, a_record}
 use Rattle.unit_codec.proofs.KindLemmas.{IsExact, AreBytes, bind_ok, bind_err, ok_is, err_is, not_err, rest_bytes, rest_within, number-fits, byte-exact, then-exact, optional-exact}
 use Rattle.unit_codec.proofs.FieldLemmas.{name-exact, text-exact, way-exact, cause-exact, tid-exact, queue-exact, destination-exact, doc_number-exact, documents-exact, a_unit-exact, field_values-exact}
 
@@ -62,12 +62,13 @@ module _ {A : Type 0} (tag : ℕ) (kind : Kind A) (make : A → Record) (exact :
   fields_take n bytes x are this is =
       let a = bind_ok (kind.read bytes) (λ y. Ok (make y.0, y.1)) x is in
       let t = exact.takes bytes a.0 are a.1 in
-      subst (λ (y : Record × List ℕ). Holds n bytes y) (ok_is (make a.0.0, a.0.1) x a.2)
-      (fits a.0.0 t.0,
-      ap (λ (k : ℕ). byte.spell k ++ bytes) (eqb-true n tag this)
-      ∙ ap (λ (l : List ℕ). byte.spell tag ++ l) t.1
-      ∙ sym (append_assoc (byte.spell tag) (kind.spell a.0.0) a.0.1)
-      ∙ ap (λ (l : List ℕ). l ++ a.0.1) (sym (spells a.0.0)))
+      subst (λ (y : Record × List ℕ). Holds n bytes y) (ok_is (make a.0.0, a.0.1) x a.2) (
+        fits a.0.0 t.0,
+        ap (λ (k : ℕ). byte.spell k ++ bytes) (eqb-true n tag this)
+            ∙ ap (λ (l : List ℕ). byte.spell tag ++ l) t.1
+            ∙ sym (append_assoc (byte.spell tag) (kind.spell a.0.0) a.0.1)
+            ∙ ap (λ (l : List ℕ). l ++ a.0.1) (sym (spells a.0.0)),
+      )
 
 fields_within : {A : Type 0} (kind : Kind A) (make : A → Record) (exact : IsExact kind) (bytes : List ℕ) (k : ℕ) → AreBytes bytes → fields_at kind make bytes ≡ Err k → k ≤ length bytes
 fields_within kind make exact bytes k are is =

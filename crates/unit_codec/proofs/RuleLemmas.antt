@@ -1,25 +1,25 @@
 -- The rules of fields, and what their types say.
-use Rattle.std.specs.Prelude.{MatchOption, IfOk, IfErr, IsOk, All}
+use Rattle.std.specs.Prelude.{MatchOption, IfOk, IsOk, All}
 use Rattle.std.specs.Bool.{Decides}
 use Rattle.std.specs.Result.{result_ok}
 use Rattle.std.specs.List.{list_all}
-use Rattle.std.specs.Cmp.Lexicographic.{pointwise, bytes_decides}
-use Rattle.std.proofs.Common.{◌≡◌, ℕ, ◌+◌, ◌<◌, ◌≤◌, Bool, true, false, ◌&&◌, nat_eq, nat_le, IsTrue, not, Option, Some, None, List, [], ◌∷◌, ◌++◌, length, take, drop, Result, Ok, Err, refl, sym, ap, ◌∙◌, subst, arith, if◌then◌else◌, ◌↔◌}
+use Rattle.std.specs.Cmp.Lexicographic.{bytes_decides}
+use Rattle.std.proofs.Common.{◌≡◌, ℕ, ◌≤◌, Bool, true, false, ◌&&◌, nat_le, IsTrue, not, Option, Some, None, List, length, take, drop, Result, Ok, Err, refl, sym, ◌∙◌, subst, arith, ◌↔◌}
 use Rattle.std.proofs.lemmas.Bool.{leb-true, le-leb}
 use Rattle.std.proofs.lemmas.Bool.Decides.{Decides-by_and}
 use Rattle.std.proofs.lemmas.Option.{cond_some}
-use Rattle.ale_base.specs.Blanks.{trimmed, padded}
+use Rattle.ale_base.specs.Blanks.{trimmed}
 use Rattle.ale_base.specs.TrimmedLemmas.{padded-trimmed_at, length-trimmed}
 use Rattle.ale_base.specs.Text.{is_text}
 use Rattle.ale_base.specs.Hexadecimal.{number_of}
 use Rattle.ale_base.specs.Tid.{TidOf, IsTid, spelling}
-use Rattle.ale_base.specs.QueueName.{IsQueueName, IsNameByte, HasFault}
+use Rattle.ale_base.specs.QueueName.{IsQueueName, IsNameByte}
 use Rattle.ale_base.specs.declared.queue_name.NameFault.{NameFault}
 use Rattle.ale_base.proofs.TidLemmas.{number_of-system, number_of-unit}
 use Rattle.idoc_record.specs.declared.fault.RecordFault.{RecordFault}
-use Rattle.idoc_record.specs.declared.control_field.ControlField.TheVariants.{Tabnam, Docnum, Direct}
-use Rattle.idoc_record.specs.Control.{IsControl, IsControlLine, field_of, is_control_table, is_number, is_direction}
-use Rattle.idoc_record.specs.Data.{DataRecord, IsDataRecord, is_no_segment}
+use Rattle.idoc_record.specs.declared.control_field.ControlField.TheVariants.{Tabnam, Docnum}
+use Rattle.idoc_record.specs.Control.{IsControl, IsControlLine, field_of, is_control_table, is_number}
+use Rattle.idoc_record.specs.Data.{IsDataRecord, is_no_segment}
 use Rattle.unit_codec.specs.Fields.{is_between, ends_in_no_blank, is_name, is_function, is_segment, is_segment_data, tid_of, is_queue, is_queue_byte, is_control}
 
 -- ---- tests
@@ -79,22 +79,23 @@ same_tid bytes None reads spelled = sym (no_tid (tid_of bytes) (λ id is. let p 
 
 queue_decides : (text : List ℕ) → Decides (is_queue text) (IsQueueName text)
 queue_decides text =
-    let bytes : Decides (list_all is_queue_byte text) (All IsNameByte text) = Decides-by_and is_queue_byte IsNameByte (list_all is_queue_byte) byte_decides refl (λ _ _. refl) text in
-    (λ is.
-    let p = parts (is_between 1 24 (length text)) (list_all is_queue_byte text) is in
-    let long = is_between-parts 1 24 (length text) p.0 in
-    record { least = long.0; most = long.1; graphic = bytes.0 p.1 },
-    λ is. both _ _ (between 1 24 (length text) is.least is.most) (bytes.1 is.graphic))
+    let bytes : Decides (list_all is_queue_byte text) (All IsNameByte text) = Decides-by_and is_queue_byte IsNameByte (list_all is_queue_byte) byte_decides refl (λ _ _. refl) text in (
+      λ is.
+          let p = parts (is_between 1 24 (length text)) (list_all is_queue_byte text) is in
+          let long = is_between-parts 1 24 (length text) p.0 in
+          record { least = long.0; most = long.1; graphic = bytes.0 p.1 },
+      λ is. both _ _ (between 1 24 (length text) is.least is.most) (bytes.1 is.graphic),
+    )
   where
     byte_decides : (b : ℕ) → Decides (is_queue_byte b) (IsNameByte b)
     byte_decides b = (λ is. is_between-parts 33 126 b is, λ is. between 33 126 b is.0 is.1)
 
-pub is_queue-name : (text : List ℕ) → IsQueueName text → is_queue text ≡ true
-is_queue-name text is = (queue_decides text).1 is
+pub is_queue_name : (text : List ℕ) → IsQueueName text → is_queue text ≡ true
+is_queue_name text is = (queue_decides text).1 is
 
 pub queue_found : (text : List ℕ) (r : Result (List ℕ) NameFault) → IfOk r (λ name. (name ≡ text) × IsQueueName text) → (IsQueueName text → IsOk r)
     → MatchOption (result_ok r) (is_queue text ≡ false) (λ name. (name ≡ text) × IsTrue (is_queue text))
-queue_found text (Ok name) is complete = (is.0, is_queue-name text is.1)
+queue_found text (Ok name) is complete = (is.0, is_queue_name text is.1)
 queue_found text (Err fault) is complete = not_true (is_queue text) (λ yes. let ok : false ≡ true = complete ((queue_decides text).0 yes) in absurd cc)
 
 -- ---- control records
@@ -109,15 +110,15 @@ line_of bytes whole is =
       kept = record { whole = whole; table = one.0; number = two.0; direction = two.1 };
     }
 
-pub is_control-kept : (control : List ℕ) → IsControl control → is_control control ≡ true
-is_control-kept control is = both _ _ is.table (both _ _ is.number is.direction)
+pub is_control_kept : (control : List ℕ) → IsControl control → is_control control ≡ true
+is_control_kept control is = both _ _ is.table (both _ _ is.number is.direction)
 
 pub control_found : (bytes : List ℕ) (r : Result (List ℕ) RecordFault) → length bytes ≡ 524 → ((control : List ℕ) → (r ≡ Ok control) ↔ IsControlLine bytes control)
     → MatchOption (result_ok r) (is_control bytes ≡ false) (λ control. (control ≡ bytes) × IsTrue (is_control bytes))
 control_found bytes (Ok control) whole exact =
     let line = (exact control).0 refl in
     let same : control ≡ bytes = line.bytes ∙ padded-trimmed_at 524 bytes whole in
-    (same, subst (λ (c : List ℕ). is_control c ≡ true) same (is_control-kept control line.kept))
+    (same, subst (λ (c : List ℕ). is_control c ≡ true) same (is_control_kept control line.kept))
 control_found bytes (Err fault) whole exact = not_true (is_control bytes) (λ yes. let ok = (exact bytes).1 (line_of bytes whole yes) in absurd cc)
 
 -- ---- names and data of segments

@@ -1,5 +1,5 @@
 -- The spelling of entries: a record, with or without the moment at which it was written.
-use Rattle.std.specs.Prelude.{◌≡◌, ℕ, ◌<◌, ◌-◌, ◌==◌, Option, Some, None, List, [], ◌∷◌, ◌++◌, length, IfSome, Result, Ok, Err, if◌then◌else◌}
+use Rattle.std.specs.Prelude.{ℕ, ◌-◌, ◌==◌, Option, Some, None, List, [], ◌∷◌, ◌++◌, length, IfSome, Result, Ok, Err, if◌then◌else◌}
 use Rattle.std.specs.Int.{w64}
 use Rattle.unit_core.specs.declared.records.Record.{Record}
 use Rattle.unit_codec.specs.declared.entry.Entry.{Entry}

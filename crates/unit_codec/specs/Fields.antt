@@ -1,7 +1,6 @@
 -- The kinds of the fields that records have.
-use Rattle.std.specs.Prelude.{◌≡◌, ℕ, ◌==◌, ◌&&◌, not, Bool, true, Option, Some, None, List, length, nat_le, nat_eq, take, drop, if◌then◌else◌}
-use Rattle.std.specs.List.{list_all, list_any}
-use Rattle.std.specs.Cmp.Lexicographic.{pointwise}
+use Rattle.std.specs.Prelude.{ℕ, ◌==◌, ◌&&◌, not, Bool, true, Option, Some, None, List, length, nat_le, take, drop, if◌then◌else◌}
+use Rattle.std.specs.List.{list_all}
 use Rattle.std.specs.Int.{w8, w16, w32, w64}
 use Rattle.ale_base.specs.Blanks.{trimmed}
 use Rattle.ale_base.specs.Text.{is_text}
@@ -19,7 +18,7 @@ use Rattle.idoc_record.specs.Data.{DataRecord, is_no_segment}
 use Rattle.unit_core.specs.declared.raw_unit_doc.RawUnitDoc.{RawUnitDoc}
 use Rattle.unit_core.specs.declared.ale_unit.AleUnit.{AleUnit}
 use Rattle.unit_core.specs.Queues.{has_name}
-use Rattle.unit_codec.specs.Kind.{Kind, plain, number, byte, sized, such_that, decoded, shaped, ◌then◌, optional, listed}
+use Rattle.unit_codec.specs.Kind.{Kind, plain, number, byte, sized, such_that, decoded, shaped, ◌then◌, listed}
 
 -- ---- rules
 
@@ -120,8 +119,11 @@ abbrev pub any : {A : Type 0} → List A → A → Bool
 any front x = true
 
 -- a count of four bytes, from 1
+abbrev pub is_some_count : ℕ → Bool
+is_some_count n = nat_le 1 n
+
 abbrev pub count : Kind ℕ
-count = such_that (number w32) (λ n. nat_le 1 n)
+count = such_that (number w32) is_some_count
 
 -- ---- documents
 
@@ -137,8 +139,12 @@ segment = shaped (segment_name then λ _. segment_data) (λ p. record { segnam =
 unfoldable pub control : Kind (List ℕ)
 control = such_that (plain 524) is_control
 
+-- a document has at most 10,000 segments
+abbrev pub is_few : ℕ → Bool
+is_few n = nat_le n 10000
+
 unfoldable pub segments : Kind (List DataRecord)
-segments = listed (such_that (number w32) (λ n. nat_le n 10000)) segment any
+segments = listed (such_that (number w32) is_few) segment any
 
 unfoldable pub document : Kind RawUnitDoc
 document = shaped (control then λ _. segments) (λ p. record { control = p.0; segments = p.1 }) (λ d. (d.control, d.segments))
@@ -162,8 +168,11 @@ function = such_that (sized w8) is_function
 abbrev pub is_other : List (List ℕ) → List ℕ → Bool
 is_other front x = not (has_name x front)
 
+abbrev pub is_few_queues : ℕ → Bool
+is_few_queues n = nat_le n 8
+
 unfoldable pub queues : Kind (List (List ℕ))
-queues = listed (such_that byte (λ n. nat_le n 8)) queue is_other
+queues = listed (such_that byte is_few_queues) queue is_other
 
 abbrev pub UnitFields : Type 0
 UnitFields = TidOf × (ℕ × (ℕ × (List ℕ × (List (List ℕ) × (List (List ℕ) × List RawUnitDoc)))))

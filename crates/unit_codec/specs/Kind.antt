@@ -1,6 +1,6 @@
 -- Kinds of fields.
-use Rattle.std.specs.Prelude.{◌≡◌, ℕ, zero, suc, ◌+◌, ◌<◌, ◌^◌, ◌==◌, Bool, IsTrue, Option, Some, None, List, [], ◌∷◌, ◌++◌, length, take, drop, nat_lt, Result, Ok, Err, if◌then◌else◌, IfSome}
-use Rattle.std.specs.List.{flat_map}
+use Rattle.std.specs.Prelude.{◌≡◌, ℕ, zero, suc, ◌<◌, ◌^◌, ◌==◌, Bool, IsTrue, Option, Some, None, List, [], ◌∷◌, ◌++◌, length, take, drop, nat_lt, Ok, Err, if◌then◌else◌, IfSome}
+use Rattle.std.specs.List.{flat_map, AllByRecursion}
 use Rattle.std.specs.Int.{Width, w8, byte_len, from_be_bytes, to_be_bytes}
 use Rattle.unit_codec.specs.Reading.{Reading, ◌>>=◌, ruled, found}
 
@@ -99,16 +99,16 @@ listed_at kind rule zero front bytes = Ok (front, bytes)
 listed_at kind rule (suc count) front bytes =
     kind.read bytes >>= λ x. ruled (length bytes) (rule front x.0) x >>= λ x. listed_at kind rule count (front ++ x.0 ∷ []) x.1
 
--- behind those in front, each value fits and follows the rule by those before it
-abbrev pub AllFit : {A : Type 0} → Kind A → (List A → A → Bool) → List A → List A → Type 0
-AllFit kind rule front [] = Unit {0}
-AllFit kind rule front (x ∷ xs) = kind.Fits x × IsTrue (rule front x) × AllFit kind rule (front ++ x ∷ []) xs
+-- behind those in front, each value follows the rule by those before it
+abbrev pub AllFollow : {A : Type 0} → (List A → A → Bool) → List A → List A → Type 0
+AllFollow rule front [] = Unit {0}
+AllFollow rule front (x ∷ xs) = IsTrue (rule front x) × AllFollow rule (front ++ x ∷ []) xs
 
 -- a list behind its count
 unfoldable pub listed : {A : Type 0} → Kind ℕ → Kind A → (List A → A → Bool) → Kind (List A)
 listed count kind rule = record {
   spell = λ xs. count.spell (length xs) ++ flat_map kind.spell xs;
-  Fits = λ xs. count.Fits (length xs) × AllFit kind rule [] xs;
+  Fits = λ xs. count.Fits (length xs) × AllByRecursion kind.Fits xs × AllFollow rule [] xs;
   read = λ bytes. count.read bytes >>= λ n. listed_at kind rule n.0 [] n.1;
 }
 
@@ -116,3 +116,8 @@ listed count kind rule = record {
 pub record Puts {A : Type 0} (kind : Kind A) (x : A) (old new : List ℕ) : Type 0 where
   pub fits : kind.Fits x
   pub spelled : new ≡ old ++ kind.spell x
+
+-- a call appended the spellings of values, each of which has one
+pub record PutsAll {A : Type 0} (kind : Kind A) (xs : List A) (old new : List ℕ) : Type 0 where
+  pub fit : AllByRecursion kind.Fits xs
+  pub spelled : new ≡ old ++ flat_map kind.spell xs

@@ -1,17 +1,14 @@
 -- The spelling of each record: a byte that says which it is, and its fields.
-use Rattle.std.specs.Prelude.{◌≡◌, ℕ, ◌==◌, Bool, Option, List, [], ◌++◌, length, Result, Ok, Err, if◌then◌else◌}
-use Rattle.std.specs.Int.{w64}
+use Rattle.std.specs.Prelude.{ℕ, ◌==◌, Option, List, [], ◌++◌, length, Ok, Err, if◌then◌else◌}
 use Rattle.ale_base.specs.Tid.{TidOf}
 use Rattle.ale_base.specs.declared.mark.Mark.{Mark as Cause}
 use Rattle.ale_base.specs.declared.way.Way.{Way}
 use Rattle.ale_base.specs.declared.change.FieldValue.{FieldValue}
-use Rattle.ale_base.specs.declared.doc_num.DocNum.{DocNum}
-use Rattle.unit_core.specs.declared.ale_unit.AleUnit.{AleUnit}
 use Rattle.unit_core.specs.declared.raw_unit_doc.RawUnitDoc.{RawUnitDoc}
 use Rattle.unit_core.specs.declared.records.Record.{Record}
 use Rattle.unit_core.specs.declared.records.Record.TheVariants.{Genesis, Commit, Dispatch, Mark, Done, Ended, Accept, Execute, Direct, Fail, Forget, Stop, Start, Retry, Put, App, Repost, Model}
 use Rattle.unit_codec.specs.Reading.{Reading, ◌>>=◌}
-use Rattle.unit_codec.specs.Kind.{Kind, byte, ◌then◌, optional}
+use Rattle.unit_codec.specs.Kind.{Kind, Puts, byte, ◌then◌, optional}
 use Rattle.unit_codec.specs.Fields.{name, text, way, cause, tid, queue, destination, doc_number, documents, a_unit, field_values}
 
 -- ---- the fields of records
@@ -110,3 +107,7 @@ IsRecord what = a_record.Fits what
 -- the one spelling of a record
 abbrev pub record_spelling : Record → List ℕ
 record_spelling what = a_record.spell what
+
+-- a call appended the fields of a record, which have a spelling
+abbrev pub PutsFields : Record → List ℕ → List ℕ → Type 0
+PutsFields what old new = Puts (spelled_as what).kind (spelled_as what).values old new

@@ -1,8 +1,9 @@
 //! Records and entries as bytes, in both directions.
 
-ghost use Rattle.std.specs.Prelude.{◌≡◌, ◌≢◌, ◌-◌, ◌≤◌, length, IfOk, Ok, Err};
+ghost use Rattle.std.specs.Prelude.{◌≡◌, ◌≢◌, ◌-◌, ◌≤◌, length, IfOk, OnOk, Ok, Err};
 ghost use Rattle.unit_core.specs.declared.records.Record.{Record};
 ghost use Rattle.unit_codec.specs.declared.entry.Entry.{Entry};
+ghost use Rattle.unit_codec.specs.Condition.{HasSpelling, HasEntrySpelling};
 ghost use Rattle.unit_codec.specs.Records.{IsRecord, record_spelling};
 ghost use Rattle.unit_codec.specs.Reading.{IsWithin, fault_in};
 ghost use Rattle.unit_codec.specs.Entries.{IsEntry, entry_spelling, record_read_as, entry_read_as};
@@ -10,7 +11,9 @@ ghost use Rattle.unit_codec.specs.Entries.{IsEntry, entry_spelling, record_read_
 use crate::fault::FieldFault;
 use crate::reading::{take_entry, take_record};
 use crate::unread::Unread;
+use crate::writing::{put_entry, put_record};
 use crate::{CodecFault, Entry};
+use ale_base::OutOfMemory;
 use std::alloc::Global;
 use unit_core::Record;
 
@@ -44,6 +47,17 @@ fn record_of(alloc: Global, bytes: &[u8]) -> Result<Record, CodecFault>
     Ok(what)
 }
 
+/// The one spelling of a record, whose fields follow their rules.
+pub fn write_record(alloc: Global, what: &Record) -> Result<Vec<u8>, OutOfMemory>
+    requires { HasSpelling what.now }
+    ensures spelled { IfOk result (λ bytes. bytes.items ≡ record_spelling what.now) }
+    ensures has_spelling { OnOk result (IsRecord what.now) }
+{
+    let mut bytes = Vec::new(alloc);
+    put_record(&mut bytes, what)?;
+    Ok(bytes)
+}
+
 /// The entry that the bytes spell, all of them: a record, or the byte 0x13, a moment and a record.
 ///
 /// `Bad` comes exactly where they spell none, with a place as of `read_record`, counted from the entry's first byte.
@@ -68,6 +82,17 @@ fn entry_of(alloc: Global, bytes: &[u8]) -> Result<Entry, CodecFault>
         return Err(bad(bytes, from.left()));
     }
     Ok(entry)
+}
+
+/// The one spelling of an entry, whose record's fields follow their rules.
+pub fn write_entry(alloc: Global, entry: &Entry) -> Result<Vec<u8>, OutOfMemory>
+    requires { HasEntrySpelling entry.now }
+    ensures spelled { IfOk result (λ bytes. bytes.items ≡ entry_spelling entry.now) }
+    ensures has_spelling { OnOk result (IsEntry entry.now) }
+{
+    let mut bytes = Vec::new(alloc);
+    put_entry(&mut bytes, entry)?;
+    Ok(bytes)
 }
 
 /// A field's fault in these bytes.

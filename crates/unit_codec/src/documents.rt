@@ -1,24 +1,31 @@
 //! Documents of units, and changes of objects.
 
-ghost use Rattle.std.specs.Prelude.{◌≡◌, Bool, List, IfOk, IsTrue};
+ghost use Rattle.std.specs.Prelude.{◌≡◌, ◌≤◌, length, OnOk, IfOk, IsTrue};
+ghost use Rattle.std.specs.List.{AllByRecursion};
 ghost use Rattle.unit_codec.specs.Reading.{Takes};
+ghost use Rattle.unit_codec.specs.Kind.{Puts};
+ghost use Rattle.unit_codec.specs.Condition.{AreCounted, AreDocuments, IsFieldValue};
 ghost use Rattle.unit_codec.specs.Fields.{any, count, is_segment, is_segment_data, segment, segment_name, segment_data, control, segments, document, documents, field_value, field_values};
 
 use crate::fault::FieldFault;
-use crate::lists::{Listed, take_listed};
+use crate::lists::{Listed, put_listed, take_listed};
+use crate::put::{put_four_bytes, put_middle_text, put_name, put_short_text, put_text};
 use crate::rules::{control_of, fixed_of, is_segment, is_segment_data};
 use crate::unread::Unread;
-use ale_base::{FieldValue, Fixed, Items};
-use idoc_record::{Control, Data};
+use ale_base::{FieldValue, Fixed, Items, OutOfMemory};
+use idoc_record::{Control, Data, write_control};
 use std::alloc::Global;
 use unit_core::RawUnitDoc;
 
 impl Listed for Data {
+    ghost use Rattle.std.specs.Prelude.{⊤};
     ghost use Rattle.unit_codec.specs.Fields.{any, segment};
 
     ghost kind = { segment };
 
     ghost follows = { any };
+
+    ghost needs = { λ _. ⊤ };
 
     #[tactic(auto, unfolding(crate::specs::Fields::segment))]
     fn take(alloc: Global, from: &mut Unread<'_>) -> Result<Data, FieldFault> {
@@ -30,14 +37,23 @@ impl Listed for Data {
     fn follows(&self, _: &[Data]) -> bool {
         true
     }
+
+    #[tactic(auto, unfolding(crate::specs::Fields::segment))]
+    fn put(&self, into: &mut Vec<u8>) -> Result<(), OutOfMemory> {
+        put_segment_name(into, &self.segnam)?;
+        put_segment_data(into, &self.sdata)
+    }
 }
 
 impl Listed for RawUnitDoc {
+    ghost use Rattle.unit_codec.specs.Condition.{IsDocument};
     ghost use Rattle.unit_codec.specs.Fields.{any, document};
 
     ghost kind = { document };
 
     ghost follows = { any };
+
+    ghost needs = { IsDocument };
 
     #[tactic(auto, unfolding(crate::specs::Fields::document))]
     fn take(alloc: Global, from: &mut Unread<'_>) -> Result<RawUnitDoc, FieldFault> {
@@ -49,14 +65,23 @@ impl Listed for RawUnitDoc {
     fn follows(&self, _: &[RawUnitDoc]) -> bool {
         true
     }
+
+    #[tactic(auto, unfolding(crate::specs::Fields::document))]
+    fn put(&self, into: &mut Vec<u8>) -> Result<(), OutOfMemory> {
+        put_control(into, &self.control)?;
+        put_segments(into, &self.segments)
+    }
 }
 
 impl Listed for FieldValue {
+    ghost use Rattle.unit_codec.specs.Condition.{IsFieldValue};
     ghost use Rattle.unit_codec.specs.Fields.{any, field_value};
 
     ghost kind = { field_value };
 
     ghost follows = { any };
+
+    ghost needs = { IsFieldValue };
 
     #[tactic(auto, unfolding(crate::specs::Fields::field_value))]
     fn take(alloc: Global, from: &mut Unread<'_>) -> Result<FieldValue, FieldFault> {
@@ -67,6 +92,12 @@ impl Listed for FieldValue {
 
     fn follows(&self, _: &[FieldValue]) -> bool {
         true
+    }
+
+    #[tactic(auto, unfolding(crate::specs::Fields::field_value))]
+    fn put(&self, into: &mut Vec<u8>) -> Result<(), OutOfMemory> {
+        put_name(into, &self.field)?;
+        put_text(into, &self.value)
     }
 }
 
@@ -154,4 +185,67 @@ impl Unread<'_> {
         let count = self.count()?;
         take_listed(alloc, self, count)
     }
+}
+
+/// Appends the name of a segment.
+#[tactic(auto, unfolding(crate::specs::Fields::segment_name))]
+fn put_segment_name(into: &mut Vec<u8>, name: &Fixed<30>) -> Result<(), OutOfMemory>
+    requires { IsTrue (is_segment name.now) }
+    ensures { OnOk result (Puts segment_name name.now into.old.items into.new.items) }
+{
+    put_short_text(into, name.trimmed())
+}
+
+/// Appends the data of a segment.
+#[tactic(auto, unfolding(crate::specs::Fields::segment_data))]
+fn put_segment_data(into: &mut Vec<u8>, sdata: &Items<u8>) -> Result<(), OutOfMemory>
+    requires { IsTrue (is_segment_data sdata.now) }
+    ensures { OnOk result (Puts segment_data sdata.now into.old.items into.new.items) }
+{
+    put_middle_text(into, sdata.as_slice())
+}
+
+/// Appends the bytes of a control record.
+#[tactic(auto, unfolding(crate::specs::Fields::control, crate::specs::Kind::plain), using(crate::proofs::RuleLemmas::is_control_kept))]
+fn put_control(into: &mut Vec<u8>, value: &Control) -> Result<(), OutOfMemory>
+    ensures { OnOk result (Puts control value.now into.old.items into.new.items) }
+{
+    write_control(value, into)
+}
+
+/// Appends the segments of a document.
+#[tactic(auto, unfolding(crate::specs::Fields::segments, crate::specs::Kind::listed))]
+fn put_segments(into: &mut Vec<u8>, values: &Items<Data>) -> Result<(), OutOfMemory>
+    requires { length values.now ≤ 10000 }
+    ensures { OnOk result (Puts segments values.now into.old.items into.new.items) }
+{
+    put_four_bytes(into, values.len() as u32)?;
+    put_listed(into, values.as_slice())
+}
+
+/// Appends documents behind their count.
+#[tactic(auto, unfolding(crate::specs::Fields::documents, crate::specs::Kind::listed))]
+pub(crate) fn put_documents(
+    into: &mut Vec<u8>,
+    values: &Items<RawUnitDoc>,
+) -> Result<(), OutOfMemory>
+    requires { AreDocuments values.now }
+    ensures { OnOk result (Puts documents values.now into.old.items into.new.items) }
+{
+    put_four_bytes(into, values.len() as u32)?;
+    put_listed(into, values.as_slice())
+}
+
+/// Appends fields with their values behind their count.
+#[tactic(auto, unfolding(crate::specs::Fields::field_values, crate::specs::Kind::listed))]
+pub(crate) fn put_field_values(
+    into: &mut Vec<u8>,
+    values: &Items<FieldValue>,
+) -> Result<(), OutOfMemory>
+    requires counted { AreCounted values.now }
+    requires each { AllByRecursion IsFieldValue values.now }
+    ensures { OnOk result (Puts field_values values.now into.old.items into.new.items) }
+{
+    put_four_bytes(into, values.len() as u32)?;
+    put_listed(into, values.as_slice())
 }

@@ -12,7 +12,8 @@ mod reading;
 mod rules;
 mod units;
 mod unread;
+mod writing;
 
-pub use codec::{read_entry, read_record};
+pub use codec::{read_entry, read_record, write_entry, write_record};
 pub use entry::Entry;
 pub use fault::CodecFault;

@@ -41,7 +41,12 @@ pub(crate) fn take_entry(alloc: Global, from: &mut Unread<'_>) -> Result<Entry, 
 
 /// The fields behind the byte of a record.
 #[tactic(auto, unfolding(crate::specs::Records::nothing, crate::specs::Kind::plain))]
-fn take_fields(alloc: Global, from: &mut Unread<'_>, left: usize, tag: u8) -> Result<Record, FieldFault>
+fn take_fields(
+    alloc: Global,
+    from: &mut Unread<'_>,
+    left: usize,
+    tag: u8,
+) -> Result<Record, FieldFault>
     ensures { Takes (λ x. x) result from.new (record_at left (tag, from.old)) }
 {
     match tag {
@@ -51,18 +56,28 @@ fn take_fields(alloc: Global, from: &mut Unread<'_>, left: usize, tag: u8) -> Re
         0x04 => take_mark(from),
         0x05 => Ok(Record::Done { tid: from.tid()? }),
         0x06 => Ok(Record::Ended { tid: from.tid()? }),
-        0x07 => Ok(Record::Accept { unit: from.unit(alloc)? }),
+        0x07 => Ok(Record::Accept {
+            unit: from.unit(alloc)?,
+        }),
         0x08 => Ok(Record::Execute { tid: from.tid()? }),
-        0x09 => Ok(Record::Direct { unit: from.unit(alloc)? }),
+        0x09 => Ok(Record::Direct {
+            unit: from.unit(alloc)?,
+        }),
         0x0a => Ok(Record::Fail { tid: from.tid()? }),
         0x0b => Ok(Record::Forget { tid: from.tid()? }),
         0x0c => take_stop(from),
         0x0d => take_start(from),
         0x0e => take_retry(from),
         0x0f => take_put(alloc, from),
-        0x10 => Ok(Record::App { doc: from.doc_number()? }),
-        0x11 => Ok(Record::Repost { doc: from.doc_number()? }),
-        0x12 => Ok(Record::Model { text: from.text(alloc)? }),
+        0x10 => Ok(Record::App {
+            doc: from.doc_number()?,
+        }),
+        0x11 => Ok(Record::Repost {
+            doc: from.doc_number()?,
+        }),
+        0x12 => Ok(Record::Model {
+            text: from.text(alloc)?,
+        }),
         _ => Err(FieldFault::Bad(left)),
     }
 }

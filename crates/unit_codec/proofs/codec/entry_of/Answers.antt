@@ -1,4 +1,4 @@
-use Rattle.std.proofs.Common.{arith, length, subst, ℕ, ◌≤◌}
+use Rattle.std.proofs.Common.{arith}
 use Rattle.unit_codec.specs.Entries.{an_entry}
 use Rattle.unit_codec.proofs.EntryLemmas.{an_entry-exact}
 use Rattle.unit_codec.proofs.EntryLemmas.{fault-within, rest-within}

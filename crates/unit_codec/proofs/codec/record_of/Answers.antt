@@ -1,4 +1,4 @@
-use Rattle.std.proofs.Common.{arith, length, subst, ℕ, ◌≤◌}
+use Rattle.std.proofs.Common.{arith}
 use Rattle.unit_codec.specs.Records.{a_record}
 use Rattle.unit_codec.proofs.RecordLemmas.{a_record-exact}
 use Rattle.unit_codec.proofs.EntryLemmas.{fault-within, rest-within}
