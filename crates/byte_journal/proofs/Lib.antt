@@ -1,7 +1,7 @@
 -- The records of a log as bytes.
 mod LogLemmas
 -- Bytes stand for one log or are damaged at one place.
-mod OneAnswer
+pub mod OneAnswer
 -- Reading the records from the front on.
 mod ReadLemmas
 -- Only the front of the bytes can matter.

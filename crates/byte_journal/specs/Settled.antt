@@ -5,6 +5,7 @@ use Rattle.ale_volumes.specs.Volume.{IsImage, settled}
 use Rattle.byte_journal.specs.declared.journal.Journal.{Journal}
 use Rattle.byte_journal.specs.declared.fault.OpenFault.{OpenFault}
 use Rattle.byte_journal.specs.declared.fault.OpenFault.TheVariants.{Damaged, Volume as VolumeFault, OutOfMemory}
+use Rattle.byte_journal.specs.declared.fault.AppendFault.{AppendFault}
 use Rattle.byte_journal.specs.Log.{open_gate, most_bytes, records, AreBodies, Stands, DamagedAt, ReadsAs}
 
 -- the bytes are the records of this log and a closed gate, behind which anything may lie
@@ -19,6 +20,16 @@ pub record IsClosed (bytes : List ℕ) (log : List (List ℕ)) : Type 0 where
 -- the journal's gate is the one behind the records of this log
 abbrev pub IsAtEnd : Journal → List (List ℕ) → Type 0
 IsAtEnd journal log = journal.gate ≡ length (records log)
+
+-- the journal is on volume n, at the end of this log
+pub record IsOn (journal : Journal) (n : ℕ) (log : List (List ℕ)) : Type 0 where
+  pub volume : journal.volume ≡ n
+  pub at_end : IsAtEnd journal log
+
+-- Where an append succeeded the journal is on the same volume, at the end of the log with the body; otherwise it is as before.
+abbrev pub MovesOn : Journal → Journal → List ℕ → Result (Unit {0}) AppendFault → Type 0
+MovesOn old new body (Ok done) = (new.volume ≡ old.volume) × ((log : List (List ℕ)) → IsAtEnd old log → IsAtEnd new (log ++ body ∷ []))
+MovesOn old new body (Err fault) = new ≡ old
 
 -- The journal stands at the end of this log, whose last gate is closed, and all of it is on the disk for good.
 pub record IsSettled {D : Type 0} (volume : D → ℕ → Volume) (vols : D) (journal : Journal) (log : List (List ℕ)) : Type 0 where

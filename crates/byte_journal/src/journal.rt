@@ -1,6 +1,6 @@
 //! A journal that is open, and the append of a body to it.
 
-ghost use Rattle.std.specs.Prelude.{◌≡◌, ◌≢◌, ℕ, List, [], ◌∷◌, ◌++◌, ◌+◌, ◌<◌, ◌↔◌, length, IfOk, OnOk, OnErr, IsErrOf};
+ghost use Rattle.std.specs.Prelude.{◌≡◌, ◌≢◌, ℕ, List, [], ◌∷◌, ◌++◌, ◌+◌, ◌<◌, ◌↔◌, length, IfOk, OnOk, IsErrOf};
 ghost use Rattle.byte_journal.specs.Log.{framed};
 ghost use Rattle.ale_volumes.specs.Clock.{LeavesOnly, KeepsOthers};
 ghost use Rattle.ale_volumes.specs.Faults.{CountsFault};
@@ -25,7 +25,7 @@ pub struct Journal {
 
 impl Journal {
     ghost use Rattle.byte_journal.specs.Bytes.{LeavesAppended};
-    ghost use Rattle.byte_journal.specs.Settled.{IsSettled, IsAtEnd, IsBeforeOrAfter};
+    ghost use Rattle.byte_journal.specs.Settled.{IsSettled, MovesOn, IsBeforeOrAfter};
 
     /// The byte of an open gate, an upper case O. Each other byte is a closed gate.
     pub const OPEN_GATE: u8 = 0x4f;
@@ -62,9 +62,7 @@ impl Journal {
         // The log has one body more.
         ensures added { V.told → (log : List (List ℕ)) → IsSettled V.volume vols.old self.old log →
             OnOk result (IsSettled V.volume vols.new self.new (log ++ body.now ∷ [])) }
-        ensures stays { self.new.volume ≡ self.old.volume }
-        ensures at_end { (log : List (List ℕ)) → IsAtEnd self.old log →
-            OnOk result (IsAtEnd self.new (log ++ body.now ∷ [])) }
+        ensures moves_on { MovesOn self.old self.new body.now result }
 
         // The volume holds what it held, the gate open, length, body, a closed gate, and what lay further back.
         ensures leaves { V.told → LeavesAppended (V.volume vols.old self.old.volume).contents self.old.gate body.now
@@ -76,7 +74,6 @@ impl Journal {
         ensures others { V.told → KeepsOthers V.volume V.moment V.images_since vols.old vols.new self.old.volume }
 
         // When each error comes, and what is then as it was.
-        ensures err { OnErr result (self.new ≡ self.old) }
         ensures full { (place : ℕ) → (result ≡ Err (AppendFault.Full place))
             ↔ ((place ≡ self.old.gate + 6 + length body.now) × (Journal.MOST_BYTES < place)) }
         ensures full_unwritten { (place : ℕ) → result ≡ Err (AppendFault.Full place) → vols.new ≡ vols.old }

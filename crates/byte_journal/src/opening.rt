@@ -6,7 +6,7 @@ ghost use Rattle.ale_volumes.specs.Clock.{LeavesOnly, KeepsOthers};
 ghost use Rattle.ale_volumes.specs.Faults.{CountsFault};
 ghost use Rattle.byte_journal.specs.Log.{Stands, ReadsAs, HasOneAnswer};
 ghost use Rattle.byte_journal.specs.Bytes.{LeavesOpened};
-ghost use Rattle.byte_journal.specs.Settled.{Answers, IsSettled, IsAtEnd, IsLeftByOpening, LeavesOnlyFromSync};
+ghost use Rattle.byte_journal.specs.Settled.{Answers, IsSettled, IsOn, IsLeftByOpening, LeavesOnlyFromSync};
 
 use crate::close_gate::close_gate;
 use crate::read_durable::read_durable;
@@ -35,8 +35,7 @@ pub fn open<V: Volumes>(
     ensures durable { V.told → IfOk result (λ opened.
         (image : List ℕ) → IsImage (V.volume vols.new n) image → Stands image opened.1) }
     ensures one_answer { (bytes : List ℕ) → HasOneAnswer bytes }
-    ensures number { IfOk result (λ opened. opened.0.volume ≡ n) }
-    ensures at_end { IfOk result (λ opened. IsAtEnd opened.0 opened.1) }
+    ensures at_end { IfOk result (λ opened. IsOn opened.0 n opened.1) }
 
     // What a read gives is as before, but for a gate that was closed.
     ensures leaves { V.told → LeavesOpened (V.volume vols.old n) (V.volume vols.new n) result }

@@ -1,9 +1,9 @@
 -- The spelling of entries is exact, and so is reading all of some bytes.
 use Rattle.std.specs.Prelude.{IfSome, IfOk}
 use Rattle.std.specs.Int.{w64}
-use Rattle.std.proofs.Common.{◌≡◌, ◌≢◌, ℕ, ◌-◌, ◌%◌, ◌≤◌, false, eqb, Option, Some, None, List, [], ◌∷◌, ◌++◌, length, Result, Ok, Err, refl, sym, ap, subst, ◌∙◌, append_assoc, ⊎_elim, inl, inr, arith}
+use Rattle.std.proofs.Common.{◌<◌, ◌≡◌, ◌≢◌, ℕ, ◌-◌, ◌%◌, ◌≤◌, false, eqb, Option, Some, None, List, [], ◌∷◌, ◌++◌, length, Result, Ok, Err, refl, sym, ap, subst, ◌∙◌, append_assoc, ⊎_elim, inl, inr, arith}
 use Rattle.std.proofs.lemmas.Bool.Decides.{eqb_tells}
-use Rattle.std.proofs.lemmas.List.{append-nil, nil_from_length}
+use Rattle.std.proofs.lemmas.List.{append-nil, nil_from_length, length-append}
 use Rattle.unit_core.specs.declared.records.Record.{Record}
 use Rattle.unit_core.specs.declared.records.Record.TheVariants.{Genesis, Commit, Dispatch, Mark, Done, Ended, Accept, Execute, Direct, Fail, Forget, Stop, Start, Retry, Put, App, Repost, Model}
 use Rattle.unit_codec.specs.declared.entry.Entry.{Entry}
@@ -129,6 +129,20 @@ an_entry-exact = record {
   again = λ entry rest fits. entry_again entry.moment entry.what rest fits.0 fits.1;
   within = λ bytes left are is. an_entry-within bytes left are is;
 }
+
+-- ---- spellings
+
+-- two entries of one spelling are the same
+pub entry_spelling-same : (a b : Entry) → an_entry.Fits a → an_entry.Fits b → an_entry.spell a ≡ an_entry.spell b → a ≡ b
+entry_spelling-same a b fits fits_too same =
+    let one = an_entry-exact.again a [] fits in
+    let other = an_entry-exact.again b [] fits_too in
+    ap (λ (p : Entry × List ℕ). p.0) (ok_is (a, []) (b, []) (sym one ∙ ap (λ (l : List ℕ). an_entry.read (l ++ [])) same ∙ other))
+
+-- a spelling has a byte at least
+pub entry_spelling-some : (entry : Entry) → 0 < length (an_entry.spell entry)
+unfolding an_entry
+entry_spelling-some entry = omega (arith, length-append (moment_spelling entry.moment) (a_record.spell entry.what), ap length (first_byte entry.what))
 
 -- ---- all of some bytes
 

@@ -1,0 +1,8 @@
+-- which log of entries bytes stand for, and the first body that is no entry
+pub mod Log
+-- a journal of entries that is ready for appends, and what opening and appending do
+pub mod Settled
+-- the faults of opening, by those of the journal below
+pub mod Fault
+-- what private functions cite
+pub mod steps

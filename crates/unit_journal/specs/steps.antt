@@ -1,0 +1,2 @@
+-- What reading the bodies of a log gives.
+pub mod Entries

@@ -1,0 +1,71 @@
+//! A journal of entries that is open, and the append of an entry to it.
+
+ghost use Rattle.std.specs.Prelude.{◌≡◌, ◌≢◌, ℕ, List, [], ◌∷◌, ◌++◌, ◌+◌, ◌<◌, ◌↔◌, length, OnOk, IsErrOf};
+ghost use Rattle.ale_volumes.specs.Clock.{LeavesOnly, KeepsOthers};
+ghost use Rattle.ale_volumes.specs.Faults.{CountsFault};
+ghost use Rattle.byte_journal.specs.Log.{most_bytes};
+ghost use Rattle.byte_journal.specs.Bytes.{LeavesAppended};
+ghost use Rattle.unit_codec.specs.declared.entry.Entry.{Entry};
+ghost use Rattle.unit_codec.specs.Condition.{HasEntrySpelling};
+ghost use Rattle.unit_codec.specs.Entries.{entry_spelling};
+
+use ale_volumes::Volumes;
+use byte_journal::{AppendFault, Journal};
+use std::alloc::Global;
+use unit_codec::{Entry, write_entry};
+
+/// A journal of entries that is open on a volume. It stands at the end of the volume's log and doesn't hold the log
+/// itself.
+#[derive(Drop)]
+pub struct UnitJournal {
+    alloc: Global,
+    /// The journal of the entries' spellings.
+    pub bodies: Journal,
+}
+
+impl UnitJournal {
+    ghost use Rattle.unit_journal.specs.Settled.{IsSettled, MovesOn, IsBeforeOrAfter};
+
+    /// A journal of entries over one of bodies.
+    pub(crate) fn over(alloc: Global, bodies: Journal) -> UnitJournal
+        ensures { result.bodies ≡ bodies }
+    {
+        UnitJournal { alloc, bodies }
+    }
+
+    /// Adds an entry to the log. At `Ok` it is acknowledged: each crash from then on leaves it.
+    ///
+    /// `Full` comes where the place behind the new closing gate is over 67,108,864, and names that place; then nothing was
+    /// written. After `Volume` the journal is to be opened again before further use. The room for the entry's bytes is
+    /// taken before anything is written, so after `OutOfMemory` the log is as before.
+    pub fn append<V: Volumes>(&mut self, vols: &mut V, entry: &Entry) -> Result<(), AppendFault>
+        requires entry { HasEntrySpelling entry.now }
+        requires settled { V.told → (log : List Entry) × IsSettled V.volume vols.old self.old log }
+
+        // The log has one entry more.
+        ensures added { V.told → (log : List Entry) → IsSettled V.volume vols.old self.old log →
+            OnOk result (IsSettled V.volume vols.new self.new (log ++ entry.now ∷ [])) }
+        ensures moves_on { MovesOn self.old self.new entry.now result }
+
+        // The volume holds what it held, the gate open, length, spelling, a closed gate, and what lay further back.
+        ensures leaves { V.told → LeavesAppended (V.volume vols.old self.old.bodies.volume).contents
+            self.old.bodies.gate (entry_spelling entry.now) (V.volume vols.new self.old.bodies.volume).contents result }
+
+        // A crash at any moment of the call leaves the log from before it, with the new entry or without.
+        ensures any_moment { V.told → (log : List Entry) → IsSettled V.volume vols.old self.old log →
+            LeavesOnly V.moment V.images_since vols.old vols.new self.old.bodies.volume (IsBeforeOrAfter log entry.now) }
+        ensures others { V.told → KeepsOthers V.volume V.moment V.images_since vols.old vols.new self.old.bodies.volume }
+
+        // When each error comes, and what is then as it was.
+        ensures full { (place : ℕ) → result ≢ Err AppendFault.OutOfMemory → (result ≡ Err (AppendFault.Full place))
+            ↔ ((place ≡ self.old.bodies.gate + 6 + length (entry_spelling entry.now)) × (most_bytes < place)) }
+        ensures full_unwritten { (place : ℕ) → result ≡ Err (AppendFault.Full place) → vols.new ≡ vols.old }
+        ensures no_memory { V.told → (log : List Entry) → IsSettled V.volume vols.old self.old log →
+            IsErrOf result AppendFault.OutOfMemory → IsSettled V.volume vols.new self.new log }
+        ensures faults { CountsFault (IsErrOf result AppendFault.Volume)
+            (V.faults vols.old) (V.faults vols.new) self.old.bodies.volume }
+    {
+        let body = write_entry(self.alloc, entry)?;
+        self.bodies.append(vols, &body)
+    }
+}
