@@ -14,12 +14,13 @@ use Rattle.unit_codec.specs.declared.fault.FieldFault.TheVariants as field
 use Rattle.unit_codec.specs.Reading.{Reading, ◌>>=◌, Takes, IsWithin}
 use Rattle.unit_codec.specs.Kind.{Kind, number}
 use Rattle.unit_codec.specs.Records.{spelled_as, a_record}
-use Rattle.unit_codec.specs.Entries.{moment_byte, moment_spelling, entry_at, entry_read, an_entry, whole}
+use Rattle.unit_codec.specs.declared.reading.TheConstants.{MOMENT_BYTE}
+use Rattle.unit_codec.specs.Entries.{moment_spelling, entry_at, entry_read, an_entry, whole}
 use Rattle.unit_codec.proofs.KindLemmas.{IsExact, AreBytes, AreBytes-behind, bind_ok, bind_err, ok_is, not_err, rest_bytes, rest_within, wide64, number-exact}
 use Rattle.unit_codec.proofs.RecordLemmas.{a_record-exact}
 
 -- no record begins with the byte of a moment
-no_moment : (what : Record) → eqb ((spelled_as what).tag % 256) moment_byte ≡ false
+no_moment : (what : Record) → eqb ((spelled_as what).tag % 256) MOMENT_BYTE ≡ false
 no_moment (Genesis system model) = refl
 no_moment (Commit origin docs) = refl
 no_moment Dispatch = refl
@@ -73,7 +74,7 @@ an_entry-takes : (bytes : List ℕ) (x : Entry × List ℕ) → AreBytes bytes �
 unfolding number
 an_entry-takes [] x are is = plain_takes [] x are is
 an_entry-takes (first ∷ bytes) x are is =
-    elim (eqb_tells first moment_byte) [
+    elim (eqb_tells first MOMENT_BYTE) [
       | inl here ↦
           (let behind : AreBytes bytes = AreBytes-behind (first ∷ []) bytes are in
           let rest : ((number w64).read bytes >>= λ moment. entry_at (Some moment.0) moment.1) ≡ Ok x =
@@ -82,7 +83,7 @@ an_entry-takes (first ∷ bytes) x are is =
           let n = moment-exact.takes bytes a.0 behind a.1 in
           let t = entry_at-takes (Some a.0.0) a.0.1 x (rest_bytes (number w64) moment-exact bytes a.0 behind a.1) a.2 in
           let whole : first ∷ bytes ≡ (moment_spelling (Some a.0.0) ++ a_record.spell x.0.what) ++ x.1 =
-          ap (λ (k : ℕ). k ∷ bytes) here.1 ∙ ap (λ (l : List ℕ). moment_byte ∷ l) (n.1 ∙ ap (λ (l : List ℕ). (number w64).spell a.0.0 ++ l) t.2)
+          ap (λ (k : ℕ). k ∷ bytes) here.1 ∙ ap (λ (l : List ℕ). MOMENT_BYTE ∷ l) (n.1 ∙ ap (λ (l : List ℕ). (number w64).spell a.0.0 ++ l) t.2)
           ∙ sym (append_assoc (moment_spelling (Some a.0.0)) (a_record.spell x.0.what) x.1) in
           ((subst (λ (m : Option ℕ). IfSome m (number w64).Fits) (sym t.0) n.0, t.1), whole ∙ ap (λ (m : Option ℕ). (moment_spelling m ++ a_record.spell x.0.what) ++ x.1) (sym t.0)))
       | inr other ↦
@@ -92,7 +93,7 @@ an_entry-takes (first ∷ bytes) x are is =
 an_entry-within : (bytes : List ℕ) (left : ℕ) → AreBytes bytes → entry_read bytes ≡ Err left → left ≤ length bytes
 an_entry-within [] left are is = entry_at-within None [] left are is
 an_entry-within (first ∷ bytes) left are is =
-    elim (eqb_tells first moment_byte) [
+    elim (eqb_tells first MOMENT_BYTE) [
       | inl here ↦
           (let behind : AreBytes bytes = AreBytes-behind (first ∷ []) bytes are in
           let rest : ((number w64).read bytes >>= λ moment. entry_at (Some moment.0) moment.1) ≡ Err left =

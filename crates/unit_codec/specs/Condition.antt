@@ -9,11 +9,12 @@ use Rattle.unit_core.specs.declared.ale_unit.AleUnit.{AleUnit}
 use Rattle.unit_core.specs.declared.raw_unit_doc.RawUnitDoc.{RawUnitDoc}
 use Rattle.unit_core.specs.declared.records.Record.{Record}
 use Rattle.unit_core.specs.declared.records.Record.TheVariants.{Genesis, Commit, Accept, Direct, Stop, Start, Put, Model}
+use Rattle.unit_codec.specs.declared.limits.TheConstants.{MOST_NAME, MOST_SEGMENTS, MOST_QUEUES}
 use Rattle.unit_codec.specs.declared.entry.Entry.{Entry}
 
 -- a name of a message, a kind or a field has 1 to 30 bytes
 abbrev pub IsName : List ℕ → Type 0
-IsName name = (1 ≤ length name) × (length name ≤ 30)
+IsName name = (1 ≤ length name) × (length name ≤ MOST_NAME)
 
 -- four bytes can tell how long a text is
 abbrev pub IsText : List ℕ → Type 0
@@ -25,14 +26,14 @@ AreCounted xs = (1 ≤ length xs) × (length xs < 2 ^ 32)
 
 -- a document has at most 10,000 segments
 abbrev pub IsDocument : RawUnitDoc → Type 0
-IsDocument document = length document.segments ≤ 10000
+IsDocument document = length document.segments ≤ MOST_SEGMENTS
 
 abbrev pub AreDocuments : List RawUnitDoc → Type 0
 AreDocuments documents = AreCounted documents × AllByRecursion IsDocument documents
 
 -- a unit is in at most 8 queues of a direction, which differ
 abbrev pub AreQueues : List (List ℕ) → Type 0
-AreQueues names = (length names ≤ 8) × IsTrue (are_different names)
+AreQueues names = (length names ≤ MOST_QUEUES) × IsTrue (are_different names)
 
 -- a unit is sent by the system of its id to another one, and names a function
 pub record IsUnit (unit : AleUnit) : Type 0 where

@@ -5,18 +5,15 @@ use Rattle.unit_core.specs.declared.records.Record.{Record}
 use Rattle.unit_codec.specs.declared.entry.Entry.{Entry}
 use Rattle.unit_codec.specs.declared.fault.CodecFault.{CodecFault}
 use Rattle.unit_codec.specs.declared.fault.CodecFault.TheVariants.{Bad}
+use Rattle.unit_codec.specs.declared.reading.TheConstants.{MOMENT_BYTE}
 use Rattle.unit_codec.specs.Reading.{Reading, ◌>>=◌}
 use Rattle.unit_codec.specs.Kind.{Kind, number, byte}
 use Rattle.unit_codec.specs.Records.{a_record}
 
--- the byte before a moment, which no record begins with
-abbrev pub moment_byte : ℕ
-moment_byte = 0x13
-
 -- a moment in eight bytes behind its byte, where there is one
 abbrev pub moment_spelling : Option ℕ → List ℕ
 moment_spelling None = []
-moment_spelling (Some moment) = byte.spell moment_byte ++ (number w64).spell moment
+moment_spelling (Some moment) = byte.spell MOMENT_BYTE ++ (number w64).spell moment
 
 -- a record behind the moment that was read
 abbrev pub entry_at : Option ℕ → List ℕ → Reading Entry
@@ -25,7 +22,7 @@ entry_at moment bytes = a_record.read bytes >>= λ what. Ok (record { moment = m
 abbrev pub entry_read : List ℕ → Reading Entry
 entry_read [] = entry_at None []
 entry_read (first ∷ bytes) =
-    if first == moment_byte then ((number w64).read bytes >>= λ moment. entry_at (Some moment.0) moment.1)
+    if first == MOMENT_BYTE then ((number w64).read bytes >>= λ moment. entry_at (Some moment.0) moment.1)
     else entry_at None (first ∷ bytes)
 
 -- an entry: its moment, and its record

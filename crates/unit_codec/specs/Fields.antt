@@ -6,18 +6,23 @@ use Rattle.ale_base.specs.Blanks.{trimmed}
 use Rattle.ale_base.specs.Text.{is_text}
 use Rattle.ale_base.specs.Hexadecimal.{number_of}
 use Rattle.ale_base.specs.Tid.{TidOf, IsTid, spelling}
+use Rattle.ale_base.specs.declared.system_no.TheConstants.SystemNo.{MAX}
+use Rattle.ale_base.specs.declared.tid.TheConstants.Tid.{MAX_UNIT}
+use Rattle.ale_base.specs.declared.queue_name.TheConstants.QueueName.{MAX_LEN}
 use Rattle.ale_base.specs.declared.mark.Mark.{Mark as Cause}
 use Rattle.ale_base.specs.declared.mark.Mark.TheVariants.{Cpicerr, Sysfail}
 use Rattle.ale_base.specs.declared.way.Way.{Way}
 use Rattle.ale_base.specs.declared.way.Way.TheVariants.{Outgoing, Incoming}
 use Rattle.ale_base.specs.declared.change.FieldValue.{FieldValue}
 use Rattle.ale_base.specs.declared.doc_num.DocNum.{DocNum}
+use Rattle.idoc_record.specs.declared.control.TheConstants.Control.{LEN}
 use Rattle.idoc_record.specs.Control.{is_control_table, is_number, is_direction, field_of}
 use Rattle.idoc_record.specs.declared.control_field.ControlField.TheVariants.{Tabnam, Docnum, Direct}
 use Rattle.idoc_record.specs.Data.{DataRecord, is_no_segment}
 use Rattle.unit_core.specs.declared.raw_unit_doc.RawUnitDoc.{RawUnitDoc}
 use Rattle.unit_core.specs.declared.ale_unit.AleUnit.{AleUnit}
 use Rattle.unit_core.specs.Queues.{has_name}
+use Rattle.unit_codec.specs.declared.limits.TheConstants.{MOST_NAME, MOST_DATA, MOST_SEGMENTS, MOST_QUEUES}
 use Rattle.unit_codec.specs.Kind.{Kind, plain, number, byte, sized, such_that, decoded, shaped, ◌then◌, listed}
 
 -- ---- rules
@@ -32,7 +37,7 @@ ends_in_no_blank text = is_text (trimmed text) text
 
 -- the name of a message, a kind or a field has 1 to 30 bytes
 abbrev pub is_name : List ℕ → Bool
-is_name text = is_between 1 30 (length text)
+is_name text = is_between 1 MOST_NAME (length text)
 
 -- the name of a function has 1 to 30 bytes and no blank at its end
 abbrev pub is_function : List ℕ → Bool
@@ -43,7 +48,7 @@ abbrev pub is_queue_byte : ℕ → Bool
 is_queue_byte b = is_between 33 126 b
 
 abbrev pub is_queue : List ℕ → Bool
-is_queue text = is_between 1 24 (length text) && list_all is_queue_byte text
+is_queue text = is_between 1 MAX_LEN (length text) && list_all is_queue_byte text
 
 -- the name of a segment has 1 to 30 bytes, no blank at its end, and is not that of another table
 abbrev pub is_segment : List ℕ → Bool
@@ -51,7 +56,7 @@ is_segment text = is_function text && not (is_no_segment text)
 
 -- the data of a segment are at most 1,000 bytes with no blank at their end
 abbrev pub is_segment_data : List ℕ → Bool
-is_segment_data text = nat_le (length text) 1000 && ends_in_no_blank text
+is_segment_data text = nat_le (length text) MOST_DATA && ends_in_no_blank text
 
 -- the bytes of a control record
 abbrev pub is_control : List ℕ → Bool
@@ -93,7 +98,7 @@ cause = decoded byte cause_of cause_byte (λ _. Unit {0})
 unfoldable pub tid_of : List ℕ → Option TidOf
 tid_of bytes =
     let tid : TidOf = record { system = number_of (take 8 bytes); unit = number_of (drop 4 (drop 8 bytes)) } in
-    if is_between 1 16 tid.system && (is_between 1 65536 tid.unit && is_text (spelling tid) bytes) then Some tid else None
+    if is_between 1 MAX tid.system && (is_between 1 MAX_UNIT tid.unit && is_text (spelling tid) bytes) then Some tid else None
 
 unfoldable pub tid : Kind TidOf
 tid = decoded (plain 24) tid_of spelling IsTid
@@ -137,11 +142,11 @@ unfoldable pub segment : Kind DataRecord
 segment = shaped (segment_name then λ _. segment_data) (λ p. record { segnam = p.0; sdata = p.1 }) (λ d. (d.segnam, d.sdata))
 
 unfoldable pub control : Kind (List ℕ)
-control = such_that (plain 524) is_control
+control = such_that (plain LEN) is_control
 
 -- a document has at most 10,000 segments
 abbrev pub is_few : ℕ → Bool
-is_few n = nat_le n 10000
+is_few n = nat_le n MOST_SEGMENTS
 
 unfoldable pub segments : Kind (List DataRecord)
 segments = listed (such_that (number w32) is_few) segment any
@@ -159,7 +164,7 @@ unfoldable pub sender : TidOf → Kind ℕ
 sender id = such_that byte (λ n. n == id.system)
 
 unfoldable pub receiver : ℕ → Kind ℕ
-receiver from = such_that byte (λ n. is_between 1 16 n && not (n == from))
+receiver from = such_that byte (λ n. is_between 1 MAX n && not (n == from))
 
 unfoldable pub function : Kind (List ℕ)
 function = such_that (sized w8) is_function
@@ -169,7 +174,7 @@ abbrev pub is_other : List (List ℕ) → List ℕ → Bool
 is_other front x = not (has_name x front)
 
 abbrev pub is_few_queues : ℕ → Bool
-is_few_queues n = nat_le n 8
+is_few_queues n = nat_le n MOST_QUEUES
 
 unfoldable pub queues : Kind (List (List ℕ))
 queues = listed (such_that byte is_few_queues) queue is_other

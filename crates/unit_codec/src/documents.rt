@@ -8,6 +8,7 @@ ghost use Rattle.unit_codec.specs.Condition.{AreCounted, AreDocuments, IsFieldVa
 ghost use Rattle.unit_codec.specs.Fields.{any, count, is_segment, is_segment_data, segment, segment_name, segment_data, control, segments, document, documents, field_value, field_values};
 
 use crate::fault::FieldFault;
+use crate::limits::MOST_SEGMENTS;
 use crate::lists::{Listed, put_listed, take_listed};
 use crate::put::{put_four_bytes, put_middle_text, put_name, put_short_text, put_text};
 use crate::rules::{control_of, fixed_of, is_segment, is_segment_data};
@@ -108,7 +109,7 @@ impl Unread<'_> {
         ensures { Takes (λ x. x) result self.new (control.read self.old) }
     {
         let left = self.left();
-        let bytes = self.plain::<524>()?;
+        let bytes = self.plain::<{ Control::LEN }>()?;
         match control_of(&bytes) {
             Some(control) => Ok(control),
             None => Err(FieldFault::Bad(left)),
@@ -150,7 +151,7 @@ impl Unread<'_> {
     {
         let left = self.left();
         let count = self.four_bytes()?;
-        if count > 10_000 {
+        if count > MOST_SEGMENTS {
             return Err(FieldFault::Bad(left));
         }
         take_listed(alloc, self, count)
@@ -216,7 +217,7 @@ fn put_control(into: &mut Vec<u8>, value: &Control) -> Result<(), OutOfMemory>
 /// Appends the segments of a document.
 #[tactic(auto, unfolding(crate::specs::Fields::segments, crate::specs::Kind::listed))]
 fn put_segments(into: &mut Vec<u8>, values: &Items<Data>) -> Result<(), OutOfMemory>
-    requires { length values.now ≤ 10000 }
+    requires { length values.now ≤ MOST_SEGMENTS }
     ensures { OnOk result (Puts segments values.now into.old.items into.new.items) }
 {
     put_four_bytes(into, values.len() as u32)?;

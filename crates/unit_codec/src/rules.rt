@@ -4,6 +4,7 @@ ghost use Rattle.std.specs.Prelude.{◌≡◌, ◌≤◌, false, MatchOption, Is
 ghost use Rattle.unit_core.specs.Queues.{has_name};
 ghost use Rattle.unit_codec.specs.Fields.{is_name, is_function, is_segment, is_segment_data, ends_in_no_blank, tid_of, is_queue, is_control};
 
+use crate::limits::{MOST_DATA, MOST_NAME};
 use ale_base::{Fixed, QueueName, Tid, trimmed};
 use idoc_record::{Control, read_control};
 
@@ -11,7 +12,7 @@ use idoc_record::{Control, read_control};
 pub(crate) fn is_name(text: &[u8]) -> bool
     ensures { result ≡ is_name text.now }
 {
-    1 <= text.len() && text.len() <= 30
+    1 <= text.len() && text.len() <= MOST_NAME
 }
 
 /// Whether the bytes are the name of a function: 1 to 30, of which the last is no blank.
@@ -32,7 +33,7 @@ pub(crate) fn is_segment(text: &[u8]) -> bool
 pub(crate) fn is_segment_data(text: &[u8]) -> bool
     ensures { result ≡ is_segment_data text.now }
 {
-    text.len() <= 1_000 && ends_in_no_blank(text)
+    text.len() <= MOST_DATA && ends_in_no_blank(text)
 }
 
 fn ends_in_no_blank(text: &[u8]) -> bool
@@ -57,7 +58,7 @@ pub(crate) fn queue_of(text: &[u8]) -> Option<QueueName>
 
 /// The control record of these bytes. None exactly where they are none.
 pub(crate) fn control_of(bytes: &[u8]) -> Option<Control>
-    requires { length bytes.now ≡ 524 }
+    requires { length bytes.now ≡ Control.LEN }
     ensures { MatchOption result (is_control bytes.now ≡ false) (λ control. (control ≡ bytes.now) × IsTrue (is_control bytes.now)) }
 {
     read_control(bytes).ok()
@@ -65,7 +66,7 @@ pub(crate) fn control_of(bytes: &[u8]) -> Option<Control>
 
 /// A text of at most 30 bytes, of which the last is no blank, in a field of that width.
 pub(crate) fn fixed_of(text: &[u8]) -> Fixed<30>
-    requires fits { length text.now ≤ 30 }
+    requires fits { length text.now ≤ MOST_NAME }
     requires ends { IsTrue (ends_in_no_blank text.now) }
     ensures { result ≡ text.now }
 {

@@ -8,6 +8,7 @@ ghost use Rattle.unit_codec.specs.Fields.{sender, receiver, function, queue, que
 
 use crate::documents::put_documents;
 use crate::fault::FieldFault;
+use crate::limits::MOST_QUEUES;
 use crate::lists::{Listed, put_listed, take_listed};
 use crate::put::{put_byte, put_queue_name, put_short_text, put_tid};
 use crate::rules::{fixed_of, has_name, is_function};
@@ -87,7 +88,7 @@ impl Unread<'_> {
     {
         let left = self.left();
         let count = self.byte()?;
-        if count > 8 {
+        if count > MOST_QUEUES {
             return Err(FieldFault::Bad(left));
         }
         take_listed(alloc, self, u32::from(count))
