@@ -10,3 +10,5 @@ pub mod FieldLemmas
 pub mod RecordLemmas
 -- entries are exact, and all of some bytes
 pub mod EntryLemmas
+-- what was read can be written
+pub mod ConditionLemmas

@@ -60,12 +60,12 @@ listed-put w limit kind rule xs ys n old mid new (Err fault) count same few foll
 
 -- ---- names that differ
 
-or_false : (a b : Bool) → (a || b) ≡ false → (a ≡ false) × (b ≡ false)
+pub or_false : (a b : Bool) → (a || b) ≡ false → (a ≡ false) × (b ≡ false)
 or_false true b is = absurd cc
 or_false false b is = (refl, is)
 
 -- a name that differs from another one, told from either
-differs-back : (name other : List ℕ) → pointwise nat_eq other name ≡ false → pointwise nat_eq name other ≡ false
+pub differs-back : (name other : List ℕ) → pointwise nat_eq other name ≡ false → pointwise nat_eq name other ≡ false
 differs-back name other differs =
     not_true (pointwise nat_eq name other) (λ same. let back : pointwise nat_eq other name ≡ true = (bytes_decides other name).1 (sym ((bytes_decides name other).0 same)) in cc)
 

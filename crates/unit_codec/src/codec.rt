@@ -24,6 +24,7 @@ use unit_core::Record;
 pub fn read_record(alloc: Global, bytes: &[u8]) -> Result<Record, CodecFault>
     // What is read is spelled so.
     ensures found { IfOk result (λ what. IsRecord what × (bytes.now ≡ record_spelling what)) }
+    ensures writable { IfOk result (λ what. HasSpelling what) }
     // What is spelled so is read, unless memory runs out.
     ensures only { (what : Record) → IsRecord what → bytes.now ≡ record_spelling what
         → result ≢ Err CodecFault.OutOfMemory → result ≡ Ok what }
@@ -63,6 +64,7 @@ pub fn write_record(alloc: Global, what: &Record) -> Result<Vec<u8>, OutOfMemory
 /// `Bad` comes exactly where they spell none, with a place as of `read_record`, counted from the entry's first byte.
 pub fn read_entry(alloc: Global, bytes: &[u8]) -> Result<Entry, CodecFault>
     ensures found { IfOk result (λ entry. IsEntry entry × (bytes.now ≡ entry_spelling entry)) }
+    ensures writable { IfOk result (λ entry. HasEntrySpelling entry) }
     ensures only { (entry : Entry) → IsEntry entry → bytes.now ≡ entry_spelling entry
         → result ≢ Err CodecFault.OutOfMemory → result ≡ Ok entry }
     ensures first_fault { result ≢ Err CodecFault.OutOfMemory → result ≡ entry_read_as bytes.now }
