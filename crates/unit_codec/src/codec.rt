@@ -1,6 +1,6 @@
 //! Records and entries as bytes, in both directions.
 
-ghost use Rattle.std.specs.Prelude.{◌≡◌, ◌≢◌, ◌-◌, ◌≤◌, length, IfOk, OnOk, Ok, Err};
+ghost use Rattle.std.specs.Prelude.{◌≡◌, ◌≢◌, ◌-◌, ◌≤◌, length, IfOk, OnOk, Ok, Err, MatchResult};
 ghost use Rattle.unit_core.specs.declared.records.Record.{Record};
 ghost use Rattle.unit_codec.specs.declared.entry.Entry.{Entry};
 ghost use Rattle.unit_codec.specs.Condition.{HasSpelling, HasEntrySpelling};
@@ -42,9 +42,7 @@ fn record_of(alloc: Global, bytes: &[u8]) -> Result<Record, CodecFault>
         Ok(what) => what,
         Err(fault) => return Err(fault_in(bytes, fault)),
     };
-    if from.left() != 0 {
-        return Err(bad(bytes, from.left()));
-    }
+    all_is_read(bytes, from.left())?;
     Ok(what)
 }
 
@@ -80,9 +78,7 @@ fn entry_of(alloc: Global, bytes: &[u8]) -> Result<Entry, CodecFault>
         Ok(entry) => entry,
         Err(fault) => return Err(fault_in(bytes, fault)),
     };
-    if from.left() != 0 {
-        return Err(bad(bytes, from.left()));
-    }
+    all_is_read(bytes, from.left())?;
     Ok(entry)
 }
 
@@ -95,6 +91,17 @@ pub fn write_entry(alloc: Global, entry: &Entry) -> Result<Vec<u8>, OutOfMemory>
     let mut bytes = Vec::new(alloc);
     put_entry(&mut bytes, entry)?;
     Ok(bytes)
+}
+
+/// That none of the bytes is left.
+fn all_is_read(bytes: &[u8], left: usize) -> Result<(), CodecFault>
+    requires { left ≤ length bytes.now }
+    ensures { MatchResult result (λ _. left ≡ 0) (λ fault. (left ≢ 0) × (fault ≡ CodecFault.Bad (length bytes.now - left))) }
+{
+    if left != 0 {
+        return Err(bad(bytes, left));
+    }
+    Ok(())
 }
 
 /// A field's fault in these bytes.

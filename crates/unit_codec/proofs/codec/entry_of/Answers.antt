@@ -8,7 +8,7 @@ pub fault_in-requires : goal.fault_in-requires
 fault_in-requires c =
     fault-within an_entry an_entry-exact c.args.bytes.now c.new-from.result c.take_entry.new.from (λ i. omega (arith, c.type_inv.bytes i)) c.new-from.ensures c.in-Err.fault c.in-Err.ensures
 
-pub bad-requires : goal.bad-requires
-bad-requires c =
+pub all_is_read-requires : goal.all_is_read-requires
+all_is_read-requires c =
     let within = rest-within an_entry an_entry-exact c.args.bytes.now c.new-from.result c.take_entry.new.from (λ i. omega (arith, c.type_inv.bytes i)) c.new-from.ensures c.in-Ok.entry c.in-Ok.ensures in
     omega (arith, within)
