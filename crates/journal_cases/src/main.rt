@@ -9,10 +9,13 @@ mod answer;
 mod appends;
 mod crashes;
 mod disk;
+mod logs;
+mod records;
 mod rules;
 mod side_by_side;
 mod suite;
 mod text;
+mod told;
 mod volumes;
 
 use case_form::run_folder;

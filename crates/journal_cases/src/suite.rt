@@ -3,7 +3,7 @@
 use crate::answer::Answer;
 use crate::disk::disk_of;
 use crate::rules::NO_SUCH_ITEM;
-use crate::{appends, crashes, volumes};
+use crate::{appends, crashes, logs, records, volumes};
 use ale_base::{Items, OutOfMemory};
 use ale_volumes::MemoryVolumes;
 use case_form::{CaseFault, Item, LineEnd, Outcome, Step, Suite, read_items};
@@ -42,6 +42,12 @@ fn found_by(alloc: Global, vols: &mut MemoryVolumes, item: &Item) -> Result<Vec<
         return Ok(found);
     }
     if let Answer::Text(found) = appends::answer(alloc, vols, word, rest)? {
+        return Ok(found);
+    }
+    if let Answer::Text(found) = records::answer(alloc, word, rest)? {
+        return Ok(found);
+    }
+    if let Answer::Text(found) = logs::answer(alloc, vols, word, rest)? {
         return Ok(found);
     }
     match crashes::answer(alloc, vols, word, rest)? {

@@ -1,0 +1,64 @@
+//! Items that read records and entries, and write them again.
+
+use crate::answer::Answer;
+use crate::text::{plain, put_shown, shown};
+use crate::told::told;
+use case_form::LineEnd;
+use std::alloc::{AllocError, Global};
+use unit_codec::{Entry, read_entry, read_record, write_entry, write_record};
+
+/// Answers `record` and `entry`.
+pub(crate) fn answer(alloc: Global, word: &[u8], rest: &[u8]) -> Result<Answer, LineEnd> {
+    if word == b"record".as_slice() {
+        return Ok(Answer::Text(record(alloc, rest)?));
+    }
+    if word == b"entry".as_slice() {
+        return Ok(Answer::Text(entry(alloc, rest)?));
+    }
+    Ok(Answer::Foreign)
+}
+
+/// `record TEXT`: the record that the bytes spell, and whether it is written so again; or why they spell none.
+fn record(alloc: Global, text: &[u8]) -> Result<Vec<u8>, LineEnd> {
+    let bytes = plain(alloc, text)?;
+    match read_record(alloc, bytes.as_slice()) {
+        Ok(what) => {
+            let mut found = told(alloc, &what)?;
+            let again = write_record(alloc, &what)?;
+            put_again(&mut found, again == bytes)?;
+            Ok(found)
+        }
+        Err(fault) => Ok(shown(alloc, &fault)?),
+    }
+}
+
+/// `entry TEXT`: the same of an entry.
+fn entry(alloc: Global, text: &[u8]) -> Result<Vec<u8>, LineEnd> {
+    let bytes = plain(alloc, text)?;
+    match read_entry(alloc, bytes.as_slice()) {
+        Ok(entry) => {
+            let mut found = told_entry(alloc, &entry)?;
+            let again = write_entry(alloc, &entry)?;
+            put_again(&mut found, again == bytes)?;
+            Ok(found)
+        }
+        Err(fault) => Ok(shown(alloc, &fault)?),
+    }
+}
+
+/// The text of an entry: its record, and its moment where it has one.
+pub(crate) fn told_entry(alloc: Global, entry: &Entry) -> Result<Vec<u8>, AllocError> {
+    let mut found = told(alloc, &entry.what)?;
+    if let Some(moment) = entry.moment {
+        put_shown(alloc, &mut found, "at", &moment)?;
+    }
+    Ok(found)
+}
+
+/// A line that says so where a value is not written as it was spelled.
+fn put_again(found: &mut Vec<u8>, same: bool) -> Result<(), AllocError> {
+    if same {
+        return Ok(());
+    }
+    found.extend_from_slice(b"written otherwise\n")
+}
