@@ -56,7 +56,7 @@ pub record LeavesOnlyLater {D : Type 0} (moment : D → ℕ) (images_since : D �
   pub not_after : from ≤ moment new
   pub each : (image : List ℕ) → images_since new n from image → P image
 
--- The first sync failed, and volume n is as before; or from that sync on a crash leaves of it only what has P.
+-- The first call failed, and volume n is as before; or from some moment on a crash leaves of it only what has P.
 abbrev pub LeavesOnlyFromSync : {D : Type 0} → (D → ℕ → Volume) → (D → ℕ) → (D → ℕ → ℕ → List ℕ → Type 0) → D → D → ℕ → Type 0 → (List ℕ → Type 0) → Type 0
 LeavesOnlyFromSync volume moment images_since old new n failed P = (failed × (volume new n ≡ volume old n)) ⊎ LeavesOnlyLater moment images_since old new n P
 

@@ -1,7 +1,7 @@
 //! Items that open journals of entries and append to them.
 
 ghost use Rattle.std.specs.Prelude.{◌<◌};
-ghost use Rattle.unit_codec.specs.Condition.{HasEntrySpelling};
+ghost use Rattle.unit_codec.specs.Condition.{IsWritableEntry};
 
 use crate::answer::Answer;
 use crate::records::told_entry;
@@ -62,13 +62,13 @@ fn enters(alloc: Global, vols: &mut MemoryVolumes, n: u8, text: &[u8]) -> Result
 /// Opens the journal of entries and appends one.
 fn append(alloc: Global, vols: &mut MemoryVolumes, n: u8, entry: &Entry) -> Result<Vec<u8>, LineEnd>
     requires number { n < 16 }
-    requires entry { HasEntrySpelling entry.now }
+    requires entry { IsWritableEntry entry.now }
 {
     match open(alloc, vols, n) {
         Ok((mut journal, _)) => match journal.append(vols, entry) {
             Ok(()) => {
                 let mut text = Vec::new(alloc);
-                put_shown(alloc, &mut text, "gate at", &journal.bodies.gate)?;
+                put_shown(alloc, &mut text, "gate at", &journal.gate())?;
                 Ok(text)
             }
             Err(fault) => Ok(shown(alloc, &fault)?),

@@ -20,7 +20,7 @@ use Rattle.unit_codec.specs.Fields.{is_name, is_function, is_other, name, text, 
 use Rattle.unit_codec.specs.Records.{genesis, commit, stop, put, a_record}
 use Rattle.unit_codec.specs.declared.entry.Entry.{Entry}
 use Rattle.unit_codec.specs.Entries.{an_entry}
-use Rattle.unit_codec.specs.Condition.{HasEntrySpelling, IsName, IsText, IsDocument, AreDocuments, AreQueues, IsUnit, HasDestination, IsFieldValue, AreCounted, HasSpelling}
+use Rattle.unit_codec.specs.Condition.{IsWritableEntry, IsName, IsText, IsDocument, AreDocuments, AreQueues, IsUnit, HasDestination, IsFieldValue, AreCounted, IsWritable}
 use Rattle.unit_codec.proofs.RuleLemmas.{parts, both, is_between-parts}
 use Rattle.unit_codec.proofs.ListLemmas.{or_false, differs-back}
 
@@ -106,7 +106,7 @@ unit-condition unit fits =
     }
 
 -- a record that has a spelling meets the condition on writing it
-pub record-condition : (what : Record) → a_record.Fits what → HasSpelling what
+pub record-condition : (what : Record) → a_record.Fits what → IsWritable what
 unfolding a_record genesis commit optional stop put
 record-condition (Genesis system model) fits = text-condition model fits.1
 record-condition (Commit origin docs) fits = (origin-condition origin fits.0, documents-condition docs fits.1)
@@ -129,6 +129,6 @@ record-condition (App doc) fits = tt
 record-condition (Repost doc) fits = tt
 record-condition (Model model) fits = text-condition model fits
 
-pub entry-condition : (entry : Entry) → an_entry.Fits entry → HasEntrySpelling entry
+pub entry-condition : (entry : Entry) → an_entry.Fits entry → IsWritableEntry entry
 unfolding an_entry
 entry-condition entry fits = record-condition entry.what fits.1

@@ -1,4 +1,5 @@
--- What a record must meet to have a spelling, beside what its types keep by themselves.
+-- Which records can be written: what a caller knows of a record beside what its types keep by themselves, as that a number of
+-- one byte is one. A value of a program that meets it has a spelling.
 use Rattle.std.specs.Prelude.{◌≡◌, ◌≢◌, ℕ, ◌<◌, ◌≤◌, ◌^◌, IsTrue, IfSome, List, length}
 use Rattle.std.specs.List.{AllByRecursion}
 use Rattle.ale_base.specs.declared.change.FieldValue.{FieldValue}
@@ -52,18 +53,18 @@ HasDestination Incoming destination = destination ≡ 0
 abbrev pub IsFieldValue : FieldValue → Type 0
 IsFieldValue field = IsName field.field × IsText field.value
 
--- a record has a spelling where its fields follow their rules
-abbrev pub HasSpelling : Record → Type 0
-HasSpelling (Genesis system text) = IsText text
-HasSpelling (Commit origin documents) = IfSome origin IsName × AreDocuments documents
-HasSpelling (Accept unit) = IsUnit unit
-HasSpelling (Direct unit) = IsUnit unit
-HasSpelling (Stop way destination name) = HasDestination way destination
-HasSpelling (Start way destination name) = HasDestination way destination
-HasSpelling (Put kind key fields) = IsName kind × IsText key × AreCounted fields × AllByRecursion IsFieldValue fields
-HasSpelling (Model text) = IsText text
-HasSpelling _ = Unit {0}
+-- a record can be written where its fields follow the rules that their types do not keep
+abbrev pub IsWritable : Record → Type 0
+IsWritable (Genesis system text) = IsText text
+IsWritable (Commit origin documents) = IfSome origin IsName × AreDocuments documents
+IsWritable (Accept unit) = IsUnit unit
+IsWritable (Direct unit) = IsUnit unit
+IsWritable (Stop way destination name) = HasDestination way destination
+IsWritable (Start way destination name) = HasDestination way destination
+IsWritable (Put kind key fields) = IsName kind × IsText key × AreCounted fields × AllByRecursion IsFieldValue fields
+IsWritable (Model text) = IsText text
+IsWritable _ = Unit {0}
 
--- an entry has one where its record does
-abbrev pub HasEntrySpelling : Entry → Type 0
-HasEntrySpelling entry = HasSpelling entry.what
+-- an entry can be written where its record can
+abbrev pub IsWritableEntry : Entry → Type 0
+IsWritableEntry entry = IsWritable entry.what

@@ -34,8 +34,8 @@ an_entry = record {
 }
 
 -- an entry has a spelling
-abbrev pub IsEntry : Entry → Type 0
-IsEntry entry = an_entry.Fits entry
+abbrev pub EntryHasSpelling : Entry → Type 0
+EntryHasSpelling entry = an_entry.Fits entry
 
 -- the one spelling of an entry
 abbrev pub entry_spelling : Entry → List ℕ

@@ -50,7 +50,7 @@ is_queue_byte b = is_between 33 126 b
 abbrev pub is_queue : List ℕ → Bool
 is_queue text = is_between 1 MAX_LEN (length text) && list_all is_queue_byte text
 
--- the name of a segment has 1 to 30 bytes, no blank at its end, and is not that of another table
+-- the name of a segment has 1 to 30 bytes, no blank at its end, and does not begin with `EDI_`
 abbrev pub is_segment : List ℕ → Bool
 is_segment text = is_function text && not (is_no_segment text)
 

@@ -101,8 +101,8 @@ a_record = record {
 }
 
 -- a record has a spelling
-abbrev pub IsRecord : Record → Type 0
-IsRecord what = a_record.Fits what
+abbrev pub HasSpelling : Record → Type 0
+HasSpelling what = a_record.Fits what
 
 -- the one spelling of a record
 abbrev pub record_spelling : Record → List ℕ

@@ -3,10 +3,10 @@
 ghost use Rattle.std.specs.Prelude.{◌≡◌, ◌≢◌, ◌-◌, ◌≤◌, length, IfOk, OnOk, Ok, Err, MatchResult};
 ghost use Rattle.unit_core.specs.declared.records.Record.{Record};
 ghost use Rattle.unit_codec.specs.declared.entry.Entry.{Entry};
-ghost use Rattle.unit_codec.specs.Condition.{HasSpelling, HasEntrySpelling};
-ghost use Rattle.unit_codec.specs.Records.{IsRecord, record_spelling};
+ghost use Rattle.unit_codec.specs.Condition.{IsWritable, IsWritableEntry};
+ghost use Rattle.unit_codec.specs.Records.{HasSpelling, record_spelling};
 ghost use Rattle.unit_codec.specs.Reading.{IsWithin, fault_in};
-ghost use Rattle.unit_codec.specs.Entries.{IsEntry, entry_spelling, record_read_as, entry_read_as};
+ghost use Rattle.unit_codec.specs.Entries.{EntryHasSpelling, entry_spelling, record_read_as, entry_read_as};
 
 use crate::fault::FieldFault;
 use crate::reading::{take_entry, take_record};
@@ -23,10 +23,10 @@ use unit_core::Record;
 /// record's end where bytes follow it.
 pub fn read_record(alloc: Global, bytes: &[u8]) -> Result<Record, CodecFault>
     // What is read is spelled so.
-    ensures found { IfOk result (λ what. IsRecord what × (bytes.now ≡ record_spelling what)) }
-    ensures writable { IfOk result (λ what. HasSpelling what) }
+    ensures found { IfOk result (λ what. HasSpelling what × (bytes.now ≡ record_spelling what)) }
+    ensures writable { IfOk result (λ what. IsWritable what) }
     // What is spelled so is read, unless memory runs out.
-    ensures only { (what : Record) → IsRecord what → bytes.now ≡ record_spelling what
+    ensures only { (what : Record) → HasSpelling what → bytes.now ≡ record_spelling what
         → result ≢ Err CodecFault.OutOfMemory → result ≡ Ok what }
     // Which field is the first that does not follow its rule.
     ensures first_fault { result ≢ Err CodecFault.OutOfMemory → result ≡ record_read_as bytes.now }
@@ -48,9 +48,9 @@ fn record_of(alloc: Global, bytes: &[u8]) -> Result<Record, CodecFault>
 
 /// The one spelling of a record, whose fields follow their rules.
 pub fn write_record(alloc: Global, what: &Record) -> Result<Vec<u8>, OutOfMemory>
-    requires { HasSpelling what.now }
+    requires { IsWritable what.now }
     ensures spelled { IfOk result (λ bytes. bytes.items ≡ record_spelling what.now) }
-    ensures has_spelling { OnOk result (IsRecord what.now) }
+    ensures has_spelling { OnOk result (HasSpelling what.now) }
 {
     let mut bytes = Vec::new(alloc);
     put_record(&mut bytes, what)?;
@@ -61,9 +61,9 @@ pub fn write_record(alloc: Global, what: &Record) -> Result<Vec<u8>, OutOfMemory
 ///
 /// `Bad` comes exactly where they spell none, with a place as of `read_record`, counted from the entry's first byte.
 pub fn read_entry(alloc: Global, bytes: &[u8]) -> Result<Entry, CodecFault>
-    ensures found { IfOk result (λ entry. IsEntry entry × (bytes.now ≡ entry_spelling entry)) }
-    ensures writable { IfOk result (λ entry. HasEntrySpelling entry) }
-    ensures only { (entry : Entry) → IsEntry entry → bytes.now ≡ entry_spelling entry
+    ensures found { IfOk result (λ entry. EntryHasSpelling entry × (bytes.now ≡ entry_spelling entry)) }
+    ensures writable { IfOk result (λ entry. IsWritableEntry entry) }
+    ensures only { (entry : Entry) → EntryHasSpelling entry → bytes.now ≡ entry_spelling entry
         → result ≢ Err CodecFault.OutOfMemory → result ≡ Ok entry }
     ensures first_fault { result ≢ Err CodecFault.OutOfMemory → result ≡ entry_read_as bytes.now }
 {
@@ -84,9 +84,9 @@ fn entry_of(alloc: Global, bytes: &[u8]) -> Result<Entry, CodecFault>
 
 /// The one spelling of an entry, whose record's fields follow their rules.
 pub fn write_entry(alloc: Global, entry: &Entry) -> Result<Vec<u8>, OutOfMemory>
-    requires { HasEntrySpelling entry.now }
+    requires { IsWritableEntry entry.now }
     ensures spelled { IfOk result (λ bytes. bytes.items ≡ entry_spelling entry.now) }
-    ensures has_spelling { OnOk result (IsEntry entry.now) }
+    ensures has_spelling { OnOk result (EntryHasSpelling entry.now) }
 {
     let mut bytes = Vec::new(alloc);
     put_entry(&mut bytes, entry)?;

@@ -3,7 +3,7 @@
 ghost use Rattle.std.specs.Prelude.{◌≡◌, OnOk, IfSome};
 ghost use Rattle.std.specs.List.{AllByRecursion};
 ghost use Rattle.unit_codec.specs.Kind.{Puts};
-ghost use Rattle.unit_codec.specs.Condition.{HasSpelling, HasEntrySpelling, HasDestination, IsName, IsText, AreCounted, AreDocuments, IsFieldValue};
+ghost use Rattle.unit_codec.specs.Condition.{IsWritable, IsWritableEntry, HasDestination, IsName, IsText, AreCounted, AreDocuments, IsFieldValue};
 ghost use Rattle.unit_codec.specs.Records.{spelled_as, PutsFields, genesis, commit, mark, stop, retry, put, a_record};
 ghost use Rattle.unit_codec.specs.Entries.{an_entry};
 
@@ -21,7 +21,7 @@ use unit_core::{RawUnitDoc, Record};
 /// Appends an entry.
 #[tactic(auto, unfolding(crate::specs::Entries::an_entry))]
 pub(crate) fn put_entry(into: &mut Vec<u8>, entry: &Entry) -> Result<(), OutOfMemory>
-    requires { HasEntrySpelling entry.now }
+    requires { IsWritableEntry entry.now }
     ensures { OnOk result (Puts an_entry entry.now into.old.items into.new.items) }
 {
     if let Some(moment) = entry.moment {
@@ -34,7 +34,7 @@ pub(crate) fn put_entry(into: &mut Vec<u8>, entry: &Entry) -> Result<(), OutOfMe
 /// Appends a record: its byte, and its fields.
 #[tactic(auto, unfolding(crate::specs::Records::a_record))]
 pub(crate) fn put_record(into: &mut Vec<u8>, what: &Record) -> Result<(), OutOfMemory>
-    requires { HasSpelling what.now }
+    requires { IsWritable what.now }
     ensures { OnOk result (Puts a_record what.now into.old.items into.new.items) }
 {
     put_byte(into, tag_of(what))?;
@@ -70,7 +70,7 @@ fn tag_of(what: &Record) -> u8
 /// Appends the fields of a record.
 #[tactic(auto, unfolding(crate::specs::Records::nothing))]
 fn put_fields(into: &mut Vec<u8>, what: &Record) -> Result<(), OutOfMemory>
-    requires { HasSpelling what.now }
+    requires { IsWritable what.now }
     ensures { OnOk result (PutsFields what.now into.old.items into.new.items) }
 {
     match what {

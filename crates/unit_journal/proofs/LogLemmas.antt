@@ -48,6 +48,7 @@ one_answer bytes = record {
   not_unread = λ log number stands unread.
       let f = unread.first in
       none_unread log f.front f.body f.rest stands.entries f.unread (one_log bytes (bodies_of log) unread.bodies stands.bodies unread.stands ∙ f.whole);
+  one_place = (has_one_answer bytes).one_place;
   one_fault = λ place number damaged unread. (has_one_answer bytes).not_both unread.bodies place unread.stands damaged;
   one_number = λ number other unread unread_too.
       let f = unread.first in

@@ -3,11 +3,11 @@ use Rattle.std.specs.Prelude.{◌≡◌, ℕ, ◌+◌, List, ◌∷◌, ◌++◌
 use Rattle.std.specs.List.{AllByRecursion}
 use Rattle.byte_journal.specs.Log.{Stands as StandsForBodies, DamagedAt}
 use Rattle.unit_codec.specs.declared.entry.Entry.{Entry}
-use Rattle.unit_codec.specs.Entries.{IsEntry, entry_spelling}
+use Rattle.unit_codec.specs.Entries.{EntryHasSpelling, entry_spelling}
 
 -- each entry has a spelling
 abbrev pub AreEntries : List Entry → Type 0
-AreEntries entries = AllByRecursion IsEntry entries
+AreEntries entries = AllByRecursion EntryHasSpelling entries
 
 -- the bodies of a log: the spelling of each entry
 abbrev pub bodies_of : List Entry → List (List ℕ)
@@ -20,7 +20,7 @@ pub record Stands (bytes : List ℕ) (log : List Entry) : Type 0 where
 
 -- these bytes spell no entry
 abbrev pub IsNoEntry : List ℕ → Type 0
-IsNoEntry body = (entry : Entry) → IsEntry entry → body ≡ entry_spelling entry → ⊥
+IsNoEntry body = (entry : Entry) → EntryHasSpelling entry → body ≡ entry_spelling entry → ⊥
 
 -- Among these bodies the one of this number, counted from 1, is the first that spells no entry.
 pub record IsFirstUnread (bodies : List (List ℕ)) (number : ℕ) : Type 0 where
@@ -38,10 +38,12 @@ pub record UnreadAt (bytes : List ℕ) (number : ℕ) : Type 0 where
   pub stands : StandsForBodies bytes bodies
   pub first : IsFirstUnread bodies number
 
--- Bytes stand for one log of entries at most, or are damaged, or have one body at most that is the first to spell no entry.
+-- Bytes stand for one log of entries at most, or are damaged at one place at most, or one body at most is the first that
+-- spells no entry.
 pub record HasOneAnswer (bytes : List ℕ) : Type 0 where
   pub one_log : (log other : List Entry) → Stands bytes log → Stands bytes other → log ≡ other
   pub not_damaged : (log : List Entry) (place : ℕ) → Stands bytes log → DamagedAt bytes place → ⊥
   pub not_unread : (log : List Entry) (number : ℕ) → Stands bytes log → UnreadAt bytes number → ⊥
+  pub one_place : (place other : ℕ) → DamagedAt bytes place → DamagedAt bytes other → place ≡ other
   pub one_fault : (place number : ℕ) → DamagedAt bytes place → UnreadAt bytes number → ⊥
   pub one_number : (number other : ℕ) → UnreadAt bytes number → UnreadAt bytes other → number ≡ other

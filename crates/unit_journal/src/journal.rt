@@ -6,7 +6,7 @@ ghost use Rattle.ale_volumes.specs.Faults.{CountsFault};
 ghost use Rattle.byte_journal.specs.Log.{most_bytes};
 ghost use Rattle.byte_journal.specs.Bytes.{LeavesAppended};
 ghost use Rattle.unit_codec.specs.declared.entry.Entry.{Entry};
-ghost use Rattle.unit_codec.specs.Condition.{HasEntrySpelling};
+ghost use Rattle.unit_codec.specs.Condition.{IsWritableEntry};
 ghost use Rattle.unit_codec.specs.Entries.{entry_spelling};
 
 use ale_volumes::Volumes;
@@ -19,18 +19,32 @@ use unit_codec::{Entry, write_entry};
 #[derive(Drop)]
 pub struct UnitJournal {
     alloc: Global,
-    /// The journal of the entries' spellings.
-    pub bodies: Journal,
+    /// The journal of the entries' spellings. Only `append` moves it.
+    bodies: Journal,
 }
 
 impl UnitJournal {
-    ghost use Rattle.unit_journal.specs.Settled.{IsSettled, MovesOn, IsBeforeOrAfter};
+    ghost use Rattle.unit_journal.specs.Settled.{bodies, IsSettled, MovesOn, IsBeforeOrAfter};
 
     /// A journal of entries over one of bodies.
-    pub(crate) fn over(alloc: Global, bodies: Journal) -> UnitJournal
-        ensures { result.bodies ≡ bodies }
+    pub(crate) fn over(alloc: Global, of: Journal) -> UnitJournal
+        ensures { bodies result ≡ of }
     {
-        UnitJournal { alloc, bodies }
+        UnitJournal { alloc, bodies: of }
+    }
+
+    /// The number of its volume, below 16.
+    pub fn volume(&self) -> u8
+        ensures { result ≡ (bodies self.now).volume }
+    {
+        self.bodies.volume
+    }
+
+    /// The place of the log's last gate in the volume, from 0.
+    pub fn gate(&self) -> u64
+        ensures { result ≡ (bodies self.now).gate }
+    {
+        self.bodies.gate
     }
 
     /// Adds an entry to the log. At `Ok` it is acknowledged: each crash from then on leaves it.
@@ -39,7 +53,7 @@ impl UnitJournal {
     /// written. After `Volume` the journal is to be opened again before further use. The room for the entry's bytes is
     /// taken before anything is written, so after `OutOfMemory` the log is as before.
     pub fn append<V: Volumes>(&mut self, vols: &mut V, entry: &Entry) -> Result<(), AppendFault>
-        requires entry { HasEntrySpelling entry.now }
+        requires entry { IsWritableEntry entry.now }
         requires settled { V.told → (log : List Entry) × IsSettled V.volume vols.old self.old log }
 
         // The log has one entry more.
@@ -48,22 +62,22 @@ impl UnitJournal {
         ensures moves_on { MovesOn self.old self.new entry.now result }
 
         // The volume holds what it held, the gate open, length, spelling, a closed gate, and what lay further back.
-        ensures leaves { V.told → LeavesAppended (V.volume vols.old self.old.bodies.volume).contents
-            self.old.bodies.gate (entry_spelling entry.now) (V.volume vols.new self.old.bodies.volume).contents result }
+        ensures leaves { V.told → LeavesAppended (V.volume vols.old (bodies self.old).volume).contents
+            (bodies self.old).gate (entry_spelling entry.now) (V.volume vols.new (bodies self.old).volume).contents result }
 
         // A crash at any moment of the call leaves the log from before it, with the new entry or without.
         ensures any_moment { V.told → (log : List Entry) → IsSettled V.volume vols.old self.old log →
-            LeavesOnly V.moment V.images_since vols.old vols.new self.old.bodies.volume (IsBeforeOrAfter log entry.now) }
-        ensures others { V.told → KeepsOthers V.volume V.moment V.images_since vols.old vols.new self.old.bodies.volume }
+            LeavesOnly V.moment V.images_since vols.old vols.new (bodies self.old).volume (IsBeforeOrAfter log entry.now) }
+        ensures others { V.told → KeepsOthers V.volume V.moment V.images_since vols.old vols.new (bodies self.old).volume }
 
         // When each error comes, and what is then as it was.
         ensures full { (place : ℕ) → result ≢ Err AppendFault.OutOfMemory → (result ≡ Err (AppendFault.Full place))
-            ↔ ((place ≡ self.old.bodies.gate + 6 + length (entry_spelling entry.now)) × (most_bytes < place)) }
+            ↔ ((place ≡ (bodies self.old).gate + 6 + length (entry_spelling entry.now)) × (most_bytes < place)) }
         ensures full_unwritten { (place : ℕ) → result ≡ Err (AppendFault.Full place) → vols.new ≡ vols.old }
         ensures no_memory { V.told → (log : List Entry) → IsSettled V.volume vols.old self.old log →
             IsErrOf result AppendFault.OutOfMemory → IsSettled V.volume vols.new self.new log }
         ensures faults { CountsFault (IsErrOf result AppendFault.Volume)
-            (V.faults vols.old) (V.faults vols.new) self.old.bodies.volume }
+            (V.faults vols.old) (V.faults vols.new) (bodies self.old).volume }
     {
         let body = write_entry(self.alloc, entry)?;
         self.bodies.append(vols, &body)

@@ -38,7 +38,7 @@ pub fn open<V: Volumes>(
     // What a read gives is as before, but for a gate that was closed.
     ensures leaves { V.told → LeavesOpened (V.volume vols.old n) (V.volume vols.new n) result }
 
-    // A crash at any moment of the call leaves what was handed in, or what reads as it; and only that from the sync on.
+    // A crash at any moment of the call leaves what was handed in, or what reads as it; from some moment on only the latter.
     ensures any_moment { V.told → LeavesOnly V.moment V.images_since vols.old vols.new n
         (IsLeftByOpening (V.volume vols.old n)) }
     ensures from_sync { V.told → LeavesOnlyFromSync V.volume V.moment V.images_since vols.old vols.new n

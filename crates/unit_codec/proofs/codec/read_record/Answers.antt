@@ -3,7 +3,7 @@ use Rattle.unit_codec.specs.Records.{a_record}
 use Rattle.unit_codec.proofs.RecordLemmas.{a_record-exact}
 use Rattle.unit_codec.proofs.EntryLemmas.{whole-found, whole-only}
 use Rattle.std.proofs.lemmas.Result.{IfOk-weaker}
-use Rattle.unit_codec.specs.Condition.{HasSpelling}
+use Rattle.unit_codec.specs.Condition.{IsWritable}
 use Rattle.unit_codec.proofs.ConditionLemmas.{record-condition}
 use Rattle.unit_codec.proofs.codec.read_record.Goals as goal
 
@@ -16,4 +16,4 @@ returns-clause-only c = whole-only a_record c.args.bytes.now c.record_of.result 
 pub returns-clause-writable : goal.returns-clause-writable
 returns-clause-writable c =
     let found = whole-found a_record c.args.bytes.now c.record_of.result a_record-exact (λ i. omega (arith, c.type_inv.bytes i)) c.record_of.ensures in
-    IfOk-weaker c.record_of.result _ HasSpelling (λ x f. record-condition x f.0) found
+    IfOk-weaker c.record_of.result _ IsWritable (λ x f. record-condition x f.0) found
