@@ -12,7 +12,8 @@ use Rattle.idoc_record.specs.Data.{DataRecord, IsDataRecord, is_no_segment}
 use Rattle.segment_defs.specs.declared.version.Version.{Version}
 use Rattle.segment_defs.specs.declared.definitions.Definitions.{Definitions}
 use Rattle.segment_defs.specs.declared.idoc_type.TypePlace.{TypePlace}
-use Rattle.segment_defs.specs.Name.{is_name_byte, IsSegmentName}
+use Rattle.segment_defs.specs.Name.{IsSegmentName}
+use Rattle.segment_defs.proofs.NameLemmas.{name-trimmed}
 use Rattle.segment_defs.specs.Version.{width_of, fitted}
 use Rattle.segment_defs.specs.Definitions.{AreDefinitions, found_in, version_of}
 use Rattle.segment_defs.proofs.DefinitionsLemmas.{found-exists, found-definition, version-IsVersion, fitted-fitted}
@@ -35,20 +36,6 @@ preorder-AllNodes P no_trees all = tt
 preorder-AllNodes P (tree root below after) all =
     let parts = AllByRecursion-parts P (preorder below) (preorder after) all.1 in
     (all.0, preorder-AllNodes P below parts.0, preorder-AllNodes P after parts.1)
-
-no_blank : (byte : ℕ) → is_name_byte byte ≡ true → byte == 32 ≡ false
-no_blank byte named = elim (eqb_tells byte 32) [ inl blank ↦ let never : is_name_byte byte ≡ false = ap is_name_byte blank.1 in cc | inr other ↦ other.0 ]
-
-before_name : (byte : ℕ) (name : List ℕ) → byte == 32 ≡ false → before_trimmed byte name ≡ byte ∷ name
-before_name byte [] other = ap (λ b. cond b [] (byte ∷ [])) other
-before_name byte (next ∷ name) other = refl
-
--- a name has no blank
-pub name-trimmed : (name : List ℕ) → list_all is_name_byte name ≡ true → trimmed name ≡ name
-name-trimmed [] all = refl
-name-trimmed (byte ∷ name) all =
-    let parts = and_parts (is_name_byte byte) (list_all is_name_byte name) all in
-    ap (before_trimmed byte) (name-trimmed name parts.1) ∙ before_name byte name (no_blank byte parts.0)
 
 names_segment : (name : List ℕ) → IsSegmentName name → IsTrue (not (is_no_segment name))
 names_segment [] named = absurd (nothing_short named.named.least)

@@ -1,3 +1,5 @@
+-- names: a test decides them, and they have no blank
+pub mod NameLemmas
 -- the width of a definition, by its last field
 pub mod WidthLemmas
 -- the newest definition that is not after a release

@@ -8,7 +8,8 @@ use Rattle.std.proofs.lemmas.List.{take_more, take-append-drop}
 use Rattle.std.proofs.lemmas.Option.{slice_get_read, slice_get_within, same_Some}
 use Rattle.segment_defs.specs.declared.idoc_type.TypePlace.{TypePlace}
 use Rattle.segment_defs.specs.IdocType.{upward_from, path_of, IsPreorder}
-use Rattle.segment_defs.specs.steps.Path.{path_behind}
+use Rattle.segment_defs.specs.declared.limits.TheConstants.{MOST_LEVELS}
+use Rattle.segment_defs.specs.IdocType.{path_behind}
 use Rattle.ale_base.proofs.ListLemmas.{slice_get-first, drop-first}
 use Rattle.ale_base.proofs.MemberLemmas.{Contains-cons, Contains-there}
 
@@ -206,10 +207,10 @@ walk-ends entries place levels whole above none walk =
 -- an entry with this parent may stand at a place behind a path
 abbrev CanFollow : ℕ → List ℕ → Option ℕ → Type 0
 CanFollow place before parent =
-    ForSome parent (Contains before) × (length (path_of place parent before) ≤ 99)
+    ForSome parent (Contains before) × (length (path_of place parent before) ≤ MOST_LEVELS)
 
 -- an entry with a parent can follow exactly where the walk met the parent, not too deep
-pub can_follow-decided : (place parent : ℕ) (before : List ℕ) (r : Bool) → (r ≡ true) ↔ ((1 ≤ length (upward_from parent before)) × (length (upward_from parent before) ≤ 98)) → (r ≡ true) ↔ CanFollow place before (Some parent)
+pub can_follow-decided : (place parent : ℕ) (before : List ℕ) (r : Bool) → (r ≡ true) ↔ ((1 ≤ length (upward_from parent before)) × (length (upward_from parent before) ≤ MOST_LEVELS - 1)) → (r ≡ true) ↔ CanFollow place before (Some parent)
 can_follow-decided place parent before r decided = (
   λ is. let small = decided.0 is in (
     λ other same. subst (Contains before) (same_Some parent other same) (Contains-from_some parent before small.0),

@@ -5,6 +5,7 @@ use Rattle.std.specs.Option.{option_map, option_map_or}
 use Rattle.segment_defs.specs.declared.version.Version.{Version}
 use Rattle.segment_defs.specs.declared.segment_type.SegmentType.{SegmentType}
 use Rattle.segment_defs.specs.declared.definitions.Definitions.{Definitions}
+use Rattle.segment_defs.specs.declared.limits.TheConstants.{MOST_TYPES}
 use Rattle.ale_base.specs.Text.{is_text}
 use Rattle.segment_defs.specs.Version.{field_text}
 use Rattle.segment_defs.specs.SegmentType.{IsSegmentType}
@@ -13,9 +14,9 @@ use Rattle.segment_defs.specs.SegmentType.{IsSegmentType}
 abbrev pub names_of : SegmentType → List (List ℕ)
 names_of type = type.name ∷ map (λ version. version.name) type.versions
 
--- at most 1,000 segment types, no name twice among all of types and definitions
+-- not too many segment types, no name twice among all of types and definitions
 pub record AreDefinitions (definitions : Definitions) : Type 0 where
-  pub few : length definitions.types ≤ 1000
+  pub few : length definitions.types ≤ MOST_TYPES
   pub each : AllByRecursion IsSegmentType definitions.types
   pub apart : IsDistinct is_text (flat_map names_of definitions.types)
 

@@ -5,6 +5,7 @@ use Rattle.std.specs.Option.{option_map, ForSome}
 use Rattle.segment_defs.specs.declared.definitions.Definitions.{Definitions}
 use Rattle.segment_defs.specs.declared.idoc_type.TypePlace.{TypePlace}
 use Rattle.segment_defs.specs.declared.idoc_type.IdocType.{IdocType}
+use Rattle.segment_defs.specs.declared.limits.TheConstants.{MOST_LEVELS, MOST_TIMES}
 use Rattle.segment_defs.specs.Name.{IsName}
 
 -- the place of the first entry of a segment type; the number of entries where it has none
@@ -34,13 +35,23 @@ abbrev pub path_of : ℕ → Option ℕ → List ℕ → List ℕ
 path_of place None before = place ∷ []
 path_of place (Some parent) before = place ∷ upward_from parent before
 
+-- the path of the last of some entries, where the first stands at this place, and the path of the entry before it is given
+abbrev pub path_behind : ℕ → List ℕ → List TypePlace → List ℕ
+path_behind place before [] = before
+path_behind place before (entry ∷ entries) = path_behind (suc place) (path_of place entry.parent before) entries
+
+-- the level of an entry that is open behind some entries, from 1 at the root level: it is the last of them or one above
+-- that; 0 where it is not open
+abbrev pub open_level : ℕ → List TypePlace → ℕ
+open_level place entries = length (upward_from place (path_behind 0 [] entries))
+
 -- The entries from this place on are a preorder behind the path of the entry before them: the parent of each is the
--- previous entry or one above it, or it stands at the root level. There are at most 99 levels.
+-- previous entry or one above it, or it stands at the root level. There are at most `MOST_LEVELS` levels.
 abbrev pub IsPreorder : ℕ → List ℕ → List TypePlace → Type 0
 IsPreorder place before [] = Unit {0}
 IsPreorder place before (entry ∷ entries) =
     ForSome entry.parent (Contains before)
-    × (length (path_of place entry.parent before) ≤ 99)
+    × (length (path_of place entry.parent before) ≤ MOST_LEVELS)
     × IsPreorder (suc place) (path_of place entry.parent before) entries
 
 -- An entry is of one of the segment types. Below one node of its parent it occurs at most `max` times, and at least
@@ -49,7 +60,7 @@ pub record IsEntry (definitions : Definitions) (entry : TypePlace) : Type 0 wher
   pub known : entry.segment < length definitions.types
   pub least : 1 ≤ entry.min
   pub ordered : entry.min ≤ entry.max
-  pub most : entry.max ≤ 10000
+  pub most : entry.max ≤ MOST_TIMES
   pub optional : entry.mandatory ≡ false → entry.min ≡ 1
 
 -- the first entry stands at the root level, is mandatory, and occurs once in each document

@@ -6,5 +6,3 @@ pub mod SegmentType
 pub mod Definitions
 -- hierarchies of segment types
 pub mod IdocType
--- copies of steps
-pub mod steps

@@ -4,6 +4,7 @@ use Rattle.std.specs.List.{AllByRecursion}
 use Rattle.segment_defs.specs.declared.field.Field.{Field}
 use Rattle.segment_defs.specs.declared.version.Version.{Version}
 use Rattle.segment_defs.specs.declared.segment_type.SegmentType.{SegmentType}
+use Rattle.segment_defs.specs.declared.limits.TheConstants.{MOST_VERSIONS}
 use Rattle.segment_defs.specs.Name.{IsSegmentName}
 use Rattle.segment_defs.specs.Version.{IsVersion}
 
@@ -13,11 +14,11 @@ pub record Continues (earlier newer : Version) : Type 0 where
   pub added : List Field
   pub fields : newer.fields ≡ earlier.fields ++ added
 
--- a segment type has a name, and from 1 to 32 definitions that continue each other
+-- a segment type has a name, and one or more definitions, not too many, that continue each other
 pub record IsSegmentType (type : SegmentType) : Type 0 where
   pub named : IsSegmentName type.name
   pub some : 1 ≤ length type.versions
-  pub few : length type.versions ≤ 32
+  pub few : length type.versions ≤ MOST_VERSIONS
   pub each : AllByRecursion IsVersion type.versions
   pub continued : AllPairs Continues type.versions
 

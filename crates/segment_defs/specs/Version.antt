@@ -5,6 +5,7 @@ use Rattle.ale_base.specs.Blanks.{trimmed}
 use Rattle.segment_defs.specs.declared.field.Field.{Field}
 use Rattle.segment_defs.specs.declared.version.Version.{Version}
 use Rattle.ale_base.specs.Text.{is_text}
+use Rattle.segment_defs.specs.declared.limits.TheConstants.{MOST_BYTES, MOST_FIELDS}
 use Rattle.segment_defs.specs.Name.{IsName, IsSegmentName}
 
 -- how many bytes the fields take together
@@ -16,19 +17,19 @@ abbrev pub AreLaidOut : ℕ → List Field → Type 0
 AreLaidOut offset [] = Unit {0}
 AreLaidOut offset (field ∷ fields) = (field.offset ≡ offset) × AreLaidOut (offset + field.length) fields
 
--- a field has a name, and from 1 to 1,000 bytes
+-- a field has a name, and one or more bytes, not more than all fields together may have
 pub record IsField (field : Field) : Type 0 where
   pub named : IsName field.name
   pub least : 1 ≤ field.length
-  pub most : field.length ≤ 1000
+  pub most : field.length ≤ MOST_BYTES
 
--- the fields of a definition stand side by side, have different names, and are at most 200 with at most 1,000 bytes
+-- the fields of a definition stand side by side, have different names, and neither they nor their bytes are too many
 pub record AreFields (fields : List Field) : Type 0 where
   pub each : AllByRecursion IsField fields
   pub laid_out : AreLaidOut 0 fields
   pub apart : IsDistinct is_text (map (λ field. field.name) fields)
-  pub few : length fields ≤ 200
-  pub fits : width_of fields ≤ 1000
+  pub few : length fields ≤ MOST_FIELDS
+  pub fits : width_of fields ≤ MOST_BYTES
 
 -- a definition has a name and such fields
 pub record IsVersion (version : Version) : Type 0 where

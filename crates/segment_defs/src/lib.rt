@@ -2,12 +2,13 @@
 //!
 //! Contract: what a name, a release or a field stands for is looked up exactly, in definitions and IDoc types that keep
 //! their rules, and `is_valid` tells whether the rules are kept. The definitions are in `specs/`: `Name`, `Version`,
-//! `SegmentType`, `Definitions`, `IdocType`; those in `specs/steps/` serve private functions alone.
+//! `SegmentType`, `Definitions`, `IdocType`. The limits of all of them are in `limits`.
 #![tactic(auto)]
 
 mod definitions;
 mod field;
 mod idoc_type;
+mod limits;
 mod rules;
 mod segment_type;
 mod type_no;
@@ -18,8 +19,10 @@ mod version_no;
 pub use definitions::{Definitions, cut};
 pub use field::Field;
 pub use idoc_type::{IdocType, TypePlace};
-pub use rules::{is_name, is_segment_name};
+pub use limits::{LONGEST_NAME, MOST_BYTES, MOST_FIELDS, MOST_LEVELS, MOST_TIMES, MOST_TYPES, MOST_VERSIONS};
+pub use rules::{is_name, is_name_within, is_segment_name};
 pub use segment_type::SegmentType;
 pub use type_no::TypeNo;
+pub use type_rules::levels_to;
 pub use version::Version;
 pub use version_no::VersionNo;

@@ -1,20 +1,35 @@
 //! Whether names, fields, definitions and segment types keep their rules.
 
 ghost use Rattle.std.specs.Prelude.{◌≡◌, ◌≤◌, ◌↔◌, false, length, map, AllPairs, IsTrue};
-ghost use Rattle.std.specs.List.{AllByRecursion, IsDistinct};
+ghost use Rattle.std.specs.List.{AllByRecursion, IsDistinct, list_all};
 ghost use Rattle.ale_base.specs.Text.{is_text};
-ghost use Rattle.segment_defs.specs.Name.{is_name_byte, IsName, IsSegmentName};
+ghost use Rattle.segment_defs.specs.Name.{is_name_byte, is_name_within, is_segment_name, IsName, IsSegmentName};
 ghost use Rattle.segment_defs.specs.Version.{width_of, AreLaidOut, IsField, AreFields, IsVersion};
 ghost use Rattle.segment_defs.specs.SegmentType.{Continues};
 
+use crate::limits::{LONGEST_NAME, MOST_BYTES, MOST_FIELDS, MOST_VERSIONS};
 use crate::{Field, SegmentType, Version};
 use ale_base::Items;
 
 /// Whether these bytes are a name: from 1 to 30 letters, digits, `_` and `/`.
+#[tactic(auto, using(crate::proofs::NameLemmas::IsName_decided))]
 pub fn is_name(name: &[u8]) -> bool
     ensures { IsTrue result ↔ IsName name.now }
 {
-    !name.is_empty() && name.len() <= 30 && name.iter().all(|byte| is_name_byte(*byte))
+    is_name_within(LONGEST_NAME, name)
+}
+
+/// Whether these bytes are a name of at most so many bytes.
+pub fn is_name_within(longest: usize, name: &[u8]) -> bool
+    ensures { result ≡ is_name_within longest name.now }
+{
+    !name.is_empty() && name.len() <= longest && are_name_bytes(name)
+}
+
+fn are_name_bytes(name: &[u8]) -> bool
+    ensures { result ≡ list_all is_name_byte name.now }
+{
+    name.iter().all(|byte| is_name_byte(*byte))
 }
 
 fn is_name_byte(byte: u8) -> bool
@@ -24,8 +39,10 @@ fn is_name_byte(byte: u8) -> bool
 }
 
 /// Whether these bytes are a name of a segment type or of a definition: a name that does not begin with `EDI_`.
+#[tactic(auto, using(crate::proofs::NameLemmas::IsName_decided))]
 pub fn is_segment_name(name: &[u8]) -> bool
-    ensures { IsTrue result ↔ IsSegmentName name.now }
+    ensures named { IsTrue result ↔ IsSegmentName name.now }
+    ensures decided { result ≡ is_segment_name name.now }
 {
     is_name(name) && !name.starts_with(b"EDI_")
 }
@@ -38,7 +55,7 @@ impl Field {
     pub fn is_valid(&self) -> bool
         ensures { IsTrue result ↔ IsField self.now }
     {
-        is_name(self.name.as_slice()) && self.length >= 1 && self.length <= 1000
+        is_name(self.name.as_slice()) && self.length >= 1 && usize::from(self.length) <= MOST_BYTES
     }
 }
 
@@ -59,7 +76,7 @@ impl Version {
 fn are_fields(fields: &[Field]) -> bool
     ensures { IsTrue result ↔ AreFields fields.now }
 {
-    fields.len() <= 200
+    fields.len() <= MOST_FIELDS
         && are_valid_fields(fields)
         && are_laid_out(fields)
         && are_narrow(fields)
@@ -88,11 +105,11 @@ fn are_laid_out(fields: &[Field]) -> bool
 
 /// Whether the fields take at most 1,000 bytes together.
 fn are_narrow(fields: &[Field]) -> bool
-    requires { length fields.now ≤ 200 }
-    ensures { IsTrue result ↔ (width_of fields.now ≤ 1000) }
+    requires { length fields.now ≤ MOST_FIELDS }
+    ensures { IsTrue result ↔ (width_of fields.now ≤ MOST_BYTES) }
 {
     let width: u32 = fields.iter().map(|field| u32::from(field.length)).sum();
-    width <= 1000
+    width as usize <= MOST_BYTES
 }
 
 /// Whether no two of the fields have one name.
@@ -131,11 +148,11 @@ impl SegmentType {
 
 /// Whether there are from 1 to 32 definitions, each of them valid, that continue each other.
 fn are_versions(versions: &[Version]) -> bool
-    ensures { IsTrue result ↔ ((1 ≤ length versions.now) × (length versions.now ≤ 32)
+    ensures { IsTrue result ↔ ((1 ≤ length versions.now) × (length versions.now ≤ MOST_VERSIONS)
         × AllByRecursion IsVersion versions.now × AllPairs Continues versions.now) }
 {
     !versions.is_empty()
-        && versions.len() <= 32
+        && versions.len() <= MOST_VERSIONS
         && are_valid_versions(versions)
         && continue_each_other(versions)
 }

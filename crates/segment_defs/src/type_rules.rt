@@ -6,9 +6,9 @@ ghost use Rattle.std.specs.Option.{ForSome};
 ghost use Rattle.ale_base.specs.Text.{is_text};
 ghost use Rattle.segment_defs.specs.SegmentType.{IsSegmentType};
 ghost use Rattle.segment_defs.specs.Definitions.{names_of};
-ghost use Rattle.segment_defs.specs.IdocType.{path_of, upward_from, IsEntry, IsPreorder, IsRootEntry};
-ghost use Rattle.segment_defs.specs.steps.Path.{path_behind};
+ghost use Rattle.segment_defs.specs.IdocType.{open_level, path_behind, path_of, IsEntry, IsPreorder, IsRootEntry};
 
+use crate::limits::{MOST_LEVELS, MOST_TIMES, MOST_TYPES};
 use crate::rules::is_name;
 use crate::{Definitions, IdocType, SegmentType, TypeNo, TypePlace, Version};
 use ale_base::Items;
@@ -23,7 +23,7 @@ impl Definitions {
         ensures { IsTrue result ↔ AreDefinitions self.now }
     {
         let types = self.types.as_slice();
-        types.len() <= 1000 && are_valid_types(types) && types_differ(types)
+        types.len() <= MOST_TYPES && are_valid_types(types) && types_differ(types)
     }
 }
 
@@ -131,7 +131,7 @@ impl TypePlace {
         usize::from(number) < definitions.types.len()
             && self.min >= 1
             && self.min <= self.max
-            && self.max <= 10_000
+            && self.max <= MOST_TIMES
             && (self.mandatory || self.min == 1)
     }
 }
@@ -208,19 +208,20 @@ fn are_in_preorder(entries: &[TypePlace]) -> bool
 fn can_follow(parent: Option<u16>, entries: &[TypePlace]) -> bool
     requires { IsPreorder 0 [] entries.now }
     ensures { IsTrue result ↔ (ForSome parent (Contains (path_behind 0 [] entries.now))
-        × (length (path_of (length entries.now) parent (path_behind 0 [] entries.now)) ≤ 99)) }
+        × (length (path_of (length entries.now) parent (path_behind 0 [] entries.now)) ≤ MOST_LEVELS)) }
 {
     match parent {
         None => true,
         // one more with the entry itself
-        Some(parent) => (1..=98).contains(&levels_to(usize::from(parent), entries)),
+        Some(parent) => (1..=MOST_LEVELS - 1).contains(&levels_to(usize::from(parent), entries)),
     }
 }
 
-/// The level of an entry on the path of the last one, from 1 at the root level; 0 where it is not on the path.
-fn levels_to(place: usize, entries: &[TypePlace]) -> usize
+/// The level of an entry behind which one more may hang: it is the last one or one above that. It is 1 at the root
+/// level, and 0 where the entry is closed or there is none at this place.
+pub fn levels_to(place: usize, entries: &[TypePlace]) -> usize
     requires { IsPreorder 0 [] entries.now }
-    ensures { result ≡ length (upward_from place (path_behind 0 [] entries.now)) }
+    ensures { result ≡ open_level place entries.now }
 {
     let mut levels = 0;
     let mut above = entries.len().checked_sub(1);

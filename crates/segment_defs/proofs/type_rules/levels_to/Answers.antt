@@ -1,5 +1,5 @@
 use Rattle.std.proofs.Common.{◌≡◌, ◌⊎◌, inl, inr, [], ◌<◌, length, sym, subst, rules}
-use Rattle.segment_defs.specs.steps.Path.{path_behind}
+use Rattle.segment_defs.specs.IdocType.{path_behind}
 use Rattle.segment_defs.proofs.TypeRuleLemmas.{IsWalk, walk-begins, walk-within, walk-counts, walk-passes, walk-smaller, walk-ends}
 use Rattle.segment_defs.proofs.type_rules.levels_to.Goals as goal
 use Rattle.segment_defs.proofs.type_rules.levels_to.Goals.{Joined-levels-gt0, After-map-above, then-levels-gt0, else-levels-gt0+else-at-place}

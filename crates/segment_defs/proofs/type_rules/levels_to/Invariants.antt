@@ -1,5 +1,5 @@
 use Rattle.std.proofs.Common.{[]}
-use Rattle.segment_defs.specs.steps.Path.{path_behind}
+use Rattle.segment_defs.specs.IdocType.{path_behind}
 use Rattle.segment_defs.proofs.TypeRuleLemmas.{left_above, IsWalk}
 use Rattle.segment_defs.proofs.type_rules.levels_to.Given as goal
 

@@ -1,0 +1,2 @@
+-- the system of a name
+pub mod SystemLemmas
