@@ -15,7 +15,7 @@ mod number_table;
 mod tables;
 
 pub use finding::{Cause, Finding, ReadError, at, within};
-pub use lists::{any_list_at, list_at, list_or_none_at, some_list_at};
+pub use lists::{any_list_at, list_at, list_of, list_or_none_at, some_list_at};
 pub use name_keys::{
     name_at, name_of, new_name, new_name_at, new_name_of, new_segment_name_at, reference_at,
     segment_type_at,

@@ -1,5 +1,6 @@
 //! Lists at keys.
 
+ghost use Rattle.std.specs.Prelude.{◌≤◌, length, IfOk};
 ghost use Rattle.toml.specs.View.{view, table_view, items_view};
 ghost use Rattle.model_keys.specs.Finding.{Gives};
 ghost use Rattle.model_keys.specs.Keys.{any_list_at, list_at, list_of, list_or_none_at, some_list_at, some_list_of};
@@ -9,14 +10,16 @@ use crate::tables::{get, value_at};
 use std::alloc::Global;
 use toml::{Table, Value};
 
+/// The elements of a list that stands at a key: Wrong, at the key, where the value is none, Limit where it has more than the most.
 #[tactic(auto, unfolding(crate::specs::Keys::list_of))]
-fn list_of<'t>(
+pub fn list_of<'t>(
     alloc: Global,
     most: usize,
     key: &str,
     value: &'t Value,
 ) -> Result<&'t [Value], ReadError>
-    ensures { Gives (λ values. items_view values.now) result (list_of most key.now (view value.now)) }
+    ensures given { Gives (λ values. items_view values.now) result (list_of most key.now (view value.now)) }
+    ensures few { IfOk result (λ values. length values.now ≤ most) }
 {
     match value {
         Value::Array(array) => {
@@ -36,7 +39,8 @@ fn some_list_of<'t>(
     key: &str,
     value: &'t Value,
 ) -> Result<&'t [Value], ReadError>
-    ensures { Gives (λ values. items_view values.now) result (some_list_of most key.now (view value.now)) }
+    ensures given { Gives (λ values. items_view values.now) result (some_list_of most key.now (view value.now)) }
+    ensures few { IfOk result (λ values. length values.now ≤ most) }
 {
     let values = list_of(alloc, most, key, value)?;
     if values.is_empty() {
@@ -68,7 +72,8 @@ pub fn list_at<'t>(
     key: &str,
     table: &'t Table,
 ) -> Result<&'t [Value], ReadError>
-    ensures { Gives (λ values. items_view values.now) result (list_at most key.now (table_view table.now)) }
+    ensures given { Gives (λ values. items_view values.now) result (list_at most key.now (table_view table.now)) }
+    ensures few { IfOk result (λ values. length values.now ≤ most) }
 {
     let value = value_at(alloc, table, key)?;
     list_of(alloc, most, key, value)
@@ -82,7 +87,8 @@ pub fn some_list_at<'t>(
     key: &str,
     table: &'t Table,
 ) -> Result<&'t [Value], ReadError>
-    ensures { Gives (λ values. items_view values.now) result (some_list_at most key.now (table_view table.now)) }
+    ensures given { Gives (λ values. items_view values.now) result (some_list_at most key.now (table_view table.now)) }
+    ensures few { IfOk result (λ values. length values.now ≤ most) }
 {
     let value = value_at(alloc, table, key)?;
     some_list_of(alloc, most, key, value)
@@ -96,7 +102,8 @@ pub fn list_or_none_at<'t>(
     key: &str,
     table: &'t Table,
 ) -> Result<&'t [Value], ReadError>
-    ensures { Gives (λ values. items_view values.now) result (list_or_none_at most key.now (table_view table.now)) }
+    ensures given { Gives (λ values. items_view values.now) result (list_or_none_at most key.now (table_view table.now)) }
+    ensures few { IfOk result (λ values. length values.now ≤ most) }
 {
     match get(table, key) {
         None => Ok(&[]),

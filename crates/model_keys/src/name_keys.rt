@@ -111,15 +111,15 @@ pub fn new_name(
     alloc: Global,
     path: &str,
     names: &mut Names,
-    name: &str,
+    name: &[u8],
 ) -> Result<Items<u8>, ReadError>
     ensures given { Gives (λ name. name) result (new_name path.now names.old name.now) }
     ensures added { IfOk result (λ name. names.new ≡ names.old ++ name ∷ []) }
 {
-    if !names.add(alloc, name.as_bytes())? {
+    if !names.add(alloc, name)? {
         return Err(ReadError::Found(at(alloc, Cause::Twice, path)?));
     }
-    Ok(Items::from_slice(alloc, name.as_bytes())?)
+    Ok(Items::from_slice(alloc, name)?)
 }
 
 /// A name of at most so many bytes that is new among some: Wrong, Twice, at the path. It is one of them from then on.
@@ -135,7 +135,7 @@ pub fn new_name_of(
     ensures added { IfOk result (λ name. names.new ≡ names.old ++ name ∷ []) }
 {
     let name = name_of(alloc, longest, path, value)?;
-    new_name(alloc, path, names, name)
+    new_name(alloc, path, names, name.as_bytes())
 }
 
 /// The same of the name at a key: Missing, Wrong, Twice.
@@ -167,5 +167,5 @@ pub fn new_segment_name_at(
     ensures added { IfOk result (λ name. names.new ≡ names.old ++ name ∷ []) }
 {
     let name = segment_name_at(alloc, key, table)?;
-    new_name(alloc, key, names, name)
+    new_name(alloc, key, names, name.as_bytes())
 }

@@ -1,0 +1,2 @@
+-- the fields of a segment type
+pub mod FieldLemmas

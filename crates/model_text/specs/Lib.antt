@@ -1,0 +1,4 @@
+-- the sections, in the order of the text
+pub mod Releases
+pub mod Systems
+pub mod Fields

@@ -1,0 +1,10 @@
+//! Reading a distribution model from its text, which is TOML.
+//!
+//! Contract: `read` gives exactly the model that a text says, which keeps the rules of models, or its first fault with
+//! the path to it. The definitions are in `specs/`.
+#![tactic(auto)]
+
+mod fields;
+mod keys;
+mod releases;
+mod systems;
