@@ -4,3 +4,5 @@ pub mod KeysLemmas
 pub mod SeenLemmas
 -- lists, element by element
 pub mod EachLemmas
+-- what is known of a value that a reading gave
+pub mod KeepsLemmas

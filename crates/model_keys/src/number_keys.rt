@@ -1,5 +1,6 @@
 //! Numbers and truth values at keys.
 
+ghost use Rattle.std.specs.Prelude.{◌≤◌, IfOk};
 ghost use Rattle.toml.specs.View.{view, table_view};
 ghost use Rattle.model_keys.specs.Finding.{Gives};
 ghost use Rattle.model_keys.specs.Keys.{bool_of, bool_or_at, number_of};
@@ -18,7 +19,8 @@ pub fn number_of(
     path: &str,
     value: &Value,
 ) -> Result<u64, ReadError>
-    ensures { Gives (λ number. number) result (number_of least most path.now (view value.now)) }
+    ensures given { Gives (λ number. number) result (number_of least most path.now (view value.now)) }
+    ensures within { IfOk result (λ number. (least ≤ number) × (number ≤ most)) }
 {
     if let Value::Integer(number) = value {
         let number = *number;

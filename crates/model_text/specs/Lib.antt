@@ -2,3 +2,5 @@
 pub mod Releases
 pub mod Systems
 pub mod Fields
+pub mod Segments
+pub mod Entries

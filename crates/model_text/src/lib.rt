@@ -4,7 +4,9 @@
 //! the path to it. The definitions are in `specs/`.
 #![tactic(auto)]
 
+mod entries;
 mod fields;
 mod keys;
 mod releases;
+mod segments;
 mod systems;

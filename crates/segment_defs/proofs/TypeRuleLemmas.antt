@@ -205,7 +205,7 @@ walk-ends entries place levels whole above none walk =
     counted-none place levels walk.path (sym none ∙ walk.next) ∙ walk.right
 
 -- an entry with this parent may stand at a place behind a path
-abbrev CanFollow : ℕ → List ℕ → Option ℕ → Type 0
+abbrev pub CanFollow : ℕ → List ℕ → Option ℕ → Type 0
 CanFollow place before parent =
     ForSome parent (Contains before) × (length (path_of place parent before) ≤ MOST_LEVELS)
 
@@ -219,7 +219,8 @@ can_follow-decided place parent before r decided = (
   λ can. decided.1 (upward_from-some parent before (can.0 parent refl), omega (arith, can.1)),
 )
 
-IsPreorder-join : (start : ℕ) (before : List ℕ) (front : List TypePlace) (entry : TypePlace) (place : ℕ) → place ≡ start + length front → IsPreorder start before front → CanFollow place (path_behind start before front) entry.parent → IsPreorder start before (front ++ entry ∷ [])
+-- an entry that can follow some makes a preorder with them
+pub IsPreorder-join : (start : ℕ) (before : List ℕ) (front : List TypePlace) (entry : TypePlace) (place : ℕ) → place ≡ start + length front → IsPreorder start before front → CanFollow place (path_behind start before front) entry.parent → IsPreorder start before (front ++ entry ∷ [])
 IsPreorder-join start before [] entry place at ordered can =
     let here : place ≡ start = omega arith in
     let now = subst (λ place. CanFollow place before entry.parent) here can in (now.0, now.1, tt)
