@@ -36,12 +36,16 @@ pub record AreSystems (systems : List System) : Type 0 where
 abbrev pub IsReleased : ℕ → SegmentType → Type 0
 IsReleased releases type = AllByRecursion (λ version. version.release < releases) type.versions
 
+-- the names of the IDoc types, in order
+abbrev pub idoc_type_names : List IdocType → List (List ℕ)
+idoc_type_names types = map (λ type. type.name) types
+
 -- IDoc types over these segment types, not too many of them nor of their entries, each with a name of its own
 pub record AreIdocTypes (definitions : Definitions) (types : List IdocType) : Type 0 where
   pub few : length types ≤ MOST_IDOC_TYPES
   pub each : AllByRecursion (IsIdocType definitions) types
   pub short : AllByRecursion (λ type. length type.segments ≤ MOST_ENTRIES) types
-  pub apart : IsDistinct is_text (map (λ type. type.name) types)
+  pub apart : IsDistinct is_text (idoc_type_names types)
 
 -- what a model keeps
 pub record IsModel (model : Model) : Type 0 where

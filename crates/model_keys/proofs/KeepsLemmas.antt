@@ -2,11 +2,11 @@
 use Rattle.std.specs.Prelude.{IsTrue, slice_get}
 use Rattle.std.specs.List.{AllByRecursion, IsDistinct, list_any}
 use Rattle.std.specs.Cmp.Lexicographic.{bytes_decides}
-use Rattle.std.proofs.Common.{◌≡◌, ℕ, suc, ◌+◌, ◌≤◌, ◌||◌, nat_le, nat_eq, Bool, true, false, cond, Option, Some, None, Result, Ok, Err, List, [], ◌∷◌, ◌++◌, length, position, refl, sym, ap, subst, ◌∙◌, inl, inr, arith}
-use Rattle.std.proofs.lemmas.Bool.{cases_Bool, false≢true}
+use Rattle.std.proofs.Common.{◌≡◌, ℕ, ℤ, pos, negsuc, suc, ◌+◌, ◌≤◌, ◌&&◌, ◌||◌, nat_le, nat_eq, Bool, true, false, cond, Option, Some, None, Result, Ok, Err, List, [], ◌∷◌, ◌++◌, length, position, refl, sym, ap, subst, ◌∙◌, inl, inr, arith}
+use Rattle.std.proofs.lemmas.Bool.{and_parts, cases_Bool, false≢true}
 use Rattle.std.proofs.lemmas.Bool.Decides.{nat_tests}
 use Rattle.std.proofs.lemmas.List.{length-append}
-use Rattle.toml.specs.Data.{Data, Items, no_items, item, Members, get_member, as_str, as_array, as_table}
+use Rattle.toml.specs.Data.{Data, Items, no_items, item, Members, get_member, as_str, as_array, as_integer, as_table}
 use Rattle.ale_base.specs.Text.{is_text}
 use Rattle.ale_base.proofs.ListLemmas.{IsDistinct-append}
 use Rattle.segment_defs.specs.Name.{is_name_within, is_segment_name}
@@ -16,7 +16,7 @@ use Rattle.model_keys.specs.declared.finding.Cause.TheVariants.{Missing, Unknown
 use Rattle.model_keys.specs.declared.finding.Finding.{Finding}
 use Rattle.model_keys.specs.Finding.{◌>>=◌, at, check, required, within}
 use Rattle.model_keys.specs.Each.{each}
-use Rattle.model_keys.specs.Keys.{entry_of, items_len, list_at, list_of, list_or_none_at, name_at, name_of, new_name, new_name_at, new_name_of, new_segment_name_at, only_known, or_else, reference_at, segment_name_at, segment_name_of, segment_type_at, some_list_at, some_list_of, table_of, value_at}
+use Rattle.model_keys.specs.Keys.{entry_of, items_len, list_at, list_of, list_or_none_at, name_at, name_of, new_name, new_name_at, new_name_of, new_segment_name_at, number_in, number_of, only_known, or_else, reference_at, segment_name_at, segment_name_of, segment_type_at, some_list_at, some_list_of, table_of, value_at}
 
 -- a reading that went on gave a value
 pub from_bind : {A B : Type 0} (r : Result A Finding) (f : A → Result B Finding) (y : B) → (r >>= f) ≡ Ok y → (x : A) × (r ≡ Ok x) × (f x ≡ Ok y)
@@ -205,3 +205,29 @@ some_list_at-keeps most key table ds h =
   where
     least : (a b : ℕ) → nat_le a b ≡ true → a ≤ b
     least a b is = grind (arith, nat_tests)
+
+pub list_or_none_at-keeps : (most : ℕ) (key : List ℕ) (table : Members) (ds : Items) → list_or_none_at most key table ≡ Ok ds → items_len ds ≤ most
+unfolding list_or_none_at
+list_or_none_at-keeps most key table ds h = found (get_member key table) h
+  where
+    found : (o : Option Data) → or_else no_items (list_of most key) o ≡ Ok ds → items_len ds ≤ most
+    found None is = let e : no_items ≡ ds = cc in subst (λ es. items_len es ≤ most) e (omega arith)
+    found (Some d) is = (list_of-keeps most key d ds is).1
+
+-- a number of a range
+number_in-keeps : (least most : ℕ) (path : List ℕ) (z : ℤ) (n : ℕ) → number_in least most path z ≡ Ok n → (z ≡ pos n) × (least ≤ n) × (n ≤ most)
+number_in-keeps least most path (pos k) n h =
+    let (is, e) = tested (nat_le least k && nat_le k most) k n (at Wrong path) h in
+    let parts = and_parts (nat_le least k) (nat_le k most) is in
+    (ap pos e, subst (λ i. least ≤ i) e (under least k parts.0), subst (λ i. i ≤ most) e (under k most parts.1))
+  where
+    under : (a b : ℕ) → nat_le a b ≡ true → a ≤ b
+    under a b is = grind (arith, nat_tests)
+number_in-keeps least most path (negsuc k) n h = absurd (cc)
+
+pub number_of-keeps : (least most : ℕ) (path : List ℕ) (d : Data) (n : ℕ) → number_of least most path d ≡ Ok n → (as_integer d ≡ Some (pos n)) × (least ≤ n) × (n ≤ most)
+unfolding number_of
+number_of-keeps least most path d n h =
+    let (z, t, g) = from_bind (required Wrong path (as_integer d)) (λ z. number_in least most path z) n h in
+    let (e, low, high) = number_in-keeps least most path z n g in
+    (required-ok Wrong path (as_integer d) z t ∙ ap Some e, low, high)

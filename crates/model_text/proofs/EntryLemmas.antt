@@ -60,7 +60,7 @@ parent_in-keeps types segments entries (Some d) parent h =
     subst (CanFollow (length entries) (path_behind 0 [] entries)) e (parent_of-keeps types segments entries d place p)
 
 -- an entry that was read can follow those before it
-type_place_of-follows : (types : List (List ℕ)) (entries : List TypePlace) (d : Data) (entry : TypePlace) → type_place_of types entries d ≡ Ok entry
+pub type_place_of-follows : (types : List (List ℕ)) (entries : List TypePlace) (d : Data) (entry : TypePlace) → type_place_of types entries d ≡ Ok entry
     → CanFollow (length entries) (path_behind 0 [] entries) entry.parent
 unfolding type_place_of parent_at
 type_place_of-follows types entries d entry h =

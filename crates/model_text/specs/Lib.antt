@@ -4,3 +4,7 @@ pub mod Systems
 pub mod Fields
 pub mod Segments
 pub mod Entries
+pub mod IdocTypes
+-- the whole table, and the bytes of a text
+pub mod Model
+pub mod Text

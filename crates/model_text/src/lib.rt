@@ -5,8 +5,15 @@
 #![tactic(auto)]
 
 mod entries;
+mod fault;
 mod fields;
+mod idoc_types;
 mod keys;
+mod model;
+mod reading;
 mod releases;
 mod segments;
 mod systems;
+
+pub use fault::ModelFault;
+pub use reading::read;

@@ -1,6 +1,6 @@
 -- Names: a test decides them, and they have no blank.
-use Rattle.std.specs.List.{IsDistinct, list_all, prefix_len, position_or_len}
-use Rattle.std.specs.Prelude.{Contains, IsTrue, position, slice_get, ◌↔◌}
+use Rattle.std.specs.List.{IsDistinct, list_all, position_or_len, prefix_len, starts_with}
+use Rattle.std.specs.Prelude.{Contains, IsTrue, codes, nat_eq, position, slice_get, ◌↔◌}
 use Rattle.std.specs.Option.{option_map}
 use Rattle.std.specs.Cmp.Lexicographic.{bytes_decides}
 use Rattle.std.proofs.Common.{◌≡◌, ℕ, zero, suc, ◌+◌, ◌==◌, Bool, true, false, not, cond, nat_lt, Option, Some, None, List, [], ◌∷◌, length, map, refl, sym, ap, subst, ◌∙◌, inl, inr, arith}
@@ -13,7 +13,7 @@ use Rattle.ale_base.proofs.ListLemmas.{AllByRecursion-at}
 use Rattle.ale_base.proofs.MemberLemmas.{Contains-cons, Contains-here, Contains-nil, Contains-there}
 use Rattle.ale_base.proofs.OptionLemmas.{option_map-Some}
 use Rattle.segment_defs.specs.declared.limits.TheConstants.{LONGEST_NAME}
-use Rattle.segment_defs.specs.Name.{is_name_byte, is_name_within, IsName}
+use Rattle.segment_defs.specs.Name.{is_name_byte, is_name_within, is_segment_name, IsName, IsSegmentName}
 
 -- the test decides
 pub IsName_decided : (name : List ℕ) → IsTrue (is_name_within LONGEST_NAME name) ↔ IsName name
@@ -126,3 +126,9 @@ position-none name (other ∷ names) =
     map-none : (found : Option ℕ) → option_map suc found ≡ None → found ≡ None
     map-none None is = refl
     map-none (Some place) is = cc
+
+-- the test of a segment's name decides, too
+pub IsSegmentName_decided : (name : List ℕ) → IsTrue (is_segment_name name) → IsSegmentName name
+IsSegmentName_decided name is =
+    let parts = and_parts (is_name_within LONGEST_NAME name) (not (starts_with nat_eq name (codes "EDI_"))) is in
+    record { named = (IsName_decided name).0 parts.0; own = parts.1 }

@@ -1,0 +1,13 @@
+use Rattle.std.proofs.Common.{arith, ap, length}
+use Rattle.toml.specs.View.{table_view}
+use Rattle.model_text.proofs.SystemRules.{releases_at-keeps}
+use Rattle.model_text.proofs.ModelRules.{type_names-few}
+use Rattle.model_text.proofs.model.model_of.Goals as goal
+
+pub segments_at-requires-clause-few : goal.segments_at-requires-clause-few
+segments_at-requires-clause-few c =
+    rw c.in_ok-releases.ensures.named (releases_at-keeps (table_view c.args.table.now) c.in_ok-releases.releases c.in_ok-releases.ensures.given).few
+
+pub idoc_types_at-requires : goal.idoc_types_at-requires
+idoc_types_at-requires c =
+    rw c.in_ok-segments.ensures.named (type_names-few c.in_ok-releases.releases (table_view c.args.table.now) c.in_ok-segments.segments (rw c.in_ok-releases.ensures.named at c.in_ok-segments.ensures.given))

@@ -1,0 +1,27 @@
+use Rattle.std.proofs.Common.{◌≡◌, ◌∙◌, Some, sym, ap, rules}
+use Rattle.toml.specs.View.{table_view}
+use Rattle.toml.specs.Parse.{parse_document}
+use Rattle.model_text.specs.Text.{answer, answer_to}
+use Rattle.model_text.specs.Model.{model_of}
+use Rattle.model_text.proofs.ModelRules.{model_of-keeps}
+use Rattle.model_text.proofs.ReadingLemmas.{answer_to-no_text, answer_to-text, Reads-fails}
+use Rattle.model_text.proofs.reading.read.Goals as goal
+
+pub returns-in_default-clause-said : goal.returns-in_default-clause-said
+returns-in_default-clause-said c = answer_to-no_text c.args.bytes.now c.in_default.ensures.cases.0
+
+pub returns-in-Ok-model_of-clause-said : goal.returns-in-Ok-model_of-clause-said
+returns-in-Ok-model_of-clause-said c =
+    let text = c.in-Ok.ensures.cases in
+    answer_to-text c.args.bytes.now (Some (table_view c.in-Ok-table_from_str.table)) text.1 (ap parse_document (sym text.0) ∙ c.in-Ok-table_from_str.ensures.ok)
+    ∙ ap answer c.in-Ok-model_of.ensures
+
+pub returns-clause-said : goal.returns-clause-said
+returns-clause-said c =
+    let text = c.in-Ok.ensures.cases in
+    rw c.fault_of.ensures (Reads-fails c.args.bytes.now (table_view c.in-Ok-table_from_str.table) c.in-Err-model_of.error
+    (answer_to-text c.args.bytes.now (Some (table_view c.in-Ok-table_from_str.table)) text.1 (ap parse_document (sym text.0) ∙ c.in-Ok-table_from_str.ensures.ok))
+    c.in-Err-model_of.ensures)
+
+pub returns-in-Ok-model_of-clause-kept : goal.returns-in-Ok-model_of-clause-kept
+returns-in-Ok-model_of-clause-kept c = model_of-keeps (table_view c.in-Ok-table_from_str.table) c.in-Ok-model_of.model c.in-Ok-model_of.ensures
