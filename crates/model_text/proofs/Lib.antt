@@ -20,3 +20,5 @@ pub mod SegmentRules
 pub mod IdocTypeRules
 -- the whole model
 pub mod ModelRules
+-- what a text says of a model that was read
+pub mod SaysLemmas

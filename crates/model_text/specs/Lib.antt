@@ -8,3 +8,5 @@ pub mod IdocTypes
 -- the whole table, and the bytes of a text
 pub mod Model
 pub mod Text
+-- what a text says, and no order of checks
+pub mod Says

@@ -2,6 +2,7 @@
 
 ghost use Rattle.std.specs.Prelude.{◌≡◌, IfOk};
 ghost use Rattle.dist_model.specs.Model.{IsModel};
+ghost use Rattle.model_text.specs.Says.{SaysText};
 ghost use Rattle.model_text.specs.Text.{Reads, fault_of};
 
 use crate::fault::ModelFault;
@@ -31,6 +32,7 @@ fn fault_of(error: ReadError) -> ModelFault
 pub fn read(alloc: Global, bytes: &[u8]) -> Result<Model, ModelFault>
     ensures said { Reads result bytes.now }
     ensures kept { IfOk result IsModel }
+    ensures entries { IfOk result (SaysText bytes.now) }
 {
     let Ok(text) = str::from_utf8(bytes) else {
         return Err(ModelFault::Toml);

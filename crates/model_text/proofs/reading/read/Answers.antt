@@ -5,6 +5,7 @@ use Rattle.model_text.specs.Text.{answer, answer_to}
 use Rattle.model_text.specs.Model.{model_of}
 use Rattle.model_text.proofs.ModelRules.{model_of-keeps}
 use Rattle.model_text.proofs.ReadingLemmas.{answer_to-no_text, answer_to-text, Reads-fails}
+use Rattle.model_text.proofs.SaysLemmas.{model_of-says}
 use Rattle.model_text.proofs.reading.read.Goals as goal
 
 pub returns-in_default-clause-said : goal.returns-in_default-clause-said
@@ -25,3 +26,9 @@ returns-clause-said c =
 
 pub returns-in-Ok-model_of-clause-kept : goal.returns-in-Ok-model_of-clause-kept
 returns-in-Ok-model_of-clause-kept c = model_of-keeps (table_view c.in-Ok-table_from_str.table) c.in-Ok-model_of.model c.in-Ok-model_of.ensures
+
+pub returns-in-Ok-model_of-clause-entries : goal.returns-in-Ok-model_of-clause-entries
+returns-in-Ok-model_of-clause-entries c =
+    let text = c.in-Ok.ensures.cases in
+    let table = table_view c.in-Ok-table_from_str.table in
+    (table, ap parse_document (sym text.0) ∙ c.in-Ok-table_from_str.ensures.ok, model_of-says table c.in-Ok-model_of.model c.in-Ok-model_of.ensures)
