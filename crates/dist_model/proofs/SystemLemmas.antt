@@ -1,5 +1,5 @@
 -- The system of a name.
-use Rattle.std.specs.Prelude.{Contains, IfSome, IsNone, position, slice_get, ◌↔◌, ◌⊎◌}
+use Rattle.std.specs.Prelude.{Contains, IfSome, IsNone, position, ◌↔◌, ◌⊎◌}
 use Rattle.std.specs.Option.{option_map}
 use Rattle.std.proofs.Common.{◌≡◌, ℕ, suc, ◌+◌, ◌<◌, List, Option, Some, None, refl, sym, ap, subst, ◌∙◌, inl, inr, arith}
 use Rattle.ale_base.specs.Text.{is_text}

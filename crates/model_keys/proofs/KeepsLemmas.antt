@@ -6,7 +6,7 @@ use Rattle.std.proofs.Common.{◌≡◌, ℕ, ℤ, pos, negsuc, suc, ◌+◌, �
 use Rattle.std.proofs.lemmas.Bool.{and_parts, cases_Bool, false≢true}
 use Rattle.std.proofs.lemmas.Bool.Decides.{nat_tests}
 use Rattle.std.proofs.lemmas.List.{length-append}
-use Rattle.toml.specs.Data.{Data, Items, no_items, item, Members, get_member, as_str, as_array, as_integer, as_table}
+use Rattle.toml.specs.Data.{Data, Items, no_items, item, Members, get_member, as_str, as_array, as_integer}
 use Rattle.ale_base.specs.Text.{is_text}
 use Rattle.ale_base.proofs.ListLemmas.{IsDistinct-append}
 use Rattle.segment_defs.specs.Name.{is_name_within, is_segment_name}
@@ -16,7 +16,7 @@ use Rattle.model_keys.specs.declared.finding.Cause.TheVariants.{Missing, Unknown
 use Rattle.model_keys.specs.declared.finding.Finding.{Finding}
 use Rattle.model_keys.specs.Finding.{◌>>=◌, at, check, required, within}
 use Rattle.model_keys.specs.Each.{each}
-use Rattle.model_keys.specs.Keys.{entry_of, items_len, list_at, list_of, list_or_none_at, name_at, name_of, new_name, new_name_at, new_name_of, new_segment_name_at, number_in, number_of, only_known, or_else, reference_at, segment_name_at, segment_name_of, segment_type_at, some_list_at, some_list_of, table_of, value_at}
+use Rattle.model_keys.specs.Keys.{items_len, list_of, list_or_none_at, name_at, name_of, new_name, new_name_at, new_name_of, new_segment_name_at, number_in, number_of, or_else, reference_at, segment_name_at, segment_name_of, segment_type_at, some_list_at, some_list_of, value_at}
 
 -- a reading that went on gave a value
 pub from_bind : {A B : Type 0} (r : Result A Finding) (f : A → Result B Finding) (y : B) → (r >>= f) ≡ Ok y → (x : A) × (r ≡ Ok x) × (f x ≡ Ok y)

@@ -1,7 +1,7 @@
 -- Keys that are there and that are not, and lists of values.
-use Rattle.std.proofs.Common.{◌≡◌, ℕ, suc, ◌<◌, ◌≤◌, length, List, [], ◌∷◌, Option, Some, None, Ok, Err, refl, ap, le-leb, nat_le, false, arith, Vec, Global}
+use Rattle.std.proofs.Common.{◌≡◌, ℕ, suc, ◌<◌, ◌≤◌, length, List, [], ◌∷◌, Some, None, Ok, Err, refl, ap, le-leb, nat_le, false, arith, Vec, Global}
 use Rattle.std.proofs.lemmas.Bool.Decides.{nat_tests}
-use Rattle.toml.specs.Data.{Data, Items, Members, get_member}
+use Rattle.toml.specs.Data.{Data, Members, get_member}
 use Rattle.toml.specs.View.{view, items_view}
 use Rattle.toml.specs.declared.value.Value.{Value, Array as ArrayCase}
 use Rattle.toml.proofs.Views.{view-Array}

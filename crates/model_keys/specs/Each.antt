@@ -1,5 +1,5 @@
 -- Lists, element by element.
-use Rattle.std.specs.Prelude.{ℕ, suc, List, [], ◌∷◌, ◌++◌, Result, Ok, Err}
+use Rattle.std.specs.Prelude.{ℕ, suc, List, [], ◌∷◌, ◌++◌, Result, Ok}
 use Rattle.toml.specs.Data.{Data, Items, no_items, item}
 use Rattle.model_keys.specs.declared.finding.Finding.{Finding}
 use Rattle.model_keys.specs.Finding.{◌>>=◌, within}

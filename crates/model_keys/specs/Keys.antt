@@ -14,6 +14,7 @@ only_known known no_members = Ok true
 only_known known (member key d rest) =
     if list_any (is_text key) known then only_known known rest else Err (at Unknown key)
 
+-- a table, where an entry has to be one
 unfoldable pub table_of : Data → Result Members Finding
 table_of d = required Wrong [] (as_table d)
 
@@ -56,16 +57,19 @@ any_list_at key table = do
   d ← value_at key table
   required Wrong key (as_array d)
 
+-- the same of the list at a key that has to be there
 unfoldable pub list_at : ℕ → List ℕ → Members → Result Items Finding
 list_at most key table = do
   d ← value_at key table
   list_of most key d
 
+-- and of one that is not empty
 unfoldable pub some_list_at : ℕ → List ℕ → Members → Result Items Finding
 some_list_at most key table = do
   d ← value_at key table
   some_list_of most key d
 
+-- and of one whose key may be absent: no elements then
 unfoldable pub list_or_none_at : ℕ → List ℕ → Members → Result Items Finding
 list_or_none_at most key table = or_else no_items (list_of most key) (get_member key table)
 
@@ -75,6 +79,7 @@ name_of longest path d = do
   text ← required Wrong path (as_str d)
   if is_name_within longest text then Ok text else Err (at Wrong path)
 
+-- the same at a key that has to be there
 unfoldable pub name_at : ℕ → List ℕ → Members → Result (List ℕ) Finding
 name_at longest key table = do
   d ← value_at key table
@@ -86,6 +91,7 @@ segment_name_of path d = do
   text ← required Wrong path (as_str d)
   if is_segment_name text then Ok text else Err (at Wrong path)
 
+-- the same at a key that has to be there
 unfoldable pub segment_name_at : List ℕ → Members → Result (List ℕ) Finding
 segment_name_at key table = do
   d ← value_at key table
@@ -107,16 +113,19 @@ reference_at longest key names table = do
 unfoldable pub new_name : List ℕ → List (List ℕ) → List ℕ → Result (List ℕ) Finding
 new_name path names name = if list_any (is_text name) names then Err (at Twice path) else Ok name
 
+-- a name of at most so many bytes that none of some others is
 unfoldable pub new_name_of : ℕ → List ℕ → List (List ℕ) → Data → Result (List ℕ) Finding
 new_name_of longest path names d = do
   name ← name_of longest path d
   new_name path names name
 
+-- the same at a key that has to be there
 unfoldable pub new_name_at : ℕ → List ℕ → List (List ℕ) → Members → Result (List ℕ) Finding
 new_name_at longest key names table = do
   d ← value_at key table
   new_name_of longest key names d
 
+-- the same of a name of a segment type or of a definition
 unfoldable pub new_segment_name_at : List ℕ → List (List ℕ) → Members → Result (List ℕ) Finding
 new_segment_name_at key names table = do
   name ← segment_name_at key table
@@ -127,13 +136,16 @@ abbrev pub number_in : ℕ → ℕ → List ℕ → ℤ → Result ℕ Finding
 number_in least most path (pos n) = if nat_le least n && nat_le n most then Ok n else Err (at Wrong path)
 number_in least most path (negsuc n) = Err (at Wrong path)
 
+-- a whole number of a range
 unfoldable pub number_of : ℕ → ℕ → List ℕ → Data → Result ℕ Finding
 number_of least most path d = do
   z ← required Wrong path (as_integer d)
   number_in least most path z
 
+-- a truth value
 unfoldable pub bool_of : List ℕ → Data → Result Bool Finding
 bool_of path d = required Wrong path (as_bool d)
 
+-- the truth value at a key, or another one where the key is absent
 unfoldable pub bool_or_at : Bool → List ℕ → Members → Result Bool Finding
 bool_or_at other key table = or_else other (bool_of key) (get_member key table)

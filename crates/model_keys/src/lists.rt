@@ -51,11 +51,7 @@ fn some_list_of<'t>(
 
 /// The elements of the list at a key, however many they are: Missing, Wrong where it is no list.
 #[tactic(auto, unfolding(crate::specs::Keys::any_list_at))]
-pub fn any_list_at<'t>(
-    alloc: Global,
-    key: &str,
-    table: &'t Table,
-) -> Result<&'t [Value], ReadError>
+pub fn any_list_at<'t>(alloc: Global, key: &str, table: &'t Table) -> Result<&'t [Value], ReadError>
     ensures { Gives (λ values. items_view values.now) result (any_list_at key.now (table_view table.now)) }
 {
     match value_at(alloc, table, key)? {

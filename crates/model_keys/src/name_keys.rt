@@ -47,11 +47,7 @@ pub fn name_at<'t>(
 
 /// A name of a segment type or of a definition: Wrong, at the path, where the value is none.
 #[tactic(auto, unfolding(crate::specs::Keys::segment_name_of))]
-fn segment_name_of<'t>(
-    alloc: Global,
-    path: &str,
-    value: &'t Value,
-) -> Result<&'t str, ReadError>
+fn segment_name_of<'t>(alloc: Global, path: &str, value: &'t Value) -> Result<&'t str, ReadError>
     ensures { Gives (λ name. name.now) result (segment_name_of path.now (view value.now)) }
 {
     match value {

@@ -46,12 +46,7 @@ fn bool_of(alloc: Global, path: &str, value: &Value) -> Result<bool, ReadError>
 
 /// The truth value at a key, or another one where the key is absent: Wrong where there is something else.
 #[tactic(auto, unfolding(crate::specs::Keys::bool_or_at))]
-pub fn bool_or_at(
-    alloc: Global,
-    other: bool,
-    key: &str,
-    table: &Table,
-) -> Result<bool, ReadError>
+pub fn bool_or_at(alloc: Global, other: bool, key: &str, table: &Table) -> Result<bool, ReadError>
     ensures { Gives (λ is. is) result (bool_or_at other key.now (table_view table.now)) }
 {
     match get(table, key) {

@@ -50,11 +50,7 @@ fn table_of(alloc: Global, value: &Value) -> Result<&Table, ReadError>
 /// The table of an entry. Wrong, at the entry, where it is no table; Unknown at the first key in byte order that is not
 /// known.
 #[tactic(auto, unfolding(crate::specs::Keys::entry_of))]
-pub fn entry_of<'t>(
-    alloc: Global,
-    value: &'t Value,
-    known: &[&str],
-) -> Result<&'t Table, ReadError>
+pub fn entry_of<'t>(alloc: Global, value: &'t Value, known: &[&str]) -> Result<&'t Table, ReadError>
     ensures { Gives (λ table. table_view table.now) result
         (entry_of (map (λ name. name.now) known.now) (view value.now)) }
 {

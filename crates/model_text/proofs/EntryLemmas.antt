@@ -1,20 +1,18 @@
 -- The entries of an IDoc type: a preorder, entry by entry.
-use Rattle.std.specs.Prelude.{Contains, ◌↔◌}
-use Rattle.std.specs.Option.{ForSome}
-use Rattle.std.proofs.Common.{◌≡◌, ℕ, suc, ◌+◌, ◌-◌, ◌<◌, ◌≤◌, ◌==◌, nat_le, Bool, true, false, cond, Option, Some, None, Result, Ok, Err, List, [], ◌∷◌, ◌++◌, length, map, refl, sym, ap, subst, ◌∙◌, arith}
+use Rattle.std.proofs.Common.{◌≡◌, ℕ, ◌-◌, ◌≤◌, ◌==◌, nat_le, Bool, true, false, cond, Option, Some, None, Result, Ok, Err, List, [], ◌∷◌, ◌++◌, length, map, refl, sym, ap, subst, ◌∙◌, arith}
 use Rattle.std.proofs.lemmas.Bool.Decides.{nat_tests}
 use Rattle.std.proofs.lemmas.List.{map_push}
-use Rattle.toml.specs.Data.{Data, Members, get_member, as_str}
+use Rattle.toml.specs.Data.{Data, get_member, as_str}
 use Rattle.segment_defs.specs.declared.limits.TheConstants.{MOST_LEVELS}
 use Rattle.segment_defs.specs.declared.idoc_type.TypePlace.{TypePlace}
-use Rattle.segment_defs.specs.IdocType.{open_level, path_behind, upward_from, IsPreorder}
+use Rattle.segment_defs.specs.IdocType.{open_level, path_behind, IsPreorder}
 use Rattle.segment_defs.proofs.TypeRuleLemmas.{CanFollow, can_follow-decided, IsPreorder-join}
 use Rattle.model_keys.specs.declared.finding.Finding.{Finding}
 use Rattle.model_keys.specs.declared.finding.Cause.TheVariants.{Limit, Wrong}
-use Rattle.model_keys.specs.Finding.{◌>>=◌, at, required}
+use Rattle.model_keys.specs.Finding.{at, required}
 use Rattle.model_keys.specs.Keys.{entry_of, or_else}
-use Rattle.model_keys.proofs.KeepsLemmas.{from_bind, tested, untested}
-use Rattle.model_text.specs.declared.keys.TheConstants.{ENTRY_KEYS, PARENT, TYPE}
+use Rattle.model_keys.proofs.KeepsLemmas.{from_bind, untested}
+use Rattle.model_text.specs.declared.keys.TheConstants.{ENTRY_KEYS, PARENT}
 use Rattle.model_text.specs.Entries.{entry_types, new_type_at, open_place, parent_at, parent_of, parent_place, root_of, some_parent, times_at, type_place_of}
 
 -- a test that lets another one go on
@@ -32,6 +30,7 @@ open_place-keeps entries place here h =
   where
     some : (n : ℕ) → n == 0 ≡ false → 1 ≤ n
     some n is = grind (arith, nat_tests)
+
     few : (n : ℕ) → nat_le MOST_LEVELS n ≡ false → n ≤ MOST_LEVELS - 1
     few n is = grind (arith, nat_tests)
 

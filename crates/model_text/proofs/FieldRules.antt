@@ -1,8 +1,7 @@
 -- Fields that were read keep the rules of fields.
-use Rattle.std.specs.Prelude.{IsTrue}
-use Rattle.std.specs.List.{AllByRecursion, IsDistinct, list_any}
+use Rattle.std.specs.List.{IsDistinct}
 use Rattle.std.specs.Option.{option_and_then, option_map}
-use Rattle.std.proofs.Common.{◌≡◌, ℕ, suc, ◌+◌, ◌<◌, ◌≤◌, ◌==◌, ◌&&◌, nat_lt, nat_le, Bool, true, false, cond, Option, Some, None, Ok, Err, List, [], ◌∷◌, ◌++◌, length, map, take, drop, position, refl, sym, ap, subst, ◌∙◌, append_assoc, append-nil, arith}
+use Rattle.std.proofs.Common.{◌≡◌, ℕ, ◌+◌, ◌≤◌, ◌==◌, ◌&&◌, nat_lt, nat_le, Bool, true, false, cond, Option, Some, None, Ok, List, [], ◌∷◌, ◌++◌, length, take, drop, position, refl, sym, ap, subst, ◌∙◌, append_assoc, append-nil, arith}
 use Rattle.std.proofs.lemmas.Bool.{and_parts}
 use Rattle.std.proofs.lemmas.Bool.Decides.{nat_tests}
 use Rattle.std.proofs.lemmas.List.{length-append, map_push}
@@ -13,12 +12,11 @@ use Rattle.ale_base.proofs.SnocLemmas.{AllByRecursion-snoc}
 use Rattle.ale_base.proofs.OptionLemmas.{option_map-Some}
 use Rattle.segment_defs.specs.declared.limits.TheConstants.{LONGEST_NAME, MOST_BYTES, MOST_FIELDS}
 use Rattle.segment_defs.specs.declared.field.Field.{Field}
-use Rattle.segment_defs.specs.Name.{is_name_within, IsName}
+use Rattle.segment_defs.specs.Name.{is_name_within}
 use Rattle.segment_defs.specs.Version.{width_of, AreFields, AreLaidOut, IsField}
 use Rattle.segment_defs.proofs.NameLemmas.{IsName_decided}
 use Rattle.model_keys.specs.declared.finding.Cause.TheVariants.{Limit, Wrong}
-use Rattle.model_keys.specs.Finding.{◌>>=◌, check, required}
-use Rattle.model_keys.specs.Each.{each}
+use Rattle.model_keys.specs.Finding.{check, required}
 use Rattle.model_keys.specs.Keys.{new_name}
 use Rattle.model_keys.proofs.KeepsLemmas.{check-ok, each-invariant, from_bind, is_text-symmetric, IsDistinct-push, new_name-keeps, required-ok}
 use Rattle.model_text.specs.declared.keys.TheConstants.{ADDS}
@@ -113,16 +111,20 @@ field_of-keeps fields d field are h =
   where
     least_of : (n : ℕ) (rest : List ℕ) → is_length n rest ≡ true → 1 ≤ n
     least_of n rest long = let a = and_parts (nat_le 1 n) _ long in let b = a.0 in grind (arith, nat_tests, b)
+
     most_of : (n : ℕ) (rest : List ℕ) → is_length n rest ≡ true → n ≤ MOST_BYTES
     most_of n rest long = let a = and_parts (nat_le 1 n) _ long in let b = and_parts (nat_le n MOST_BYTES) _ a.1 in let k = b.0 in grind (arith, nat_tests, k)
+
     field_is : (name : List ℕ) (n offset : ℕ) → is_name_within LONGEST_NAME name ≡ true → (rest : List ℕ) → is_length n rest ≡ true → IsField (record { name = name; offset = offset; length = n })
     field_is name n offset named rest long = record {
       named = (IsName_decided name).0 named;
       least = least_of n rest long;
       most = most_of n rest long;
     }
+
     less_few : (a b : ℕ) → b ≡ a + 1 → nat_lt a MOST_FIELDS ≡ true → b ≤ MOST_FIELDS
     less_few a b e is = grind (arith, nat_tests)
+
     less_wide : (a b : ℕ) → a ≡ b → nat_le b MOST_BYTES ≡ true → a ≤ MOST_BYTES
     less_wide a b e is = grind (arith, nat_tests)
 
@@ -132,5 +134,5 @@ pub fields_of-keeps : (earlier : List Field) (ds : Items) (all : List Field) →
 fields_of-keeps earlier ds all are h =
     each-invariant ADDS.now (λ done d. field_of done d) (λ done. AreFields done × ((added : List Field) × (done ≡ earlier ++ added)))
     (λ done d field so_far is.
-      ((field_of-keeps done d field so_far.0 is).are, (so_far.1.0 ++ field ∷ [], ap (λ fs. fs ++ field ∷ []) so_far.1.1 ∙ append_assoc earlier so_far.1.0 (field ∷ []))))
+    ((field_of-keeps done d field so_far.0 is).are, (so_far.1.0 ++ field ∷ [], ap (λ fs. fs ++ field ∷ []) so_far.1.1 ∙ append_assoc earlier so_far.1.0 (field ∷ []))))
     0 earlier ds all (are, ([], sym (append-nil earlier))) h

@@ -2,7 +2,7 @@
 use Rattle.std.specs.Prelude.{Contains, slice_get}
 use Rattle.std.specs.List.{AllByRecursion, IsDistinct, list_any}
 use Rattle.std.specs.Option.{ForSome}
-use Rattle.std.proofs.Common.{◌≡◌, ℕ, ◌+◌, ◌-◌, ◌^◌, ◌<◌, ◌≤◌, ◌==◌, nat_eq, nat_le, Bool, true, false, cond, Option, Some, None, Ok, Err, List, [], ◌∷◌, ◌++◌, length, map, refl, sym, ap, subst, ◌∙◌, arith}
+use Rattle.std.proofs.Common.{◌≡◌, ℕ, ◌-◌, ◌^◌, ◌<◌, ◌≤◌, ◌==◌, nat_eq, nat_le, Bool, true, false, cond, Option, Some, None, Ok, Err, List, [], ◌∷◌, ◌++◌, length, map, refl, sym, ap, subst, ◌∙◌, arith}
 use Rattle.std.proofs.lemmas.Bool.Decides.{nat_tests}
 use Rattle.std.proofs.lemmas.List.{map_push}
 use Rattle.std.proofs.lemmas.Option.{same_Some, slice_get_within}
@@ -19,13 +19,13 @@ use Rattle.segment_defs.proofs.NameLemmas.{IsName_decided}
 use Rattle.dist_model.specs.declared.limits.TheConstants.{MOST_ENTRIES, MOST_IDOC_TYPES}
 use Rattle.dist_model.specs.Model.{AreIdocTypes, idoc_type_names}
 use Rattle.model_keys.specs.declared.finding.Cause.TheVariants.{Twice, Wrong}
-use Rattle.model_keys.specs.Finding.{◌>>=◌, at, check}
+use Rattle.model_keys.specs.Finding.{at, check}
 use Rattle.model_keys.specs.Each.{each}
-use Rattle.model_keys.specs.Keys.{bool_or_at, entry_of, items_len, list_or_none_at, new_name_at, number_of, or_else, segment_type_at, some_list_at}
+use Rattle.model_keys.specs.Keys.{bool_or_at, entry_of, list_or_none_at, new_name_at, number_of, or_else, segment_type_at, some_list_at}
 use Rattle.model_keys.proofs.KeepsLemmas.{check-ok, each-invariant, each-length, from_bind, is_text-symmetric, IsDistinct-push, list_or_none_at-keeps, nat_eq-symmetric, new_name_at-keeps, number_of-keeps, segment_type_at-keeps, some_list_at-keeps, tested, untested}
-use Rattle.model_text.specs.declared.keys.TheConstants.{ENTRY_KEYS, IDOCTYPE, IDOCTYPE_KEYS, MANDATORY, MAX, MIN, NAME, PARENT, SEGMENT, TYPE}
-use Rattle.model_text.specs.Entries.{entries_of, entry_types, greatest_at, max_at, min_at, min_of, new_type_at, parent_at, root_of, some_parent, times_at, type_place_of}
-use Rattle.model_text.specs.IdocTypes.{idoc_type_of, idoc_types_at, idoc_types_of}
+use Rattle.model_text.specs.declared.keys.TheConstants.{ENTRY_KEYS, IDOCTYPE, IDOCTYPE_KEYS, MANDATORY, MAX, MIN, NAME, SEGMENT, TYPE}
+use Rattle.model_text.specs.Entries.{entries_of, entry_types, greatest_at, max_at, min_at, min_of, new_type_at, parent_at, root_of, times_at, type_place_of}
+use Rattle.model_text.specs.IdocTypes.{idoc_type_of, idoc_types_at}
 use Rattle.model_text.proofs.EntryLemmas.{type_place_of-follows, type_place_of-preorder}
 
 new_type_at-keeps : (types : List (List ℕ)) (segments : List ℕ) (table : Members) (segment : ℕ) → new_type_at types segments table ≡ Ok segment
@@ -204,6 +204,6 @@ idoc_types_at-keeps names definitions table types same h =
     let long = each-length IDOCTYPE.now read 0 [] ds types g in
     let few = list_or_none_at-keeps MOST_IDOC_TYPES IDOCTYPE.now table ds l in
     let are = each-invariant IDOCTYPE.now read (AreTypes definitions)
-        (λ done d type so_far is. AreTypes-push definitions done type so_far (idoc_type_of-keeps names (idoc_type_names done) definitions d type same is))
-        0 [] ds types (record { each = tt; short = tt; apart = tt }) g in
+    (λ done d type so_far is. AreTypes-push definitions done type so_far (idoc_type_of-keeps names (idoc_type_names done) definitions d type same is))
+    0 [] ds types (record { each = tt; short = tt; apart = tt }) g in
     record { few = omega (arith, long, few); each = are.each; short = are.short; apart = are.apart }

@@ -1,12 +1,11 @@
 -- A model that was read keeps all its rules.
-use Rattle.std.proofs.Common.{◌≡◌, ℕ, ◌≤◌, Ok, List, [], length, map, sym, subst, arith, Result}
+use Rattle.std.proofs.Common.{◌≡◌, ℕ, ◌≤◌, Ok, List, [], length, map, subst, arith}
 use Rattle.std.proofs.lemmas.List.{length-map}
 use Rattle.toml.specs.Data.{Members}
 use Rattle.segment_defs.specs.declared.limits.TheConstants.{MOST_TYPES}
 use Rattle.segment_defs.specs.declared.segment_type.SegmentType.{SegmentType}
 use Rattle.dist_model.specs.declared.model.Model.{Model}
 use Rattle.dist_model.specs.Model.{IsModel}
-use Rattle.model_keys.specs.Finding.{◌>>=◌}
 use Rattle.model_keys.specs.Keys.{only_known}
 use Rattle.model_keys.proofs.KeepsLemmas.{from_bind}
 use Rattle.model_text.specs.declared.keys.TheConstants.{TOP_KEYS}
@@ -33,8 +32,18 @@ model_of-keeps table model h =
     let (segments, g, h4) = from_bind (segments_at releases table) _ model h3 in
     let (types, t, h5) = from_bind (idoc_types_at (type_names segments) table) _ model h4 in
     let e : ◌≡◌ {A = Model} (record {
-      releases = releases; systems = systems; definitions = record { types = segments }; types = types;
-      kinds = []; messages = []; reduced = []; filters = []; rows = []; outbound = []; inbound = [] }) model = cc in
+      releases = releases;
+      systems = systems;
+      definitions = record { types = segments };
+      types = types;
+      kinds = [];
+      messages = [];
+      reduced = [];
+      filters = [];
+      rows = [];
+      outbound = [];
+      inbound = [];
+    }) model = cc in
     let are = segments_at-keeps releases table segments g in
     subst IsModel e (record {
       releases = releases_at-keeps table releases r;

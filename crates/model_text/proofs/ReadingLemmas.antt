@@ -1,12 +1,10 @@
 -- The answer to the bytes of a text.
-use Rattle.std.proofs.Common.{◌≡◌, ℕ, true, false, cond, Option, Some, None, Result, Ok, Err, List, refl, sym, ap, ◌∙◌, inl, inr}
+use Rattle.std.proofs.Common.{◌≡◌, ℕ, cond, Option, None, Err, List, ap, ◌∙◌, inl, inr}
 use Rattle.std.specs.Str.{is_utf8, IsUtf8}
 use Rattle.std.proofs.lemmas.Bool.{cases_Bool}
 use Rattle.std.proofs.lemmas.Str.{is_utf8-from_IsUtf8, IsUtf8-from_is_utf8}
 use Rattle.toml.specs.Parse.{parse_document}
 use Rattle.toml.specs.Data.{Members}
-use Rattle.dist_model.specs.declared.model.Model.{Model}
-use Rattle.model_keys.specs.declared.finding.Finding.{Finding}
 use Rattle.model_keys.specs.declared.finding.Cause.TheVariants as causes
 use Rattle.model_keys.specs.declared.finding.Cause.{Cause}
 use Rattle.model_keys.specs.declared.finding.ReadError.{ReadError}

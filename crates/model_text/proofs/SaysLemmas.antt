@@ -1,11 +1,11 @@
 -- A model that was read is what its text says, section by section.
-use Rattle.std.specs.Prelude.{slice_get, MatchOption, IsTrue}
+use Rattle.std.specs.Prelude.{slice_get, MatchOption}
 use Rattle.std.specs.List.{flat_map, list_any}
 use Rattle.std.specs.Option.{option_and_then}
 use Rattle.std.specs.Cmp.Lexicographic.{bytes_decides}
-use Rattle.std.proofs.Common.{◌≡◌, ℕ, pos, suc, ◌+◌, ◌-◌, ◌^◌, ◌<◌, ◌≤◌, ◌==◌, ◌&&◌, nat_eq, nat_le, nat_lt, Bool, true, false, cond, Option, Some, None, Result, Ok, Err, List, [], ◌∷◌, ◌++◌, length, map, take, drop, get_or, position, decimal, refl, sym, ap, subst, ◌∙◌, append_assoc, append-nil, drop-cons, inl, inr, arith}
+use Rattle.std.proofs.Common.{◌≡◌, ℕ, pos, suc, ◌+◌, ◌-◌, ◌^◌, ◌==◌, ◌&&◌, nat_eq, nat_le, nat_lt, Bool, true, false, cond, Option, Some, None, Result, Ok, Err, List, [], ◌∷◌, ◌++◌, length, map, take, drop, get_or, position, decimal, refl, sym, ap, subst, ◌∙◌, append_assoc, append-nil, drop-cons, arith}
 use Rattle.std.proofs.lemmas.Bool.{and_parts}
-use Rattle.std.proofs.lemmas.Bool.Decides.{nat_tests, eqb_tells}
+use Rattle.std.proofs.lemmas.Bool.Decides.{nat_tests}
 use Rattle.std.proofs.lemmas.List.{take-append-drop}
 use Rattle.std.proofs.lemmas.List.Quantifiers.{position-Some}
 use Rattle.std.proofs.lemmas.Option.{slice_get-get_or}
@@ -25,7 +25,7 @@ use Rattle.dist_model.specs.declared.limits.TheConstants.{LONGEST_RELEASE, LONGE
 use Rattle.dist_model.specs.declared.system.System.{System}
 use Rattle.dist_model.specs.declared.model.Model.{Model}
 use Rattle.dist_model.specs.Model.{idoc_type_names, system_names}
-use Rattle.model_keys.specs.declared.finding.Cause.TheVariants.{Limit, Missing, Twice, Unknown, Wrong}
+use Rattle.model_keys.specs.declared.finding.Cause.TheVariants.{Limit, Twice, Wrong}
 use Rattle.model_keys.specs.declared.finding.Finding.{Finding}
 use Rattle.model_keys.specs.Finding.{◌>>=◌, at, check, required, within}
 use Rattle.model_keys.specs.Each.{each}
@@ -34,12 +34,12 @@ use Rattle.model_keys.proofs.KeepsLemmas.{from_bind, list_of-keeps, name_of-keep
 use Rattle.model_text.specs.declared.keys.TheConstants.{ADDS, CLIENT, ENTRY_KEYS, FUNCTIONS, IDOCTYPE, IDOCTYPE_KEYS, MANDATORY, MAX, MIN, NAME, PARENT, RELEASE, RELEASES, SEGMENT, SEGMENT_KEYS, STANDARD_CLIENT, STANDARD_FUNCTION, SYSTEM, SYSTEM_KEYS, TOP_KEYS, TYPE, VERSION, VERSION_KEYS}
 use Rattle.model_text.specs.Releases.{releases_at}
 use Rattle.model_text.specs.Systems.{client_at, client_in, client_of, function_list, function_of, functions_at, system_of, systems_at}
-use Rattle.model_text.specs.Fields.{field_names, field_of, fields_of, is_length, parts_of}
+use Rattle.model_text.specs.Fields.{field_names, field_of, fields_of, parts_of}
 use Rattle.model_text.specs.Segments.{is_later, last_fields, release_at, segment_of, segments_at, type_names, version_names, version_of, versions_of}
 use Rattle.model_text.specs.Entries.{entries_of, entry_types, greatest_at, max_at, min_at, min_of, new_type_at, open_place, parent_at, parent_of, parent_place, root_of, some_parent, times_at, type_place_of}
 use Rattle.model_text.specs.IdocTypes.{idoc_type_of, idoc_types_at}
 use Rattle.model_text.specs.Model.{model_of}
-use Rattle.model_text.specs.Says.{HasList, HasListOrNone, HasText, OneForOne, SaysEntry, SaysField, SaysIdocType, SaysModel, SaysName, SaysNames, SaysParent, SaysSegment, SaysSystem, SaysVersion}
+use Rattle.model_text.specs.Says.{HasList, HasText, OneForOne, SaysEntry, SaysField, SaysIdocType, SaysModel, SaysName, SaysNames, SaysParent, SaysSegment, SaysSystem, SaysVersion}
 use Rattle.model_text.proofs.FieldRules.{HaveParts, parts_of-keeps}
 
 within-read : {A : Type 0} (key : List ℕ) (place : ℕ) (r : Result A Finding) (a : A) → within key place r ≡ Ok a → r ≡ Ok a
@@ -92,9 +92,11 @@ functions_found-says : (found : Option Data) (functions : List (List ℕ)) → o
     → MatchOption found (functions ≡ STANDARD_FUNCTION.now ∷ []) (SaysNames functions)
 functions_found-says None functions h = cc
 functions_found-says (Some d) functions h =
-    let (ds, l, g) = from_bind (list_of MOST_FUNCTIONS FUNCTIONS.now d) (λ ds. each FUNCTIONS.now (λ done d. function_of d) 0 [] ds) functions h in
-    (ds, (list_of-keeps MOST_FUNCTIONS FUNCTIONS.now d ds l).0,
-    all-says FUNCTIONS.now (λ (done : List (List ℕ)) (d : Data). function_of d) SaysName (λ done d name is. (name_of-keeps LONGEST_NAME [] d name is).0) ds functions g)
+    let (ds, l, g) = from_bind (list_of MOST_FUNCTIONS FUNCTIONS.now d) (λ ds. each FUNCTIONS.now (λ done d. function_of d) 0 [] ds) functions h in (
+      ds,
+      (list_of-keeps MOST_FUNCTIONS FUNCTIONS.now d ds l).0,
+      all-says FUNCTIONS.now (λ (done : List (List ℕ)) (d : Data). function_of d) SaysName (λ done d name is. (name_of-keeps LONGEST_NAME [] d name is).0) ds functions g,
+    )
 
 system_of-says : (names : List (List ℕ)) (before : List System) (d : Data) (system : System) → system_of names d ≡ Ok system → SaysSystem before d system
 unfolding system_of client_at functions_at
@@ -199,9 +201,12 @@ segment_of-says releases names before d type h =
       table = table;
       is = entry_of-table (map (λ key. key.now) SEGMENT_KEYS) d table t;
       name = (new_segment_name_at-keeps TYPE.now names table name n).0.text;
-      versions = (ds, (some_list_at-keeps MOST_VERSIONS VERSION.now table ds l).0,
+      versions = (
+        ds,
+        (some_list_at-keeps MOST_VERSIONS VERSION.now table ds l).0,
         all-says VERSION.now (λ (done : List Version) (d : Data). version_of releases ((names ++ name ∷ []) ++ version_names done) done d) (SaysVersion releases)
-        (λ done d version is. version_of-says releases ((names ++ name ∷ []) ++ version_names done) done d version is) ds versions v);
+            (λ done d version is. version_of-says releases ((names ++ name ∷ []) ++ version_names done) done d version is) ds versions v,
+      );
     })
 
 -- the place of a number among some
@@ -331,8 +336,11 @@ idoc_type_of-says types names before d type h =
       table = table;
       is = entry_of-table (map (λ key. key.now) IDOCTYPE_KEYS) d table t;
       name = (new_name_at-keeps LONGEST_NAME NAME.now names table name n).0.text;
-      entries = (ds, (some_list_at-keeps MOST_ENTRIES SEGMENT.now table ds l).0,
-        all-says SEGMENT.now (λ (done : List TypePlace) (d : Data). type_place_of types done d) (SaysEntry types) (type_place_of-says types) ds entries s);
+      entries = (
+        ds,
+        (some_list_at-keeps MOST_ENTRIES SEGMENT.now table ds l).0,
+        all-says SEGMENT.now (λ (done : List TypePlace) (d : Data). type_place_of types done d) (SaysEntry types) (type_place_of-says types) ds entries s,
+      );
     })
 
 list_or_none-says : (most : ℕ) (key : List ℕ) (found : Option Data) (ds : Items) → or_else no_items (list_of most key) found ≡ Ok ds → MatchOption found (ds ≡ no_items) (λ d. as_array d ≡ Some ds)
@@ -349,19 +357,41 @@ model_of-says table model h =
     let (segments, g, h4) = from_bind (or_else no_items (list_of MOST_TYPES SEGMENT.now) (get_member SEGMENT.now table) >>= (λ ds. each SEGMENT.now (λ done d. segment_of releases (flat_map names_of done) d) 0 [] ds)) _ model h3 in
     let (types, t, h5) = from_bind (or_else no_items (list_of MOST_IDOC_TYPES IDOCTYPE.now) (get_member IDOCTYPE.now table) >>= (λ ds. each IDOCTYPE.now (λ done d. idoc_type_of (type_names segments) (idoc_type_names done) d) 0 [] ds)) _ model h4 in
     let e : ◌≡◌ {A = Model} (record {
-      releases = releases; systems = systems; definitions = record { types = segments }; types = types;
-      kinds = []; messages = []; reduced = []; filters = []; rows = []; outbound = []; inbound = [] }) model = cc in
+      releases = releases;
+      systems = systems;
+      definitions = record { types = segments };
+      types = types;
+      kinds = [];
+      messages = [];
+      reduced = [];
+      filters = [];
+      rows = [];
+      outbound = [];
+      inbound = [];
+    }) model = cc in
     let (rs, rl, rg) = from_bind (some_list_at MOST_RELEASES RELEASES.now table) _ releases r in
     let (ss, sl, sg) = from_bind (some_list_at MOST_SYSTEMS SYSTEM.now table) _ systems s in
     let (gs, gl, gg) = from_bind (or_else no_items (list_of MOST_TYPES SEGMENT.now) (get_member SEGMENT.now table)) _ segments g in
     let (ts, tl, tg) = from_bind (or_else no_items (list_of MOST_IDOC_TYPES IDOCTYPE.now) (get_member IDOCTYPE.now table)) _ types t in
     subst (SaysModel table) e (record {
-      releases = (rs, (some_list_at-keeps MOST_RELEASES RELEASES.now table rs rl).0,
-        all-says RELEASES.now (λ (done : List (List ℕ)) (d : Data). new_name_of LONGEST_RELEASE [] done d) SaysName (λ done d name is. (new_name_of-keeps LONGEST_RELEASE [] done d name is).0) rs releases rg);
-      systems = (ss, (some_list_at-keeps MOST_SYSTEMS SYSTEM.now table ss sl).0,
-        all-says SYSTEM.now (λ (done : List System) (d : Data). system_of (system_names done) d) SaysSystem (λ done d system is. system_of-says (system_names done) done d system is) ss systems sg);
-      segments = (gs, list_or_none-says MOST_TYPES SEGMENT.now (get_member SEGMENT.now table) gs gl,
-        all-says SEGMENT.now (λ (done : List SegmentType) (d : Data). segment_of releases (flat_map names_of done) d) (SaysSegment releases) (λ done d type is. segment_of-says releases (flat_map names_of done) done d type is) gs segments gg);
-      types = (ts, list_or_none-says MOST_IDOC_TYPES IDOCTYPE.now (get_member IDOCTYPE.now table) ts tl,
-        all-says IDOCTYPE.now (λ (done : List IdocType) (d : Data). idoc_type_of (type_names segments) (idoc_type_names done) d) (SaysIdocType (type_names segments)) (λ done d type is. idoc_type_of-says (type_names segments) (idoc_type_names done) done d type is) ts types tg);
+      releases = (
+        rs,
+        (some_list_at-keeps MOST_RELEASES RELEASES.now table rs rl).0,
+        all-says RELEASES.now (λ (done : List (List ℕ)) (d : Data). new_name_of LONGEST_RELEASE [] done d) SaysName (λ done d name is. (new_name_of-keeps LONGEST_RELEASE [] done d name is).0) rs releases rg,
+      );
+      systems = (
+        ss,
+        (some_list_at-keeps MOST_SYSTEMS SYSTEM.now table ss sl).0,
+        all-says SYSTEM.now (λ (done : List System) (d : Data). system_of (system_names done) d) SaysSystem (λ done d system is. system_of-says (system_names done) done d system is) ss systems sg,
+      );
+      segments = (
+        gs,
+        list_or_none-says MOST_TYPES SEGMENT.now (get_member SEGMENT.now table) gs gl,
+        all-says SEGMENT.now (λ (done : List SegmentType) (d : Data). segment_of releases (flat_map names_of done) d) (SaysSegment releases) (λ done d type is. segment_of-says releases (flat_map names_of done) done d type is) gs segments gg,
+      );
+      types = (
+        ts,
+        list_or_none-says MOST_IDOC_TYPES IDOCTYPE.now (get_member IDOCTYPE.now table) ts tl,
+        all-says IDOCTYPE.now (λ (done : List IdocType) (d : Data). idoc_type_of (type_names segments) (idoc_type_names done) d) (SaysIdocType (type_names segments)) (λ done d type is. idoc_type_of-says (type_names segments) (idoc_type_names done) done d type is) ts types tg,
+      );
     })

@@ -2,7 +2,7 @@
 use Rattle.std.specs.Prelude.{slice_get}
 use Rattle.std.specs.List.{flat_map, list_any}
 use Rattle.std.specs.Option.{option_map_or}
-use Rattle.std.proofs.Common.{◌≡◌, ℕ, suc, ◌+◌, ◌-◌, ◌≤◌, ◌||◌, Bool, true, false, Some, Ok, List, [], ◌∷◌, ◌++◌, length, map, refl, sym, ap, subst, ◌∙◌, append_assoc, append-nil, not, arith}
+use Rattle.std.proofs.Common.{◌≡◌, ℕ, ◌-◌, ◌||◌, Bool, true, false, Some, Ok, List, [], ◌∷◌, ◌++◌, length, map, refl, sym, ap, subst, ◌∙◌, append_assoc, append-nil, not, arith}
 use Rattle.std.proofs.lemmas.List.{length-append, map_push}
 use Rattle.std.proofs.lemmas.List.Concat.{flat_map-cons}
 use Rattle.std.proofs.lemmas.Grind.{flat_map-append}
@@ -11,16 +11,13 @@ use Rattle.std.proofs.lemmas.Option.{slice_get_read}
 use Rattle.std.proofs.Math.Seq.{get_or-append_seam}
 use Rattle.toml.specs.Data.{Data}
 use Rattle.ale_base.specs.Text.{is_text}
-use Rattle.model_keys.specs.Finding.{◌>>=◌}
 use Rattle.model_keys.specs.Keys.{entry_of, new_segment_name_at, some_list_at}
 use Rattle.model_keys.proofs.KeepsLemmas.{from_bind, new_segment_name_at-keeps}
 use Rattle.model_text.specs.declared.keys.TheConstants.{SEGMENT_KEYS, TYPE, VERSION}
 use Rattle.segment_defs.specs.declared.limits.TheConstants.{MOST_VERSIONS}
-use Rattle.segment_defs.specs.declared.field.Field.{Field}
 use Rattle.segment_defs.specs.declared.version.Version.{Version}
 use Rattle.segment_defs.specs.declared.segment_type.SegmentType.{SegmentType}
 use Rattle.segment_defs.specs.Definitions.{names_of}
-use Rattle.segment_defs.specs.Version.{width_of}
 use Rattle.model_text.specs.Segments.{last_fields, segment_of, type_names, version_names, versions_of}
 
 or_false_parts : (a b : Bool) → (a || b) ≡ false → (a ≡ false) × (b ≡ false)
@@ -87,5 +84,5 @@ pub types-added : (releases names types after : List (List ℕ)) (segments : Lis
     → new ≡ not (list_any (is_text segment.name) types) → (new ≡ true → after ≡ types ++ segment.name ∷ []) → after ≡ type_names (segments ++ segment ∷ [])
 types-added releases names types after segments d segment new named typed is fresh added =
     let none : list_any (is_text segment.name) types ≡ false =
-        ap (list_any (is_text segment.name)) typed ∙ type_names-new releases segments d segment (ap (λ ns. segment_of releases ns d) (sym named) ∙ is) in
+    ap (list_any (is_text segment.name)) typed ∙ type_names-new releases segments d segment (ap (λ ns. segment_of releases ns d) (sym named) ∙ is) in
     added (fresh ∙ ap not none) ∙ type_names-push types segments segment typed

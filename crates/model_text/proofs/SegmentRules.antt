@@ -1,13 +1,11 @@
 -- Segment types that were read keep their rules.
-use Rattle.std.specs.Prelude.{AllPairs, IsTrue, slice_get}
+use Rattle.std.specs.Prelude.{AllPairs, slice_get}
 use Rattle.std.specs.List.{AllByRecursion, IsDistinct, flat_map, list_any}
 use Rattle.std.specs.Option.{option_map_or}
-use Rattle.std.proofs.Common.{◌≡◌, ℕ, suc, ◌+◌, ◌-◌, ◌<◌, ◌≤◌, nat_lt, Bool, true, false, cond, Some, None, Ok, Err, List, [], ◌∷◌, ◌++◌, length, get_or, map, refl, sym, ap, subst, ◌∙◌, append_assoc, append-nil, inl, inr, arith}
+use Rattle.std.proofs.Common.{◌≡◌, ℕ, ◌-◌, ◌<◌, ◌≤◌, nat_lt, true, false, cond, Some, Ok, Err, List, [], ◌∷◌, ◌++◌, length, get_or, map, refl, sym, ap, subst, ◌∙◌, append_assoc, append-nil, inl, inr, arith}
 use Rattle.std.proofs.Math.Nat.{eq-or-lt_of_le}
 use Rattle.std.proofs.lemmas.Bool.Decides.{nat_tests}
-use Rattle.std.proofs.lemmas.Grind.{flat_map-append}
 use Rattle.std.proofs.lemmas.List.{map_push}
-use Rattle.std.proofs.lemmas.List.Concat.{flat_map-cons}
 use Rattle.std.proofs.lemmas.List.Quantifiers.{all_pairs_push}
 use Rattle.std.proofs.lemmas.Option.{slice_get-get_or, slice_get_within}
 use Rattle.toml.specs.Data.{Data, Items, Members}
@@ -16,10 +14,8 @@ use Rattle.ale_base.proofs.ListLemmas.{AllByRecursion-at}
 use Rattle.ale_base.proofs.OptionLemmas.{none_or_some}
 use Rattle.ale_base.proofs.SnocLemmas.{AllByRecursion-snoc}
 use Rattle.segment_defs.specs.declared.limits.TheConstants.{MOST_TYPES, MOST_VERSIONS}
-use Rattle.segment_defs.specs.declared.field.Field.{Field}
 use Rattle.segment_defs.specs.declared.version.Version.{Version}
 use Rattle.segment_defs.specs.declared.segment_type.SegmentType.{SegmentType}
-use Rattle.segment_defs.specs.declared.definitions.Definitions.{Definitions}
 use Rattle.segment_defs.specs.Version.{AreFields, IsVersion}
 use Rattle.segment_defs.specs.SegmentType.{Continues, IsSegmentType}
 use Rattle.segment_defs.specs.Definitions.{AreDefinitions, names_of}
@@ -28,9 +24,9 @@ use Rattle.segment_defs.proofs.RuleLemmas.{Continues-trans}
 use Rattle.dist_model.specs.declared.limits.TheConstants.{LONGEST_RELEASE}
 use Rattle.dist_model.specs.Model.{IsReleased}
 use Rattle.model_keys.specs.declared.finding.Cause.TheVariants.{Wrong}
-use Rattle.model_keys.specs.Finding.{◌>>=◌, at}
+use Rattle.model_keys.specs.Finding.{at}
 use Rattle.model_keys.specs.Each.{each}
-use Rattle.model_keys.specs.Keys.{any_list_at, entry_of, items_len, list_or_none_at, new_segment_name_at, reference_at, some_list_at}
+use Rattle.model_keys.specs.Keys.{any_list_at, entry_of, list_or_none_at, new_segment_name_at, reference_at, some_list_at}
 use Rattle.model_keys.proofs.KeepsLemmas.{each-invariant, each-length, from_bind, is_text-symmetric, IsDistinct-push, list_or_none_at-keeps, new_segment_name_at-keeps, reference_at-keeps, some_list_at-keeps, tested}
 use Rattle.model_text.specs.declared.keys.TheConstants.{ADDS, NAME, RELEASE, SEGMENT, SEGMENT_KEYS, TYPE, VERSION, VERSION_KEYS}
 use Rattle.model_text.specs.Fields.{fields_of}
@@ -57,9 +53,10 @@ unfolding release_at
 release_at-keeps releases versions table release h =
     let (place, r, g) = from_bind (reference_at LONGEST_RELEASE RELEASE.now releases table) (λ place. cond (is_later place versions) (Ok place) (Err (at Wrong RELEASE.now))) release h in
     let (later, e) = tested (is_later place versions) place release (at Wrong RELEASE.now) g in
-    let (name, text, here) = reference_at-keeps LONGEST_RELEASE RELEASE.now releases table place r in
-    (subst (λ k. k < length releases) e (slice_get_within releases place name here),
-    λ last is. subst (λ k. last.release < k) e (less last.release place (sym (ap (λ last. option_map_or (λ (v : Version). nat_lt v.release place) last true) is) ∙ later)))
+    let (name, text, here) = reference_at-keeps LONGEST_RELEASE RELEASE.now releases table place r in (
+      subst (λ k. k < length releases) e (slice_get_within releases place name here),
+      λ last is. subst (λ k. last.release < k) e (less last.release place (sym (ap (λ last. option_map_or (λ (v : Version). nat_lt v.release place) last true) is) ∙ later)),
+    )
   where
     less : (a b : ℕ) → nat_lt a b ≡ true → a < b
     less a b is = grind (arith, nat_tests)
@@ -121,10 +118,10 @@ AreVersions-push releases names versions version are next = record {
   continued = all_pairs_push Continues versions version are.continued (continues-all versions version are.continued next.continues);
   released = AllByRecursion-snoc (λ (v : Version). v.release < length releases) versions version are.released next.released;
   apart =
-    let one = IsDistinct-push is_text is_text-symmetric (names ++ version_names versions) version.name are.apart next.new in
-    let grouped : (names ++ version_names versions) ++ version.name ∷ [] ≡ names ++ version_names (versions ++ version ∷ []) =
-        append_assoc names (version_names versions) (version.name ∷ []) ∙ ap (λ ns. names ++ ns) (sym (map_push (λ (v : Version). v.name) versions version)) in
-    subst (IsDistinct is_text) grouped one;
+      let one = IsDistinct-push is_text is_text-symmetric (names ++ version_names versions) version.name are.apart next.new in
+      let grouped : (names ++ version_names versions) ++ version.name ∷ [] ≡ names ++ version_names (versions ++ version ∷ []) =
+      append_assoc names (version_names versions) (version.name ∷ []) ∙ ap (λ ns. names ++ ns) (sym (map_push (λ (v : Version). v.name) versions version)) in
+      subst (IsDistinct is_text) grouped one;
 }
 
 versions_of-keeps : (releases names : List (List ℕ)) (ds : Items) (versions : List Version) → IsDistinct is_text names → versions_of releases names ds ≡ Ok versions → AreVersions releases names versions
@@ -190,6 +187,6 @@ segments_at-keeps releases table types h =
     let long = each-length SEGMENT.now read 0 [] ds types g in
     let few = list_or_none_at-keeps MOST_TYPES SEGMENT.now table ds l in
     let are = each-invariant SEGMENT.now read (AreTypes releases)
-        (λ done d type so_far is. AreTypes-push releases done type so_far (segment_of-keeps releases (flat_map names_of done) d type so_far.apart is))
-        0 [] ds types (record { each = tt; released = tt; apart = tt }) g in
+    (λ done d type so_far is. AreTypes-push releases done type so_far (segment_of-keeps releases (flat_map names_of done) d type so_far.apart is))
+    0 [] ds types (record { each = tt; released = tt; apart = tt }) g in
     (record { few = omega (arith, long, few); each = are.each; apart = are.apart }, are.released)

@@ -1,12 +1,11 @@
 -- Releases and systems that were read keep their rules.
 use Rattle.std.specs.Prelude.{IsTrue}
 use Rattle.std.specs.Char.{is_ascii_digit}
-use Rattle.std.specs.List.{AllByRecursion, IsDistinct, list_all, list_any}
-use Rattle.std.proofs.Common.{◌≡◌, ℕ, ◌≤◌, ◌&&◌, Bool, true, false, cond, Option, Some, None, Ok, Err, List, [], ◌∷◌, ◌++◌, length, map, refl, sym, ap, subst, ◌∙◌, arith}
+use Rattle.std.specs.List.{AllByRecursion, IsDistinct, list_any}
+use Rattle.std.proofs.Common.{◌≡◌, ℕ, ◌≤◌, ◌&&◌, Bool, true, false, cond, Option, Some, None, Ok, List, [], ◌∷◌, length, map, refl, sym, subst, arith}
 use Rattle.std.proofs.lemmas.Bool.{and_parts}
-use Rattle.std.proofs.lemmas.Bool.Decides.{nat_tests}
 use Rattle.std.proofs.lemmas.List.{map_push}
-use Rattle.toml.specs.Data.{Data, Items, Members, get_member, as_str}
+use Rattle.toml.specs.Data.{Data, Members, get_member, as_str}
 use Rattle.ale_base.specs.Text.{is_text}
 use Rattle.ale_base.proofs.SnocLemmas.{AllByRecursion-snoc}
 use Rattle.segment_defs.specs.declared.limits.TheConstants.{LONGEST_NAME}
@@ -17,13 +16,13 @@ use Rattle.dist_model.specs.declared.system.System.{System}
 use Rattle.dist_model.specs.System.{IsClient, IsSystem}
 use Rattle.dist_model.specs.Model.{AreReleases, AreSystems, system_names}
 use Rattle.model_keys.specs.declared.finding.Cause.TheVariants.{Wrong}
-use Rattle.model_keys.specs.Finding.{◌>>=◌, required}
+use Rattle.model_keys.specs.Finding.{required}
 use Rattle.model_keys.specs.Each.{each}
-use Rattle.model_keys.specs.Keys.{entry_of, items_len, list_of, name_of, new_name_at, new_name_of, or_else, some_list_at}
+use Rattle.model_keys.specs.Keys.{entry_of, list_of, new_name_at, new_name_of, or_else, some_list_at}
 use Rattle.model_keys.proofs.KeepsLemmas.{each-invariant, each-length, from_bind, is_text-symmetric, IsDistinct-push, list_of-keeps, name_of-keeps, new_name_at-keeps, new_name_of-keeps, required-ok, some_list_at-keeps}
 use Rattle.model_text.specs.declared.keys.TheConstants.{CLIENT, FUNCTIONS, NAME, RELEASES, STANDARD_CLIENT, STANDARD_FUNCTION, SYSTEM, SYSTEM_KEYS}
 use Rattle.model_text.specs.Releases.{releases_at}
-use Rattle.model_text.specs.Systems.{client_at, client_in, client_of, function_list, function_of, functions_at, functions_of, system_of, systems_at}
+use Rattle.model_text.specs.Systems.{client_at, client_in, client_of, function_list, function_of, functions_at, system_of, systems_at}
 
 abbrev IsReleaseName : List ℕ → Type 0
 IsReleaseName name = IsTrue (is_name_within LONGEST_RELEASE name)
@@ -36,9 +35,9 @@ releases_at-keeps table releases h =
     let read = λ (done : List (List ℕ)) (d : Data). new_name_of LONGEST_RELEASE [] done d in
     let long = each-length RELEASES.now read 0 [] ds releases g in
     let kept = each-invariant RELEASES.now read (λ done. AllByRecursion IsReleaseName done × IsDistinct is_text done)
-        (λ done d name so_far is. let new = new_name_of-keeps LONGEST_RELEASE [] done d name is in
-          (AllByRecursion-snoc IsReleaseName done name so_far.0 new.1, IsDistinct-push is_text is_text-symmetric done name so_far.1 new.2))
-        0 [] ds releases (tt, tt) g in record {
+    (λ done d name so_far is. let new = new_name_of-keeps LONGEST_RELEASE [] done d name is in
+    (AllByRecursion-snoc IsReleaseName done name so_far.0 new.1, IsDistinct-push is_text is_text-symmetric done name so_far.1 new.2))
+    0 [] ds releases (tt, tt) g in record {
       some = omega (arith, list.1, long);
       few = omega (arith, list.2, long);
       each = kept.0;
@@ -86,11 +85,12 @@ functions_found-keeps (Some d) functions h =
     let (ds, l, g) = from_bind (list_of MOST_FUNCTIONS FUNCTIONS.now d) (λ ds. each FUNCTIONS.now (λ done d. function_of d) 0 [] ds) functions h in
     let read = λ (done : List (List ℕ)) (d : Data). function_of d in
     let long = each-length FUNCTIONS.now read 0 [] ds functions g in
-    let few = (list_of-keeps MOST_FUNCTIONS FUNCTIONS.now d ds l).1 in
-    (omega (arith, long, few),
-    each-invariant FUNCTIONS.now read (AllByRecursion IsName)
-    (λ done d name so_far is. AllByRecursion-snoc IsName done name so_far ((IsName_decided name).0 (name_of-keeps LONGEST_NAME [] d name is).1))
-    0 [] ds functions tt g)
+    let few = (list_of-keeps MOST_FUNCTIONS FUNCTIONS.now d ds l).1 in (
+      omega (arith, long, few),
+      each-invariant FUNCTIONS.now read (AllByRecursion IsName)
+          (λ done d name so_far is. AllByRecursion-snoc IsName done name so_far ((IsName_decided name).0 (name_of-keeps LONGEST_NAME [] d name is).1))
+          0 [] ds functions tt g,
+    )
 
 system_of-keeps : (names : List (List ℕ)) (d : Data) (system : System) → system_of names d ≡ Ok system → IsSystem system × (list_any (is_text system.name) names ≡ false)
 unfolding system_of client_at functions_at
@@ -113,10 +113,11 @@ systems_at-keeps table systems h =
     let read = λ (done : List System) (d : Data). system_of (system_names done) d in
     let long = each-length SYSTEM.now read 0 [] ds systems g in
     let kept = each-invariant SYSTEM.now read (λ done. AllByRecursion IsSystem done × IsDistinct is_text (system_names done))
-        (λ done d system so_far is. let own = system_of-keeps (system_names done) d system is in
-          (AllByRecursion-snoc IsSystem done system so_far.0 own.0,
-          subst (IsDistinct is_text) (sym (map_push (λ (s : System). s.name) done system)) (IsDistinct-push is_text is_text-symmetric (system_names done) system.name so_far.1 own.1)))
-        0 [] ds systems (tt, tt) g in record {
+    (λ done d system so_far is. let own = system_of-keeps (system_names done) d system is in (
+      AllByRecursion-snoc IsSystem done system so_far.0 own.0,
+      subst (IsDistinct is_text) (sym (map_push (λ (s : System). s.name) done system)) (IsDistinct-push is_text is_text-symmetric (system_names done) system.name so_far.1 own.1),
+    ))
+    0 [] ds systems (tt, tt) g in record {
       some = omega (arith, list.1, long);
       few = omega (arith, list.2, long);
       each = kept.0;

@@ -1,5 +1,5 @@
 -- The entries of an IDoc type: segment types in preorder, and how often they occur.
-use Rattle.std.specs.Prelude.{ℕ, ◌-◌, ◌^◌, ◌==◌, Bool, true, false, List, [], ◌∷◌, ◌++◌, length, map, nat_eq, nat_le, position, Option, Some, None, option_and_then, Result, Ok, Err, if◌then◌else◌}
+use Rattle.std.specs.Prelude.{ℕ, ◌-◌, ◌^◌, ◌==◌, Bool, true, false, List, [], ◌∷◌, ◌++◌, map, nat_eq, nat_le, position, Option, Some, None, option_and_then, Result, Ok, Err, if◌then◌else◌}
 use Rattle.std.specs.List.{list_any}
 use Rattle.toml.specs.Data.{Data, Items, Members, get_member, as_str}
 use Rattle.ale_base.specs.Text.{is_text}
@@ -34,17 +34,20 @@ open_place entries place =
     if open_level place entries == 0 then Err (at Wrong PARENT.now)
     else if nat_le MOST_LEVELS (open_level place entries) then Err (at Limit PARENT.now) else Ok place
 
+-- the parent that a text names: an entry behind which one more may hang
 unfoldable pub parent_of : List (List ℕ) → List ℕ → List TypePlace → Data → Result ℕ Finding
 parent_of types segments entries d = do
   text ← required Wrong PARENT.now (as_str d)
   place ← required Wrong PARENT.now (parent_place types segments text)
   open_place entries place
 
+-- the same, as the parent of an entry that has one
 abbrev pub some_parent : List (List ℕ) → List ℕ → List TypePlace → Data → Result (Option ℕ) Finding
 some_parent types segments entries d = do
   place ← parent_of types segments entries d
   Ok (Some place)
 
+-- none where the key is absent: the entry stands at the root level
 unfoldable pub parent_at : List (List ℕ) → List ℕ → List TypePlace → Members → Result (Option ℕ) Finding
 parent_at types segments entries table = or_else None (some_parent types segments entries) (get_member PARENT.now table)
 
@@ -54,9 +57,11 @@ min_of mandatory d = do
   min ← number_of 1 (2 ^ 63 - 1) MIN.now d
   if mandatory then Ok min else Err (at Wrong MIN.now)
 
+-- 1 where the key is absent
 unfoldable pub min_at : Bool → Members → Result ℕ Finding
 min_at mandatory table = or_else 1 (min_of mandatory) (get_member MIN.now table)
 
+-- a greatest number by itself, 1 where the key is absent
 abbrev pub greatest_at : Members → Result ℕ Finding
 greatest_at table = or_else 1 (number_of 1 MOST_TIMES MAX.now) (get_member MAX.now table)
 
@@ -66,6 +71,7 @@ max_at min table = do
   max ← greatest_at table
   if nat_le min max then Ok max else Err (at Wrong MAX.now)
 
+-- whether an entry is mandatory, and how often it may occur
 unfoldable pub times_at : Members → Result (Bool × ℕ × ℕ) Finding
 times_at table = do
   mandatory ← bool_or_at false MANDATORY.now table
@@ -91,5 +97,6 @@ type_place_of types entries d = do
   root ← root_of entries times.0 times.1 times.2
   Ok (record { segment = segment; parent = parent; mandatory = times.0; min = times.1; max = times.2 })
 
+-- the entries of a list, each behind those before it
 abbrev pub entries_of : List (List ℕ) → Items → Result (List TypePlace) Finding
 entries_of types ds = each SEGMENT.now (λ done d. type_place_of types done d) 0 [] ds

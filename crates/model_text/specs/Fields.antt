@@ -1,5 +1,5 @@
 -- The fields that a definition of a segment type adds: each is a name and a length, with one blank between them.
-use Rattle.std.specs.Prelude.{ℕ, suc, ◌+◌, ◌-◌, ◌*◌, ◌==◌, ◌&&◌, Bool, List, [], ◌∷◌, length, map, take, drop, position, nat_lt, nat_le, Option, Some, None, option_and_then, Result, Ok, decimal, if◌then◌else◌}
+use Rattle.std.specs.Prelude.{ℕ, ◌+◌, ◌-◌, ◌*◌, ◌==◌, ◌&&◌, Bool, List, [], ◌∷◌, length, map, take, drop, position, nat_lt, nat_le, Option, Some, None, option_and_then, Result, Ok, decimal, if◌then◌else◌}
 use Rattle.std.specs.Char.{is_ascii_digit}
 use Rattle.std.specs.Option.{option_map}
 use Rattle.toml.specs.Data.{Data, Items, as_str}
@@ -25,9 +25,11 @@ digits_on number (digit ∷ digits) =
 abbrev pub is_length : ℕ → List ℕ → Bool
 is_length number text = nat_le 1 number && (nat_le number MOST_BYTES && is_text (decimal number) text)
 
+-- the number, if it is a length that the text spells
 abbrev pub length_spelled : List ℕ → ℕ → Option ℕ
 length_spelled text number = if is_length number text then Some number else None
 
+-- the length that a text spells
 abbrev pub length_in : List ℕ → Option ℕ
 length_in text = option_and_then (length_spelled text) (digits_on 0 text)
 
@@ -36,14 +38,17 @@ abbrev pub parts_at : List ℕ → ℕ → Option (List ℕ × ℕ)
 parts_at text at =
     if is_name_within LONGEST_NAME (take at text) then option_map (λ n. (take at text, n)) (length_in (drop (at + 1) text)) else None
 
+-- the name before the first blank and the length behind it
 abbrev pub field_parts : List ℕ → Option (List ℕ × ℕ)
 field_parts text = option_and_then (parts_at text) (position (λ byte. byte == 32) text)
 
+-- the same of the text that stands there
 unfoldable pub parts_of : Data → Result (List ℕ × ℕ) Finding
 parts_of d = do
   text ← required Wrong [] (as_str d)
   required Wrong [] (field_parts text)
 
+-- the names of some fields, in order
 abbrev pub field_names : List Field → List (List ℕ)
 field_names fields = map (λ field. field.name) fields
 

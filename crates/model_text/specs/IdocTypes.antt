@@ -12,6 +12,7 @@ use Rattle.model_keys.specs.Keys.{entry_of, list_or_none_at, new_name_at, some_l
 use Rattle.model_text.specs.declared.keys.TheConstants.{IDOCTYPE, IDOCTYPE_KEYS, NAME, SEGMENT}
 use Rattle.model_text.specs.Entries.{entries_of}
 
+-- an IDoc type over these segment types, with a name that none of the others has
 unfoldable pub idoc_type_of : List (List ℕ) → List (List ℕ) → Data → Result IdocType Finding
 idoc_type_of types names d = do
   table ← entry_of (map (λ key. key.now) IDOCTYPE_KEYS) d
@@ -20,6 +21,7 @@ idoc_type_of types names d = do
   segments ← entries_of types ds
   Ok (record { name = name; segments = segments })
 
+-- the IDoc types of a list, each behind those before it
 abbrev pub idoc_types_of : List (List ℕ) → Items → Result (List IdocType) Finding
 idoc_types_of types ds = each IDOCTYPE.now (λ done d. idoc_type_of types (idoc_type_names done) d) 0 [] ds
 

@@ -1,5 +1,5 @@
 -- What a whole text says: its sections in their order, behind the known keys. The sections that are not read yet are empty.
-use Rattle.std.specs.Prelude.{ℕ, List, [], map, Result, Ok}
+use Rattle.std.specs.Prelude.{[], map, Result, Ok}
 use Rattle.toml.specs.Data.{Members}
 use Rattle.dist_model.specs.declared.model.Model.{Model}
 use Rattle.model_keys.specs.declared.finding.Finding.{Finding}
@@ -11,6 +11,7 @@ use Rattle.model_text.specs.Systems.{systems_at}
 use Rattle.model_text.specs.Segments.{segments_at, type_names}
 use Rattle.model_text.specs.IdocTypes.{idoc_types_at}
 
+-- the model of a whole text, which is this table
 unfoldable pub model_of : Members → Result Model Finding
 model_of table = do
   known ← only_known (map (λ key. key.now) TOP_KEYS) table
@@ -19,5 +20,15 @@ model_of table = do
   segments ← segments_at releases table
   types ← idoc_types_at (type_names segments) table
   Ok (record {
-    releases = releases; systems = systems; definitions = record { types = segments }; types = types;
-    kinds = []; messages = []; reduced = []; filters = []; rows = []; outbound = []; inbound = [] })
+    releases = releases;
+    systems = systems;
+    definitions = record { types = segments };
+    types = types;
+    kinds = [];
+    messages = [];
+    reduced = [];
+    filters = [];
+    rows = [];
+    outbound = [];
+    inbound = [];
+  })

@@ -1,6 +1,6 @@
 -- What a text says of a model, and no order of checks: section by section, each entry of the text stands for one of the
 -- model's, and what it names is what stands there.
-use Rattle.std.specs.Prelude.{◌≡◌, ℕ, pos, Bool, false, List, [], ◌∷◌, ◌++◌, Option, Some, None, slice_get, decimal, MatchOption}
+use Rattle.std.specs.Prelude.{◌≡◌, ℕ, pos, false, List, [], ◌∷◌, ◌++◌, Option, Some, None, slice_get, decimal, MatchOption}
 use Rattle.toml.specs.Parse.{parse_document}
 use Rattle.toml.specs.Data.{Data, Items, no_items, item, Members, get_member, as_str, as_integer, as_bool, as_array, as_table}
 use Rattle.segment_defs.specs.declared.field.Field.{Field}

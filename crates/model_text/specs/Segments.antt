@@ -25,11 +25,13 @@ last_fields versions = option_map_or (λ last. last.fields) (slice_get versions 
 abbrev pub is_later : ℕ → List Version → Bool
 is_later release versions = option_map_or (λ last. nat_lt last.release release) (slice_get versions (length versions - 1)) true
 
+-- the release of one more definition behind some, by its place
 unfoldable pub release_at : List (List ℕ) → List Version → Members → Result ℕ Finding
 release_at releases versions table = do
   release ← reference_at LONGEST_RELEASE RELEASE.now releases table
   if is_later release versions then Ok release else Err (at Wrong RELEASE.now)
 
+-- the names of some definitions, in order
 abbrev pub version_names : List Version → List (List ℕ)
 version_names versions = map (λ version. version.name) versions
 
@@ -43,10 +45,12 @@ version_of releases names versions d = do
   fields ← fields_of (last_fields versions) ds
   Ok (record { name = name; release = release; fields = fields })
 
+-- the definitions of a list, each behind those before it; their names are new among these and each other
 abbrev pub versions_of : List (List ℕ) → List (List ℕ) → Items → Result (List Version) Finding
 versions_of releases names ds =
     each VERSION.now (λ done d. version_of releases (names ++ version_names done) done d) 0 [] ds
 
+-- a segment type whose names are new among all names so far
 unfoldable pub segment_of : List (List ℕ) → List (List ℕ) → Data → Result SegmentType Finding
 segment_of releases names d = do
   table ← entry_of (map (λ key. key.now) SEGMENT_KEYS) d
@@ -55,9 +59,11 @@ segment_of releases names d = do
   versions ← versions_of releases (names ++ name ∷ []) ds
   Ok (record { name = name; versions = versions })
 
+-- the names of some segment types, in order
 abbrev pub type_names : List SegmentType → List (List ℕ)
 type_names types = map (λ type. type.name) types
 
+-- the segment types of a list, each behind those before it
 abbrev pub segments_of : List (List ℕ) → Items → Result (List SegmentType) Finding
 segments_of releases ds = each SEGMENT.now (λ done d. segment_of releases (flat_map names_of done) d) 0 [] ds
 

@@ -21,14 +21,17 @@ fault_at causes.Wrong path = Wrong path
 fault_at causes.Twice path = Twice path
 fault_at causes.Limit path = Limit path
 
+-- the fault of an error
 abbrev pub fault_of : ReadError → ModelFault
 fault_of errors.Memory = OutOfMemory
 fault_of (errors.Found finding) = fault_at finding.cause finding.path
 
+-- the answer that a reading of the whole is: its model, or the fault of its first finding
 abbrev pub answer : Result Model Finding → Result Model ModelFault
 answer (Ok model) = Ok model
 answer (Err finding) = Err (fault_at finding.cause finding.path)
 
+-- the answer to a text that was parsed, or was not
 abbrev pub answer_of_table : Option Members → Result Model ModelFault
 answer_of_table None = Err Toml
 answer_of_table (Some table) = answer (model_of table)

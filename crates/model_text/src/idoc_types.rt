@@ -10,9 +10,7 @@ use crate::entries::entries_of;
 use crate::keys::{IDOCTYPE, IDOCTYPE_KEYS, NAME, SEGMENT};
 use ale_base::Items;
 use dist_model::{MOST_ENTRIES, MOST_IDOC_TYPES};
-use model_keys::{
-    Names, ReadError, entry_of, list_or_none_at, new_name_at, some_list_at, within,
-};
+use model_keys::{Names, ReadError, entry_of, list_or_none_at, new_name_at, some_list_at, within};
 use segment_defs::{IdocType, LONGEST_NAME};
 use std::alloc::Global;
 use toml::{Table, Value};

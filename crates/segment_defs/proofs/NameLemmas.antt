@@ -54,6 +54,7 @@ one_further n m = elim (cases_Bool (nat_lt n m)) [
   where
     ltb-suc : (n m : ℕ) → nat_lt n m ≡ true → nat_lt (1 + n) (suc m) ≡ true
     ltb-suc n m less = grind (arith, nat_tests)
+
     ltb-suc-false : (n m : ℕ) → nat_lt n m ≡ false → nat_lt (1 + n) (suc m) ≡ false
     ltb-suc-false n m least = grind (arith, nat_tests)
 
@@ -107,22 +108,23 @@ position-none name [] = (λ none there. Contains-nil name there, λ absent. refl
 position-none name (other ∷ names) =
     elim (cases_Bool (is_text name other)) [
       | inl same ↦ (
-          λ none. absurd (some_none (sym (position-here (is_text name) other names same) ∙ none)),
-          λ absent. absurd (absent (subst (λ n. Contains (other ∷ names) n) (sym ((bytes_decides name other).0 same)) (Contains-here other names))),
-        )
+        λ none. absurd (some_none (sym (position-here (is_text name) other names same) ∙ none)),
+        λ absent. absurd (absent (subst (λ n. Contains (other ∷ names) n) (sym ((bytes_decides name other).0 same)) (Contains-here other names))),
+      )
       | inr differs ↦
           let behind = position-behind (is_text name) other names differs in
           let rest = position-none name names in (
-          λ none there. elim (Contains-cons other names name there) [
-            | inl here ↦ false≢true (sym differs ∙ (bytes_decides name other).1 (sym here))
-            | inr among ↦ rest.0 (map-none (position (is_text name) names) (sym behind ∙ none)) among
-          ],
-          λ absent. behind ∙ ap (option_map suc) (rest.1 (λ among. absent (Contains-there other names name among))),
-        )
+            λ none there. elim (Contains-cons other names name there) [
+              | inl here ↦ false≢true (sym differs ∙ (bytes_decides name other).1 (sym here))
+              | inr among ↦ rest.0 (map-none (position (is_text name) names) (sym behind ∙ none)) among
+            ],
+            λ absent. behind ∙ ap (option_map suc) (rest.1 (λ among. absent (Contains-there other names name among))),
+          )
     ]
   where
     some_none : ◌≡◌ {A = Option ℕ} (Some 0) None → ⊥
     some_none is = cc
+
     map-none : (found : Option ℕ) → option_map suc found ≡ None → found ≡ None
     map-none None is = refl
     map-none (Some place) is = cc

@@ -19,7 +19,9 @@ mod version_no;
 pub use definitions::{Definitions, cut};
 pub use field::Field;
 pub use idoc_type::{IdocType, TypePlace};
-pub use limits::{LONGEST_NAME, MOST_BYTES, MOST_FIELDS, MOST_LEVELS, MOST_TIMES, MOST_TYPES, MOST_VERSIONS};
+pub use limits::{
+    LONGEST_NAME, MOST_BYTES, MOST_FIELDS, MOST_LEVELS, MOST_TIMES, MOST_TYPES, MOST_VERSIONS,
+};
 pub use rules::{is_name, is_name_within, is_segment_name};
 pub use segment_type::SegmentType;
 pub use type_no::TypeNo;

@@ -1,4 +1,3 @@
-use Rattle.std.proofs.Common.{arith, ap, length}
 use Rattle.toml.specs.View.{table_view}
 use Rattle.model_text.proofs.SystemRules.{releases_at-keeps}
 use Rattle.model_text.proofs.ModelRules.{type_names-few}

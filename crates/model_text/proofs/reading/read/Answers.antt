@@ -1,8 +1,7 @@
-use Rattle.std.proofs.Common.{◌≡◌, ◌∙◌, Some, sym, ap, rules}
+use Rattle.std.proofs.Common.{◌∙◌, Some, sym, ap}
 use Rattle.toml.specs.View.{table_view}
 use Rattle.toml.specs.Parse.{parse_document}
-use Rattle.model_text.specs.Text.{answer, answer_to}
-use Rattle.model_text.specs.Model.{model_of}
+use Rattle.model_text.specs.Text.{answer}
 use Rattle.model_text.proofs.ModelRules.{model_of-keeps}
 use Rattle.model_text.proofs.ReadingLemmas.{answer_to-no_text, answer_to-text, Reads-fails}
 use Rattle.model_text.proofs.SaysLemmas.{model_of-says}

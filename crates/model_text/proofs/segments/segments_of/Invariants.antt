@@ -1,4 +1,4 @@
-use Rattle.std.proofs.Common.{◌≡◌, ℕ, List, [], drop}
+use Rattle.std.proofs.Common.{◌≡◌, List, [], drop}
 use Rattle.std.specs.List.{flat_map}
 use Rattle.toml.specs.Data.{Data}
 use Rattle.toml.specs.View.{items_view}

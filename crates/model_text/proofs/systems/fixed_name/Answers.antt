@@ -1,4 +1,4 @@
-use Rattle.std.proofs.Common.{◌≡◌, ◌∙◌, Some, arith}
+use Rattle.std.proofs.Common.{◌∙◌}
 use Rattle.segment_defs.proofs.NameLemmas.{IsName_decided, name-trimmed}
 use Rattle.model_text.proofs.systems.fixed_name.Goals as goal
 

@@ -1,5 +1,4 @@
-use Rattle.std.proofs.Common.{◌≡◌, ◌++◌, ◌∷◌, ℕ, List, [], sym, ◌∙◌, ap}
-use Rattle.std.proofs.lemmas.List.{map_push}
+use Rattle.std.proofs.Common.{◌≡◌, ◌++◌, ◌∷◌, ℕ, List, []}
 use Rattle.toml.specs.Data.{Data}
 use Rattle.model_text.specs.Systems.{function_of}
 use Rattle.model_keys.proofs.EachLemmas.{loop-goes, loop-fails, loop-ends}
@@ -9,13 +8,13 @@ use Rattle.model_text.proofs.systems.functions_of.Goals as goal
 pub returns-in-Err : goal.returns-in-Err
 returns-in-Err c =
     loop-fails FUNCTIONS.now (λ (done : List (List ℕ)) (d : Data). function_of d) c.args.values.now c.loop-place.place _ c.in-Err.error c.within.result
-        c.loop-place.functions c.index-values-place.result c.index-values-place.is c.loop-place-test.true c.in-Err.ensures c.within.ensures c.loop-place.invariant
+    c.loop-place.functions c.index-values-place.result c.index-values-place.is c.loop-place-test.true c.in-Err.ensures c.within.ensures c.loop-place.invariant
 
 pub loop-place-preserved : goal.loop-place-preserved
 loop-place-preserved c =
     let pushed : c.push.new.self ≡ c.loop-place.functions ++ c.in-Ok.function ∷ [] = c.in_ok-push-in-Ok.ensures.ok in
     rw pushed (loop-goes FUNCTIONS.now (λ (done : List (List ℕ)) (d : Data). function_of d) c.args.values.now c.loop-place.place _ c.loop-place.functions
-        c.index-values-place.result c.in-Ok.function c.index-values-place.is c.loop-place-test.true c.in-Ok.ensures c.loop-place.invariant)
+    c.index-values-place.result c.in-Ok.function c.index-values-place.is c.loop-place-test.true c.in-Ok.ensures c.loop-place.invariant)
 
 pub returns : goal.returns
 returns c =

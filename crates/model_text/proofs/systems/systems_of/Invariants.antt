@@ -1,4 +1,4 @@
-use Rattle.std.proofs.Common.{◌≡◌, ℕ, List, [], drop}
+use Rattle.std.proofs.Common.{◌≡◌, List, [], drop}
 use Rattle.toml.specs.Data.{Data}
 use Rattle.toml.specs.View.{items_view}
 use Rattle.model_keys.specs.Each.{each}

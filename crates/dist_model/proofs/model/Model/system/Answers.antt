@@ -9,7 +9,7 @@ returns-in-Some c =
     let name = c.args.name.now in
     let few : c.in-Some.place < 16 = omega (arith, c.in-Some.ensures.within, c.requires.systems.few) in
     let found : c.of.result ≡ system_named name model =
-        number-found model name c.place_named.result c.place_named.ensures.place c.of.result c.in-Some.place c.in-Some.is few c.of.ensures.found c.of.ensures.none in record {
+    number-found model name c.place_named.result c.place_named.ensures.place c.of.result c.in-Some.place c.in-Some.is few c.of.ensures.found c.of.ensures.none in record {
       found = found;
       named = found-named model name _ found c.requires;
       none = found-none model name _ found;
