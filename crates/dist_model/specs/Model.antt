@@ -47,7 +47,8 @@ pub record AreIdocTypes (definitions : Definitions) (types : List IdocType) : Ty
   pub short : AllByRecursion (λ type. length type.segments ≤ MOST_ENTRIES) types
   pub apart : IsDistinct is_text (idoc_type_names types)
 
--- what a model keeps
+-- What a model keeps, so far: the rules of its releases, systems, segment types and IDoc types. Those of the other lists
+-- come with the sections that fill them.
 pub record IsModel (model : Model) : Type 0 where
   pub releases : AreReleases model.releases
   pub systems : AreSystems model.systems

@@ -1,8 +1,8 @@
 //! The distribution model of a landscape: its releases and systems, segment types and IDoc types, and what is sent from
 //! which system to which.
 //!
-//! Contract: the names of a model stand for one thing each, and `Model::system` finds the system of a name exactly. What
-//! all models keep is `IsModel`. The definitions are in `specs/`: `System`, `Model`.
+//! Contract: `Model::system` finds the system of a name exactly. What all models keep, so far of releases, systems,
+//! segment types and IDoc types, is `IsModel`. The definitions are in `specs/`: `System`, `Model`.
 #![tactic(auto)]
 
 mod filter;

@@ -4,7 +4,7 @@ use crate::{Filter, Inbound, Kind, Message, Outbound, Reduced, Row, System};
 use ale_base::{Items, SystemNo};
 use segment_defs::{Definitions, IdocType};
 
-/// The distribution model of a landscape. `IsModel` says which rules it keeps.
+/// The distribution model of a landscape. `IsModel` says which rules it keeps, so far of the first four lists.
 #[derive(Debug, PartialEq, Eq, Drop)]
 pub struct Model {
     /// The names of the releases, in order.

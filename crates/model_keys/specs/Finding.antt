@@ -1,6 +1,6 @@
 -- What is wrong in a text, and where: a reading gives a value or its first finding. Steps of a reading that stand below one
 -- another are done in this order, and the first that finds something ends it.
-use Rattle.std.specs.Prelude.{◌≡◌, ℕ, Bool, List, [], ◌∷◌, ◌++◌, Option, Some, None, Result, Ok, Err, codes, decimal, if◌then◌else◌}
+use Rattle.std.specs.Prelude.{◌≡◌, ◌==◌, ℕ, Bool, List, [], ◌∷◌, ◌++◌, Option, Some, None, Result, Ok, Err, codes, decimal, if◌then◌else◌}
 use Rattle.model_keys.specs.declared.finding.Cause.{Cause}
 use Rattle.model_keys.specs.declared.finding.Finding.{Finding}
 use Rattle.model_keys.specs.declared.finding.ReadError.{ReadError}
@@ -35,10 +35,11 @@ required cause path (Some value) = Ok value
 abbrev pub check : Cause → List ℕ → Bool → Result Bool Finding
 check cause path test = if test then Ok test else Err (at cause path)
 
--- a path below a place: the place alone for what is wrong with the whole
+-- a path below a place: the place alone for what is wrong with the whole, and else with one dot between them, which may
+-- stand at the front of the path, as it does where the path is an empty key
 abbrev pub joined : List ℕ → List ℕ → List ℕ
 joined place [] = place
-joined place (byte ∷ path) = place ++ codes "." ++ (byte ∷ path)
+joined place (byte ∷ path) = if byte == 46 then place ++ (byte ∷ path) else place ++ codes "." ++ (byte ∷ path)
 
 -- the element at a place of the list at a key
 abbrev pub element : List ℕ → ℕ → List ℕ

@@ -1,5 +1,5 @@
 -- What stands at a key of a table, by the kinds of keys.
-use Rattle.std.specs.Prelude.{ℕ, suc, ℤ, pos, negsuc, Bool, true, ◌&&◌, List, [], position, Option, Some, None, Result, Ok, Err, nat_le, if◌then◌else◌}
+use Rattle.std.specs.Prelude.{ℕ, suc, ℤ, pos, negsuc, Bool, true, ◌&&◌, List, [], ◌++◌, codes, position, Option, Some, None, Result, Ok, Err, nat_le, if◌then◌else◌}
 use Rattle.std.specs.List.{list_any}
 use Rattle.toml.specs.Data.{Data, Items, no_items, item, Members, no_members, member, get_member, as_str, as_integer, as_bool, as_array, as_table}
 use Rattle.ale_base.specs.Text.{is_text}
@@ -8,11 +8,11 @@ use Rattle.model_keys.specs.declared.finding.Cause.TheVariants.{Missing, Unknown
 use Rattle.model_keys.specs.declared.finding.Finding.{Finding}
 use Rattle.model_keys.specs.Finding.{◌>>=◌, required, at}
 
--- all keys are known; they stand in byte order
-unfoldable pub only_known : List (List ℕ) → Members → Result Bool Finding
-only_known known no_members = Ok true
-only_known known (member key d rest) =
-    if list_any (is_text key) known then only_known known rest else Err (at Unknown key)
+-- all keys are known; they stand in byte order. A text stands before the key in the path to one that is not
+unfoldable pub only_known : List ℕ → List (List ℕ) → Members → Result Bool Finding
+only_known before known no_members = Ok true
+only_known before known (member key d rest) =
+    if list_any (is_text key) known then only_known before known rest else Err (at Unknown (before ++ key))
 
 -- a table, where an entry has to be one
 unfoldable pub table_of : Data → Result Members Finding
@@ -22,7 +22,7 @@ table_of d = required Wrong [] (as_table d)
 unfoldable pub entry_of : List (List ℕ) → Data → Result Members Finding
 entry_of known d = do
   table ← table_of d
-  all ← only_known known table
+  all ← only_known (codes ".") known table
   Ok table
 
 -- what stands at a key that has to be there

@@ -1,6 +1,7 @@
 //! What is wrong in a text, and where: causes, findings, and the paths to them.
 
-ghost use Rattle.std.specs.Prelude.{◌≡◌, IfOk, Result, Err};
+ghost use Rattle.std.specs.Prelude.{◌≡◌, ◌++◌, IfOk};
+ghost use Rattle.model_keys.specs.declared.finding.Cause.TheVariants.{Unknown};
 ghost use Rattle.model_keys.specs.declared.finding.ReadError.TheVariants.{Memory};
 ghost use Rattle.model_keys.specs.Finding.{at, joined, element, Deepens};
 
@@ -75,6 +76,18 @@ pub fn at(alloc: Global, cause: Cause, path: &str) -> Result<Finding, OutOfMemor
     })
 }
 
+/// The finding of a key that is not known, with a text before it in its path.
+pub(crate) fn unknown(alloc: Global, before: &str, key: &str) -> Result<Finding, OutOfMemory>
+    ensures { IfOk result (λ finding. finding ≡ at Unknown (before.now ++ key.now)) }
+{
+    let mut path = Vec::from_slice(alloc, before.as_bytes())?;
+    path.extend_from_slice(key.as_bytes())?;
+    Ok(Finding {
+        cause: Cause::Unknown,
+        path: Items::from_vec(path),
+    })
+}
+
 /// The path of the element at a place of the list at a key, and behind it the path from there.
 fn joined(alloc: Global, key: &str, place: usize, path: &[u8]) -> Result<Items<u8>, AllocError>
     ensures { IfOk result (λ whole. whole ≡ joined (element key.now place) path.now) }
@@ -86,6 +99,8 @@ fn joined(alloc: Global, key: &str, place: usize, path: &[u8]) -> Result<Items<u
     whole.extend_from_slice(b"]")?;
     match path {
         [] => {}
+        // the dot is there already, as before an empty key
+        [b'.', ..] => whole.extend_from_slice(path)?,
         [_, ..] => {
             whole.extend_from_slice(b".")?;
             whole.extend_from_slice(path)?;

@@ -1,6 +1,6 @@
 //! Names at keys: new ones, and those that refer to something.
 
-ghost use Rattle.std.specs.Prelude.{◌≡◌, ◌<◌, ◌∷◌, ◌++◌, [], length, IfOk, IsTrue};
+ghost use Rattle.std.specs.Prelude.{◌≡◌, ◌<◌, ◌∷◌, ◌++◌, [], length, IfOk, IsTrue, OnErr};
 ghost use Rattle.toml.specs.View.{view, table_view};
 ghost use Rattle.segment_defs.specs.Name.{is_name_within};
 ghost use Rattle.model_keys.specs.Finding.{Gives};
@@ -101,7 +101,8 @@ pub fn reference_at(
     }
 }
 
-/// A name that is new among some: Twice, at the path, where it is not. It is one of them from then on.
+/// A name that is new among some: Twice, at the path, where it is not. It is one of them from then on;
+/// after an `Err` they are as before.
 #[tactic(auto, unfolding(crate::specs::Keys::new_name))]
 pub fn new_name(
     alloc: Global,
@@ -111,11 +112,14 @@ pub fn new_name(
 ) -> Result<Items<u8>, ReadError>
     ensures given { Gives (λ name. name) result (new_name path.now names.old name.now) }
     ensures added { IfOk result (λ name. names.new ≡ names.old ++ name ∷ []) }
+    ensures err { OnErr result (names.new ≡ names.old) }
 {
+    // What can fail comes first, so that the names stay as they were.
+    let copy = Items::from_slice(alloc, name)?;
     if !names.add(alloc, name)? {
         return Err(ReadError::Found(at(alloc, Cause::Twice, path)?));
     }
-    Ok(Items::from_slice(alloc, name)?)
+    Ok(copy)
 }
 
 /// A name of at most so many bytes that is new among some: Wrong, Twice, at the path. It is one of them from then on.
@@ -129,6 +133,7 @@ pub fn new_name_of(
 ) -> Result<Items<u8>, ReadError>
     ensures given { Gives (λ name. name) result (new_name_of longest path.now names.old (view value.now)) }
     ensures added { IfOk result (λ name. names.new ≡ names.old ++ name ∷ []) }
+    ensures err { OnErr result (names.new ≡ names.old) }
 {
     let name = name_of(alloc, longest, path, value)?;
     new_name(alloc, path, names, name.as_bytes())
@@ -145,6 +150,7 @@ pub fn new_name_at(
 ) -> Result<Items<u8>, ReadError>
     ensures given { Gives (λ name. name) result (new_name_at longest key.now names.old (table_view table.now)) }
     ensures added { IfOk result (λ name. names.new ≡ names.old ++ name ∷ []) }
+    ensures err { OnErr result (names.new ≡ names.old) }
 {
     let value = value_at(alloc, table, key)?;
     new_name_of(alloc, longest, key, names, value)
@@ -161,6 +167,7 @@ pub fn new_segment_name_at(
 ) -> Result<Items<u8>, ReadError>
     ensures given { Gives (λ name. name) result (new_segment_name_at key.now names.old (table_view table.now)) }
     ensures added { IfOk result (λ name. names.new ≡ names.old ++ name ∷ []) }
+    ensures err { OnErr result (names.new ≡ names.old) }
 {
     let name = segment_name_at(alloc, key, table)?;
     new_name(alloc, key, names, name.as_bytes())

@@ -21,7 +21,7 @@ impl Model for Names {
 }
 
 impl Names {
-    ghost use Rattle.std.specs.Prelude.{◌≡◌, ◌<◌, [], ◌∷◌, ◌++◌, not, true, false, length, position, IfOk, IfSome};
+    ghost use Rattle.std.specs.Prelude.{◌≡◌, ◌<◌, [], ◌∷◌, ◌++◌, not, true, false, length, position, IfOk, IfSome, OnErr};
     ghost use Rattle.std.specs.List.{list_any};
     ghost use Rattle.ale_base.specs.Text.{is_text};
 
@@ -42,11 +42,12 @@ impl Names {
         self.set.get_index_of(name)
     }
 
-    /// Adds a name at the end unless it is there, and answers whether it is new.
+    /// Adds a name at the end unless it is there, and answers whether it is new. After an `Err` the names are as before.
     pub fn add(&mut self, alloc: Global, name: &[u8]) -> Result<bool, OutOfMemory>
         ensures new { IfOk result (λ new. new ≡ not (list_any (is_text name.now) self.old)) }
         ensures added { IfOk result (λ new. new ≡ true → self.new ≡ self.old ++ name.now ∷ []) }
         ensures known { IfOk result (λ new. new ≡ false → self.new ≡ self.old) }
+        ensures err { OnErr result (self.new ≡ self.old) }
     {
         let (_, new) = self.set.insert_full(Vec::from_slice(alloc, name)?)?;
         Ok(new)

@@ -21,7 +21,7 @@ impl Model for Numbers {
 }
 
 impl Numbers {
-    ghost use Rattle.std.specs.Prelude.{◌≡◌, ◌<◌, [], ◌∷◌, ◌++◌, not, true, false, length, nat_eq, position, IfOk, IfSome};
+    ghost use Rattle.std.specs.Prelude.{◌≡◌, ◌<◌, [], ◌∷◌, ◌++◌, not, true, false, length, nat_eq, position, IfOk, IfSome, OnErr};
     ghost use Rattle.std.specs.List.{list_any};
 
     /// No numbers. It takes no memory.
@@ -41,11 +41,12 @@ impl Numbers {
         self.set.get_index_of(&number)
     }
 
-    /// Adds a number at the end unless it is there, and answers whether it is new.
+    /// Adds a number at the end unless it is there, and answers whether it is new. After an `Err` the numbers are as before.
     pub fn add(&mut self, number: usize) -> Result<bool, OutOfMemory>
         ensures new { IfOk result (λ new. new ≡ not (list_any (nat_eq number) self.old)) }
         ensures added { IfOk result (λ new. new ≡ true → self.new ≡ self.old ++ number ∷ []) }
         ensures known { IfOk result (λ new. new ≡ false → self.new ≡ self.old) }
+        ensures err { OnErr result (self.new ≡ self.old) }
     {
         let (_, new) = self.set.insert_full(number)?;
         Ok(new)

@@ -9,7 +9,7 @@ ghost use Rattle.ale_base.specs.Text.{is_text};
 ghost use Rattle.model_keys.specs.Finding.{Gives};
 ghost use Rattle.model_keys.specs.Keys.{entry_of, only_known, table_of, value_at};
 
-use crate::finding::{Cause, ReadError, at};
+use crate::finding::{Cause, ReadError, at, unknown};
 use std::alloc::Global;
 use toml::{Table, Value};
 
@@ -24,14 +24,21 @@ fn is_known(known: &[&str], key: &str) -> bool
     false
 }
 
-/// Whether a table has no other keys than those that are known. Unknown is the first in byte order that is not.
+/// Whether a table has no other keys than those that are known. Unknown is the first in byte order that is not; the path
+/// has a text before it, which is a dot for the table of an entry, and nothing for that of a whole text.
 #[tactic(auto, unfolding(crate::specs::Keys::only_known))]
-pub fn only_known(alloc: Global, table: &Table, known: &[&str]) -> Result<(), ReadError>
-    ensures { Gives (λ _. true) result (only_known (map (λ name. name.now) known.now) (table_view table.now)) }
+pub fn only_known(
+    alloc: Global,
+    before: &str,
+    table: &Table,
+    known: &[&str],
+) -> Result<(), ReadError>
+    ensures { Gives (λ _. true) result
+        (only_known before.now (map (λ name. name.now) known.now) (table_view table.now)) }
 {
     for (key, _) in table.iter() {
         if !is_known(known, key.as_str()) {
-            return Err(ReadError::Found(at(alloc, Cause::Unknown, key.as_str())?));
+            return Err(ReadError::Found(unknown(alloc, before, key.as_str())?));
         }
     }
     Ok(())
@@ -55,7 +62,7 @@ pub fn entry_of<'t>(alloc: Global, value: &'t Value, known: &[&str]) -> Result<&
         (entry_of (map (λ name. name.now) known.now) (view value.now)) }
 {
     let table = table_of(alloc, value)?;
-    only_known(alloc, table, known)?;
+    only_known(alloc, ".", table, known)?;
     Ok(table)
 }
 

@@ -26,7 +26,7 @@ type_names-few releases table types h =
 pub model_of-keeps : (table : Members) (model : Model) → model_of table ≡ Ok model → IsModel model
 unfolding model_of
 model_of-keeps table model h =
-    let (known, k, h1) = from_bind (only_known (map (λ key. key.now) TOP_KEYS) table) _ model h in
+    let (known, k, h1) = from_bind (only_known [] (map (λ key. key.now) TOP_KEYS) table) _ model h in
     let (releases, r, h2) = from_bind (releases_at table) _ model h1 in
     let (systems, s, h3) = from_bind (systems_at table) _ model h2 in
     let (segments, g, h4) = from_bind (segments_at releases table) _ model h3 in

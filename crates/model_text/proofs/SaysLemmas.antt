@@ -1,5 +1,5 @@
 -- A model that was read is what its text says, section by section.
-use Rattle.std.specs.Prelude.{slice_get, MatchOption}
+use Rattle.std.specs.Prelude.{codes, slice_get, MatchOption}
 use Rattle.std.specs.List.{flat_map, list_any}
 use Rattle.std.specs.Option.{option_and_then}
 use Rattle.std.specs.Cmp.Lexicographic.{bytes_decides}
@@ -63,8 +63,8 @@ module _ {A : Type 0} (key : List ℕ) (read : List A → Data → Result A Find
 entry_of-table : (known : List (List ℕ)) (d : Data) (table : Members) → entry_of known d ≡ Ok table → as_table d ≡ Some table
 unfolding entry_of table_of
 entry_of-table known d table h =
-    let (found, t, g) = from_bind (required Wrong [] (as_table d)) (λ found. only_known known found >>= (λ all. Ok found)) table h in
-    let (all, k, e) = from_bind (only_known known found) (λ all. Ok found) table g in
+    let (found, t, g) = from_bind (required Wrong [] (as_table d)) (λ found. only_known (codes ".") known found >>= (λ all. Ok found)) table h in
+    let (all, k, e) = from_bind (only_known (codes ".") known found) (λ all. Ok found) table g in
     let same : found ≡ table = cc in
     required-ok Wrong [] (as_table d) found t ∙ ap Some same
 
@@ -351,7 +351,7 @@ list_or_none-says most key (Some d) ds h = (list_of-keeps most key d ds h).0
 pub model_of-says : (table : Members) (model : Model) → model_of table ≡ Ok model → SaysModel table model
 unfolding model_of releases_at systems_at segments_at idoc_types_at list_or_none_at
 model_of-says table model h =
-    let (known, k, h1) = from_bind (only_known (map (λ key. key.now) TOP_KEYS) table) _ model h in
+    let (known, k, h1) = from_bind (only_known [] (map (λ key. key.now) TOP_KEYS) table) _ model h in
     let (releases, r, h2) = from_bind (some_list_at MOST_RELEASES RELEASES.now table >>= (λ ds. each RELEASES.now (λ done d. new_name_of LONGEST_RELEASE [] done d) 0 [] ds)) _ model h1 in
     let (systems, s, h3) = from_bind (some_list_at MOST_SYSTEMS SYSTEM.now table >>= (λ ds. each SYSTEM.now (λ done d. system_of (system_names done) d) 0 [] ds)) _ model h2 in
     let (segments, g, h4) = from_bind (or_else no_items (list_of MOST_TYPES SEGMENT.now) (get_member SEGMENT.now table) >>= (λ ds. each SEGMENT.now (λ done d. segment_of releases (flat_map names_of done) d) 0 [] ds)) _ model h3 in

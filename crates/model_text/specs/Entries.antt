@@ -79,7 +79,7 @@ times_at table = do
   max ← max_at min table
   Ok (mandatory, min, max)
 
--- the first entry is mandatory and occurs once
+-- the first entry is mandatory and occurs once; a parent it can't have, since no entry is open before it
 abbrev pub root_of : List TypePlace → Bool → ℕ → ℕ → Result Bool Finding
 root_of [] mandatory min max = do
   is_mandatory ← check Wrong MANDATORY.now mandatory

@@ -15,7 +15,7 @@ use Rattle.model_keys.specs.Each.{each}
 use Rattle.model_keys.specs.Keys.{new_name}
 use Rattle.model_text.specs.declared.keys.TheConstants.{ADDS}
 
--- the number that digits spell behind a number; none where it gets much too large for a length
+-- the number that digits spell behind a number; none where a byte is no digit, or it gets much too large for a length
 abbrev pub digits_on : ℕ → List ℕ → Option ℕ
 digits_on number [] = Some number
 digits_on number (digit ∷ digits) =

@@ -14,7 +14,7 @@ use Rattle.model_text.specs.IdocTypes.{idoc_types_at}
 -- the model of a whole text, which is this table
 unfoldable pub model_of : Members → Result Model Finding
 model_of table = do
-  known ← only_known (map (λ key. key.now) TOP_KEYS) table
+  known ← only_known [] (map (λ key. key.now) TOP_KEYS) table
   releases ← releases_at table
   systems ← systems_at table
   segments ← segments_at releases table

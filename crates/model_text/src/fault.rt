@@ -7,7 +7,7 @@ use thiserror::Error;
 /// counted from 0.
 #[derive(Debug, PartialEq, Eq, Drop, Error)]
 pub enum ModelFault {
-    /// The text is no TOML.
+    /// The bytes are no UTF-8, or no TOML.
     #[error("the text is no TOML")]
     Toml,
     /// A key is absent.

@@ -21,7 +21,7 @@ use toml::Table;
 pub(crate) fn model_of(alloc: Global, table: &Table) -> Result<Model, ReadError>
     ensures { Gives (λ model. model) result (model_of (table_view table.now)) }
 {
-    only_known(alloc, table, &TOP_KEYS)?;
+    only_known(alloc, "", table, &TOP_KEYS)?;
     let mut release_names = Names::new(alloc);
     let releases = releases_at(alloc, &mut release_names, table)?;
     let mut system_names = Names::new(alloc);

@@ -28,11 +28,7 @@ impl ModelText {
 }
 
 /// Answers an item on a model.
-pub(crate) fn answer(
-    alloc: Global,
-    text: &mut ModelText,
-    item: &Item,
-) -> Result<Answer, LineEnd> {
+pub(crate) fn answer(alloc: Global, text: &mut ModelText, item: &Item) -> Result<Answer, LineEnd> {
     let word = item.word.as_slice();
     let block = item.block.as_slice();
     if word == b"head".as_slice() {
@@ -51,11 +47,7 @@ pub(crate) fn answer(
         return Ok(Answer::Text(reading(alloc, text.whole.as_slice())?));
     }
     if word == b"system_named".as_slice() {
-        return Ok(Answer::Text(named(
-            alloc,
-            text.whole.as_slice(),
-            item.rest.as_slice(),
-        )?));
+        return Ok(Answer::Text(named(alloc, text.whole.as_slice(), item.rest.as_slice())?));
     }
     Ok(Answer::Foreign)
 }
@@ -151,11 +143,7 @@ fn put_system(text: &mut Vec<u8>, system: &System) -> Result<(), AllocError> {
     put_line(text, b"")
 }
 
-fn put_segment(
-    alloc: Global,
-    text: &mut Vec<u8>,
-    segment: &SegmentType,
-) -> Result<(), AllocError> {
+fn put_segment(alloc: Global, text: &mut Vec<u8>, segment: &SegmentType) -> Result<(), AllocError> {
     text.extend_from_slice(b"segment")?;
     put_word(text, &segment.name)?;
     put_line(text, b"")?;
@@ -197,7 +185,11 @@ fn put_idoc_type(
 
 fn put_entry(alloc: Global, text: &mut Vec<u8>, entry: &TypePlace) -> Result<(), AllocError> {
     let segment = entry.segment.0;
-    let need = if entry.mandatory { "mandatory" } else { "optional" };
+    let need = if entry.mandatory {
+        "mandatory"
+    } else {
+        "optional"
+    };
     let min = entry.min;
     let max = entry.max;
     let told = match entry.parent {

@@ -2,7 +2,7 @@
 //!
 //! Contract: what a name, a release or a field stands for is looked up exactly, in definitions and IDoc types that keep
 //! their rules, and `is_valid` tells whether the rules are kept. The definitions are in `specs/`: `Name`, `Version`,
-//! `SegmentType`, `Definitions`, `IdocType`. The limits of all of them are in `limits`.
+//! `SegmentType`, `Definitions`, `IdocType`. Their limits are constants, as `MOST_FIELDS`.
 #![tactic(auto)]
 
 mod definitions;

@@ -217,8 +217,8 @@ fn can_follow(parent: Option<u16>, entries: &[TypePlace]) -> bool
     }
 }
 
-/// The level of an entry behind which one more may hang: it is the last one or one above that. It is 1 at the root
-/// level, and 0 where the entry is closed or there is none at this place.
+/// The level of an open entry, which is the last one or one above that, from 1 at the root level. 0 where the entry is
+/// closed, and where there is none at this place.
 pub fn levels_to(place: usize, entries: &[TypePlace]) -> usize
     requires { IsPreorder 0 [] entries.now }
     ensures { result ≡ open_level place entries.now }

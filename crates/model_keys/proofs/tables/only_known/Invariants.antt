@@ -6,4 +6,4 @@ use Rattle.model_keys.proofs.tables.only_known.Given as goal
 abbrev pub invariant-loop-key : goal.invariant-loop-key
 invariant-loop-key l =
     let known = map (λ name. name.now) l.known in
-    only_known known (members_view l.key-iterator) ≡ only_known known (table_view l.table)
+    only_known l.before known (members_view l.key-iterator) ≡ only_known l.before known (table_view l.table)
