@@ -1,16 +1,16 @@
 -- Claims: their numbers and units differ, where one goes and where one more is made.
 use Rattle.std.specs.Prelude.{Contains, All, filter}
 use Rattle.std.proofs.Common.{◌≡◌, ◌≢◌, ℕ, ◌<◌, ◌==◌, Bool, true, false, not, cond, ◌&&◌, Some, None, List, [], ◌∷◌, ◌++◌, inl, inr, refl, sym, ap, subst, ◌∙◌, arith}
-use Rattle.std.proofs.lemmas.Bool.{cases_Bool, cond-true, cond-false, and_parts, and_from, or_parts, both_ways, eqb-true, ne_eqb, false_from_ne_true}
+use Rattle.std.proofs.lemmas.Bool.{cases_Bool, cond-true, cond-false, and_parts, and_from, or_parts, both_ways, eqb-true, eq-eqb, ne_eqb, false_from_ne_true}
 use Rattle.std.proofs.lemmas.List.Elements.{All-weaker, All-contains_itself, Contains-push_cases}
 use Rattle.std.proofs.lemmas.Option.{same_Some, none-some}
 use Rattle.ale_base.specs.Tid.{TidOf, is_tid}
 use Rattle.ale_base.proofs.MemberLemmas.{Contains-here, Contains-there, Contains-cons, Contains-nil, Contains-filter_back, list_any-Contains, find-Some, list_any-found}
-use Rattle.unit_core.proofs.TidLemmas.{is_tid-from, is_tid-true}
+use Rattle.unit_core.proofs.TidLemmas.{is_tid-from, is_tid-same, is_tid-true}
 use Rattle.trfc_protocol.specs.declared.held.Held.{Held}
 use Rattle.trfc_protocol.specs.declared.held.HeldKind.{HeldKind}
 use Rattle.trfc_protocol.specs.declared.held.HeldKind.TheVariants.{Out, In, Direct}
-use Rattle.trfc_protocol.specs.Worlds.{is_kind, is_claimed, claim_of}
+use Rattle.trfc_protocol.specs.Worlds.{is_kind, is_claimed, is_claimed_at, claim_of}
 use Rattle.trfc_protocol.specs.Safe.{AreApart}
 
 -- what holds of each element of a list
@@ -154,3 +154,50 @@ AreApart-push (h ∷ hs) new apart below none =
           (λ same_kind same_tid. not_claimed new.kind new.tid (h ∷ hs) none h (Contains-here h hs) (sym same_kind) (sym same_tid)),
       AreApart-push hs new apart.2 (λ held has. below held (Contains-there h hs held has)) parts.1,
     )
+
+-- ---- a claim by its number, and by its kind, system and unit
+
+-- a claim is found by its number
+pub claim_of-Contains : (claims : List Held) (held : Held) → AreApart claims → Contains claims held → claim_of held.number claims ≡ Some held
+claim_of-Contains [] held apart has = absurd (Contains-nil held has)
+claim_of-Contains (h ∷ hs) held apart has =
+    elim (Contains-cons h hs held has) [
+      | inl is ↦ cond-true (h.number == held.number) (Some h) (claim_of held.number hs) (eq-eqb h.number held.number (ap (λ (g : Held). g.number) is)) ∙ ap Some is
+      | inr behind ↦
+          let later = claim_of-Contains hs held apart.2 behind in
+          elim (cases_Bool (h.number == held.number)) [
+            | inl same ↦ absurd (none-some held (sym (subst (λ n. claim_of n hs ≡ None) (eqb-true h.number held.number same) apart.0) ∙ later))
+            | inr differs ↦ cond-false (h.number == held.number) (Some h) (claim_of held.number hs) differs ∙ later
+          ]
+    ]
+
+-- a claim of this kind, at this system and of this unit is among them
+pub is_claimed_at-Contains : (claims : List Held) (held : Held) (kind : HeldKind) → Contains claims held → held.kind ≡ kind
+    → is_claimed_at kind held.system held.tid claims ≡ true
+is_claimed_at-Contains claims held kind has same =
+    list_any-Contains (λ h. is_kind h.kind kind && (h.system == held.system) && is_tid h.tid held.tid) claims held has
+    (and_from (is_kind held.kind kind && (held.system == held.system)) (is_tid held.tid held.tid)
+    (and_from (is_kind held.kind kind) (held.system == held.system) (subst (λ k. is_kind held.kind k ≡ true) same (is_kind-same held.kind))
+    (eq-eqb held.system held.system refl))
+    (is_tid-same held.tid))
+
+-- such a claim, where there is one
+pub record ClaimAt (kind : HeldKind) (system : ℕ) (tid : TidOf) (claims : List Held) : Type 0 where
+  pub held : Held
+  pub has : Contains claims held
+  pub its_kind : held.kind ≡ kind
+  pub its_system : held.system ≡ system
+  pub its_tid : held.tid ≡ tid
+
+pub claim_at : (kind : HeldKind) (system : ℕ) (tid : TidOf) (claims : List Held) → is_claimed_at kind system tid claims ≡ true → ClaimAt kind system tid claims
+claim_at kind system tid claims is =
+    let found = list_any-found (λ h. is_kind h.kind kind && (h.system == system) && is_tid h.tid tid) claims is in
+    let a = and_parts (is_kind found.0.kind kind && (found.0.system == system)) (is_tid found.0.tid tid) found.2 in
+    let b = and_parts (is_kind found.0.kind kind) (found.0.system == system) a.0 in
+    record {
+      held = found.0;
+      has = found.1;
+      its_kind = is_kind-true found.0.kind kind b.0;
+      its_system = eqb-true found.0.system system b.1;
+      its_tid = is_tid-true found.0.tid tid a.1;
+    }

@@ -1,5 +1,6 @@
 -- A safe world stays safe where a unit is claimed by its receiver, executed or failed, and where a direct run ends.
 use Rattle.std.specs.Prelude.{Contains}
+use Rattle.std.specs.Option.{option_and_then, option_map_or}
 use Rattle.std.proofs.Common.{◌≡◌, ◌≢◌, ℕ, ◌==◌, true, false, not, ◌&&◌, Option, Some, None, List, [], ◌∷◌, refl, sym, ap, subst, ◌∙◌}
 use Rattle.std.proofs.lemmas.Bool.{cond_both, and_parts, and_from, both_ways, not-true, not_from_false, eq-eqb}
 use Rattle.std.proofs.lemmas.Option.{same_Some, none-some}
@@ -19,15 +20,15 @@ use Rattle.trfc_protocol.specs.declared.held.HeldKind.{HeldKind}
 use Rattle.trfc_protocol.specs.declared.held.HeldKind.TheVariants.{Out, In, Direct}
 use Rattle.trfc_protocol.specs.Meaning.{Meaning}
 use Rattle.trfc_protocol.specs.Legal.{is_empty, offers_that_of, is_new, offers_received, is_free_inbound, IsLawful}
-use Rattle.trfc_protocol.specs.Worlds.{log_of, is_up, committed_by, committed_unit, offers_now, claimed, is_claimed, claim_of}
+use Rattle.trfc_protocol.specs.Worlds.{log_of, is_up, committed_by, committed_unit, offers_now, with_record, with_claim, without_claim, is_claimed, claim_of}
 use Rattle.trfc_protocol.specs.Offered.{is_stopped_inbound, may_move, heads_at_sender, offers_received_now}
-use Rattle.trfc_protocol.specs.Happens.{claims_inbound, ends_run, finishes_by, finishes, fails_by, fails, closes}
+use Rattle.trfc_protocol.specs.RecordOf.{record_of_run, record_of_work, record_of_failure}
+use Rattle.trfc_protocol.specs.Happens.{after_run, ends_with}
 use Rattle.trfc_protocol.specs.Safe.{is_due, Holds, Safe}
 use Rattle.trfc_protocol.proofs.WorldLemmas.{is_up-known, offers_now-known}
-use Rattle.trfc_protocol.proofs.LegalLemmas.{may_follow-others, is_free-parts, MayJoin-plain, MayJoin-direct, MayJoin-execute}
-use Rattle.trfc_protocol.proofs.ClaimLemmas.{claim_of-Some}
-use Rattle.trfc_protocol.proofs.SafeLemmas.{IsRun-due, committed_unit-is, received-is}
-use Rattle.trfc_protocol.proofs.NextLemmas.{IsNext, Next-claimed, hold, joins_closed, not_marked, other_than, spares_all, stays}
+use Rattle.trfc_protocol.proofs.LegalLemmas.{is_free-parts, MayJoin-plain, MayJoin-direct, MayJoin-execute}
+use Rattle.trfc_protocol.proofs.SafeLemmas.{MayWrite, IsRun-due, hold, committed_unit-is, received-is, may_follow-up}
+use Rattle.trfc_protocol.proofs.NextLemmas.{IsNext, Next-with_claim, Next-closed, not_marked, other_than, spares_all, stays}
 use Rattle.trfc_protocol.proofs.SendingLemmas.{may_take}
 
 -- a list that the test takes for empty
@@ -40,19 +41,19 @@ module _ {R : Type 0} (rules : Meaning) (lawful : IsLawful rules) (world : World
   Next after = IsNext rules world after
 
   -- a unit is claimed by its receiver
-  pub Next-claims_inbound : (tid : TidOf) (found : Option AleUnit) → Next (claims_inbound rules world tid found)
+  pub Next-claims_inbound : (tid : TidOf) (found : Option AleUnit) → Next (option_map_or (after_run world tid) found world)
   Next-claims_inbound tid None = stays rules lawful world safe
   Next-claims_inbound tid (Some unit) =
       let up = is_up world unit.receiver in
       let free = is_free_inbound (log_of world unit.receiver) tid in
       let idle = not (is_claimed In tid world.claims) in
       let moves = may_move (is_stopped_inbound (log_of world unit.receiver)) (unit_named tid (received (log_of world unit.receiver))) in
-      cond_both (up && free && idle && moves) (claimed world tid unit.receiver In) world Next
+      cond_both (up && free && idle && moves) (with_claim world tid unit.receiver In) world Next
       (λ pass.
       let a = and_parts (up && free && idle) moves pass in
       let b = and_parts (up && free) idle a.0 in
       let c = and_parts up free b.0 in
-      Next-claimed rules lawful world safe tid unit.receiver In c.0 c.1 (not-true (is_claimed In tid world.claims) b.1))
+      Next-with_claim rules lawful world safe tid unit.receiver In c.0 c.1 (not-true (is_claimed In tid world.claims) b.1))
       (λ _. stays rules lawful world safe)
 
   -- what a system offers, by its log
@@ -83,37 +84,57 @@ module _ {R : Type 0} (rules : Meaning) (lawful : IsLawful rules) (world : World
       let named = unit_named-Some held.tid (received l) is.0 is.1 in
       (is.0, named.0, named.1)
 
+  -- the unit of an inbound claim is free
+  in_free : (held : Held) → Contains world.claims held → held.kind ≡ In → is_free_inbound (log_of world held.system) held.tid ≡ true
+  in_free held has kind = subst (λ k. is_due rules world held k ≡ true) kind (hold rules lawful world safe held has).due
+
   -- a unit that was taken in is executed
-  Next-executes : (held : Held) → Contains world.claims held → claim_of held.number world.claims ≡ Some held → held.kind ≡ In
-      → offers_received_now rules world held.system held.tid ≡ true → Next (closes rules world held (log.Execute held.tid))
-  Next-executes held has found kind offers =
-      let holds = hold rules lawful world safe held has in
+  pub writes-execute : (held : Held) → Contains world.claims held → held.kind ≡ In → offers_received_now rules world held.system held.tid ≡ true
+      → MayWrite rules world held.system (log.Execute held.tid)
+  writes-execute held has kind offers =
+      let up = (hold rules lawful world safe held has).up in
       let l = log_of world held.system in
-      let free : is_free_inbound l held.tid ≡ true = subst (λ k. is_due rules world held k ≡ true) kind holds.due in
-      joins_closed rules lawful world safe held (log.Execute held.tid) holds.up
-      (λ some. may_follow-others rules held.system l (log.Execute held.tid) some
-      (and_from (is_free_inbound l held.tid) (offers_received rules held.system l held.tid) free
-      (sym (offers_as held.system (unit_named held.tid (received l)) holds.up) ∙ offers)))
-      (MayJoin-execute (committed_by rules world) (log_of world) held.system held.tid (may_execute held.system held.tid free))
+      let free = in_free held has kind in
+      record {
+        up = up;
+        may = may_follow-up rules lawful world safe held.system (log.Execute held.tid) up
+            (and_from (is_free_inbound l held.tid) (offers_received rules held.system l held.tid) free
+            (sym (offers_as held.system (unit_named held.tid (received l)) up) ∙ offers));
+        join = MayJoin-execute (committed_by rules world) (log_of world) held.system held.tid (may_execute held.system held.tid free);
+      }
+
+  Next-executes : (held : Held) → Contains world.claims held → claim_of held.number world.claims ≡ Some held → held.kind ≡ In
+      → offers_received_now rules world held.system held.tid ≡ true
+      → Next (with_record (without_claim world held.number) held.system (log.Execute held.tid))
+  Next-executes held has found kind offers =
+      Next-closed rules lawful world safe held held.system (log.Execute held.tid) (writes-execute held has kind offers)
       (λ other there. record {
-        out = λ k. (λ t same. absurd (none-some t same), refl);
-        in_ = λ k. (λ t same its. other_than rules lawful world safe held other found there (k ∙ sym kind) (same_Some held.tid t same ∙ its), refl);
-        direct = λ k. (λ t same. absurd (none-some t same), λ u same. absurd (none-some u same));
+        out = λ k here. (λ t same. absurd (none-some t same), refl);
+        in_ = λ k here. (λ t same its. other_than rules lawful world safe held other found there (k ∙ sym kind) (same_Some held.tid t same ∙ its), refl);
+        direct = λ k. (λ t same. absurd (none-some t same), λ u same here. absurd (none-some u same), λ here. refl);
       })
 
   -- a unit that was taken in fails
-  Next-fails : (held : Held) → Contains world.claims held → claim_of held.number world.claims ≡ Some held → held.kind ≡ In
-      → offers_received_now rules world held.system held.tid ≡ false → Next (closes rules world held (log.Fail held.tid))
-  Next-fails held has found kind offers =
-      let holds = hold rules lawful world safe held has in
+  pub writes-fail : (held : Held) → Contains world.claims held → held.kind ≡ In → offers_received_now rules world held.system held.tid ≡ false
+      → MayWrite rules world held.system (log.Fail held.tid)
+  writes-fail held has kind offers =
+      let up = (hold rules lawful world safe held has).up in
       let l = log_of world held.system in
-      let free : is_free_inbound l held.tid ≡ true = subst (λ k. is_due rules world held k ≡ true) kind holds.due in
-      joins_closed rules lawful world safe held (log.Fail held.tid) holds.up
-      (λ some. may_follow-others rules held.system l (log.Fail held.tid) some
-      (and_from (is_free_inbound l held.tid) (not (offers_received rules held.system l held.tid)) free
-      (not_from_false (offers_received rules held.system l held.tid) (sym (offers_as held.system (unit_named held.tid (received l)) holds.up) ∙ offers))))
-      (MayJoin-plain (committed_by rules world) (log_of world) held.system (log.Fail held.tid) refl refl refl refl refl)
-      (λ other there. spares_all (log.Fail held.tid) other refl refl refl (λ _. refl)
+      record {
+        up = up;
+        may = may_follow-up rules lawful world safe held.system (log.Fail held.tid) up
+            (and_from (is_free_inbound l held.tid) (not (offers_received rules held.system l held.tid)) (in_free held has kind)
+            (not_from_false (offers_received rules held.system l held.tid)
+            (sym (offers_as held.system (unit_named held.tid (received l)) up) ∙ offers)));
+        join = MayJoin-plain (committed_by rules world) (log_of world) held.system (log.Fail held.tid) refl refl refl refl refl;
+      }
+
+  Next-fails : (held : Held) → Contains world.claims held → claim_of held.number world.claims ≡ Some held → held.kind ≡ In
+      → offers_received_now rules world held.system held.tid ≡ false
+      → Next (with_record (without_claim world held.number) held.system (log.Fail held.tid))
+  Next-fails held has found kind offers =
+      Next-closed rules lawful world safe held held.system (log.Fail held.tid) (writes-fail held has kind offers)
+      (λ other there. spares_all held.system (log.Fail held.tid) other refl refl refl refl (λ _. refl)
       (λ k. (not_marked Incoming other.tid held.tid Sysfail (other_than rules lawful world safe held other found there (k ∙ sym kind))).1))
 
   -- no inbound claim has the unit of a direct run, since it was not received
@@ -130,75 +151,90 @@ module _ {R : Type 0} (rules : Meaning) (lawful : IsLawful rules) (world : World
       (is_among-Contains unit (received (log_of world system))
       (subst (λ s. Contains (received (log_of world s)) unit) there (subst (Contains (received (log_of world other.system))) equal got.1)))
 
-  -- a direct run ends
-  Next-ends_run : (held : Held) → Contains world.claims held → claim_of held.number world.claims ≡ Some held → held.kind ≡ Direct → (found : Option AleUnit)
-      → committed_unit rules world held.tid ≡ found → Next (ends_run rules world held found)
-  Next-ends_run held has found kind None named = stays rules lawful world safe
-  Next-ends_run held has found kind (Some unit) named =
-      let holds = hold rules lawful world safe held has in
+  -- what the claim of a direct run says of its unit
+  run_parts : (held : Held) → Contains world.claims held → held.kind ≡ Direct → (unit : AleUnit) → committed_unit rules world held.tid ≡ Some unit
+      → (unit.tid ≡ held.tid) × (unit.receiver ≡ held.system) × (is_empty unit.inq ≡ true)
+      × (is_among unit.tid (received (log_of world held.system)) ≡ false) × (heads_at_sender rules world unit ≡ true)
+  run_parts held has kind unit named =
       let l = log_of world held.system in
-      let run = IsRun-due rules world held.system held.tid (subst (λ k. is_due rules world held k ≡ true) kind holds.due) in
-      let equal : run.unit ≡ unit = same_Some run.unit unit (sym run.named ∙ named) in
-      let its : unit.tid ≡ held.tid = (committed_unit-is rules lawful world safe held.tid unit named).1 in
-      let receiver : unit.receiver ≡ held.system = subst (λ (u : AleUnit). u.receiver ≡ held.system) equal run.receiver in
-      let direct : is_empty unit.inq ≡ true = subst (λ (u : AleUnit). is_empty u.inq ≡ true) equal run.direct in
-      let new : is_among unit.tid (received l) ≡ false = subst (λ (u : AleUnit). is_among u.tid (received l) ≡ false) equal run.new in
-      let heads : heads_at_sender rules world unit ≡ true = subst (λ (u : AleUnit). heads_at_sender rules world u ≡ true) equal run.heads in
-      let known = is_up-known world held.system holds.up in
-      cond_both (offers_now rules world held.system unit.function) (closes rules world held (log.Direct unit)) world Next
-      (λ offers. joins_closed rules lawful world safe held (log.Direct unit) holds.up
-      (λ some. may_follow-others rules held.system l (log.Direct unit) some
-      (and_from (is_new held.system l unit && is_empty unit.inq) (rules.offers held.system l unit.function)
-      (and_from (is_new held.system l unit) (is_empty unit.inq)
-      (and_from (unit.receiver == held.system) (not (is_among unit.tid (received l))) (eq-eqb unit.receiver held.system receiver)
-      (not_from_false (is_among unit.tid (received l)) new))
-      direct)
-      (sym (offers_now-known world rules held.system known.0 unit.function known.1) ∙ offers)))
-      (MayJoin-direct (committed_by rules world) (log_of world) held.system unit
-      (may_take rules lawful world safe held.tid unit held.system named receiver new heads) (is_empty-nil unit.inq direct))
+      let run = IsRun-due rules world held.system held.tid (subst (λ k. is_due rules world held k ≡ true) kind (hold rules lawful world safe held has).due) in
+      let equal : run.unit ≡ unit = same_Some run.unit unit (sym run.named ∙ named) in (
+        (committed_unit-is rules lawful world safe held.tid unit named).1,
+        subst (λ (u : AleUnit). u.receiver ≡ held.system) equal run.receiver,
+        subst (λ (u : AleUnit). is_empty u.inq ≡ true) equal run.direct,
+        subst (λ (u : AleUnit). is_among u.tid (received l) ≡ false) equal run.new,
+        subst (λ (u : AleUnit). heads_at_sender rules world u ≡ true) equal run.heads,
+      )
+
+  -- a direct run ends
+  pub writes-direct : (held : Held) → Contains world.claims held → held.kind ≡ Direct → (unit : AleUnit) → committed_unit rules world held.tid ≡ Some unit
+      → offers_now rules world held.system unit.function ≡ true → MayWrite rules world held.system (log.Direct unit)
+  writes-direct held has kind unit named offers =
+      let up = (hold rules lawful world safe held has).up in
+      let l = log_of world held.system in
+      let is = run_parts held has kind unit named in
+      let known = is_up-known world held.system up in
+      record {
+        up = up;
+        may = may_follow-up rules lawful world safe held.system (log.Direct unit) up
+            (and_from (is_new held.system l unit && is_empty unit.inq) (rules.offers held.system l unit.function)
+            (and_from (is_new held.system l unit) (is_empty unit.inq)
+            (and_from (unit.receiver == held.system) (not (is_among unit.tid (received l))) (eq-eqb unit.receiver held.system is.1)
+            (not_from_false (is_among unit.tid (received l)) is.3))
+            is.2)
+            (sym (offers_now-known world rules held.system known.0 unit.function known.1) ∙ offers));
+        join = MayJoin-direct (committed_by rules world) (log_of world) held.system unit
+            (may_take rules lawful world safe held.tid unit held.system named is.1 is.3 is.4) (is_empty-nil unit.inq is.2);
+      }
+
+  Next-ends_run : (held : Held) → Contains world.claims held → claim_of held.number world.claims ≡ Some held → held.kind ≡ Direct → (unit : AleUnit)
+      → committed_unit rules world held.tid ≡ Some unit → offers_now rules world held.system unit.function ≡ true
+      → Next (with_record (without_claim world held.number) held.system (log.Direct unit))
+  Next-ends_run held has found kind unit named offers =
+      let is = run_parts held has kind unit named in
+      let its : unit.tid ≡ held.tid = is.0 in
+      Next-closed rules lawful world safe held held.system (log.Direct unit) (writes-direct held has kind unit named offers)
       (λ other there. record {
-        out = λ k. (λ t same. absurd (none-some t same), refl);
-        in_ = λ k. (
-          λ t same its_other. no_inbound unit held.system (subst (λ t. committed_unit rules world t ≡ Some unit) (sym its) named) receiver new other
+        out = λ k here. (λ t same. absurd (none-some t same), refl);
+        in_ = λ k here. (
+          λ t same its_other. no_inbound unit held.system (subst (λ t. committed_unit rules world t ≡ Some unit) (sym its) named) is.1 is.3 other
               (Contains-filter_back (λ h. not (h.number == held.number)) world.claims other there).0 k (same_Some unit.tid t same ∙ its_other),
           refl,
         );
         direct = λ k. (
           λ t same. absurd (none-some t same),
-          λ u same its_other. other_than rules lawful world safe held other found there (k ∙ sym kind)
+          λ u same here its_other. other_than rules lawful world safe held other found there (k ∙ sym kind)
               (sym its ∙ ap (λ (v : AleUnit). v.tid) (same_Some unit u same) ∙ its_other),
+          λ here. refl,
         );
-      }))
-      (λ _. stays rules lawful world safe)
+      })
 
-  -- the same by the kind of the claim
-  Next-finishes_by : (held : Held) (kind : HeldKind) → Contains world.claims held → claim_of held.number world.claims ≡ Some held → held.kind ≡ kind
-      → Next (finishes_by rules world held kind)
-  Next-finishes_by held In has found is =
-      cond_both (offers_received_now rules world held.system held.tid) (closes rules world held (log.Execute held.tid)) world Next
-      (λ offers. Next-executes held has found is offers) (λ _. stays rules lawful world safe)
-  Next-finishes_by held Direct has found is = Next-ends_run held has found is (committed_unit rules world held.tid) refl
-  Next-finishes_by held Out has found is = stays rules lawful world safe
+  -- the same where there is such a unit
+  ends_run_of : (held : Held) → Contains world.claims held → claim_of held.number world.claims ≡ Some held → held.kind ≡ Direct → (found : Option AleUnit)
+      → committed_unit rules world held.tid ≡ found → Next (ends_with world held (option_and_then (record_of_run rules world held) found))
+  ends_run_of held has found kind None named = stays rules lawful world safe
+  ends_run_of held has found kind (Some unit) named =
+      cond_both (offers_now rules world held.system unit.function) (Some (record { system = held.system; next = log.Direct unit })) None
+      (λ it. Next (ends_with world held it))
+      (λ offers. Next-ends_run held has found kind unit named offers) (λ _. stays rules lawful world safe)
 
   -- the work of a claim ends, and its unit is executed
-  pub Next-finishes : (number : ℕ) (found : Option Held) → claim_of number world.claims ≡ found → Next (finishes rules world found)
-  Next-finishes number None found = stays rules lawful world safe
-  Next-finishes number (Some held) found =
-      let is = claim_of-Some number world.claims held found in
-      Next-finishes_by held held.kind is.0 (subst (λ n. claim_of n world.claims ≡ Some held) (sym is.1) found) refl
-
-  -- the same by the kind of the claim
-  Next-fails_by : (held : Held) (kind : HeldKind) → Contains world.claims held → claim_of held.number world.claims ≡ Some held → held.kind ≡ kind
-      → Next (fails_by rules world held kind)
-  Next-fails_by held In has found is =
-      cond_both (offers_received_now rules world held.system held.tid) world (closes rules world held (log.Fail held.tid)) Next
-      (λ _. stays rules lawful world safe) (λ offers. Next-fails held has found is offers)
-  Next-fails_by held Direct has found is = stays rules lawful world safe
-  Next-fails_by held Out has found is = stays rules lawful world safe
+  pub Next-finishes : (held : Held) (kind : HeldKind) → Contains world.claims held → claim_of held.number world.claims ≡ Some held → held.kind ≡ kind
+      → Next (ends_with world held (record_of_work rules world held kind))
+  Next-finishes held In has found is =
+      cond_both (offers_received_now rules world held.system held.tid) (Some (record { system = held.system; next = log.Execute held.tid })) None
+      (λ it. Next (ends_with world held it))
+      (λ offers. Next-executes held has found is offers) (λ _. stays rules lawful world safe)
+  Next-finishes held Direct has found is = ends_run_of held has found is (committed_unit rules world held.tid) refl
+  Next-finishes held Out has found is = stays rules lawful world safe
 
   -- the work of a claim ends, and its unit fails
-  pub Next-fails_all : (number : ℕ) (found : Option Held) → claim_of number world.claims ≡ found → Next (fails rules world found)
-  Next-fails_all number None found = stays rules lawful world safe
-  Next-fails_all number (Some held) found =
-      let is = claim_of-Some number world.claims held found in
-      Next-fails_by held held.kind is.0 (subst (λ n. claim_of n world.claims ≡ Some held) (sym is.1) found) refl
+  pub Next-fails_all : (held : Held) (kind : HeldKind) → Contains world.claims held → claim_of held.number world.claims ≡ Some held → held.kind ≡ kind
+      → Next (ends_with world held (record_of_failure rules world held kind))
+  Next-fails_all held In has found is =
+      cond_both (not (offers_received_now rules world held.system held.tid)) (Some (record { system = held.system; next = log.Fail held.tid })) None
+      (λ it. Next (ends_with world held it))
+      (λ offers. Next-fails held has found is (not-true (offers_received_now rules world held.system held.tid) offers))
+      (λ _. stays rules lawful world safe)
+  Next-fails_all held Direct has found is = stays rules lawful world safe
+  Next-fails_all held Out has found is = stays rules lawful world safe

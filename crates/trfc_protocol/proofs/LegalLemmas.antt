@@ -2,7 +2,7 @@
 use Rattle.std.specs.Prelude.{Contains, is_some, slice_index_or}
 use Rattle.std.specs.List.{cons_option}
 use Rattle.std.proofs.lemmas.List.Elements.{filter_map-append}
-use Rattle.std.proofs.Common.{◌≡◌, ◌≢◌, ℕ, suc, ◌+◌, ◌<◌, Bool, true, false, not, cond, ◌&&◌, Option, Some, None, List, [], ◌∷◌, ◌++◌, length, inl, inr, refl, sym, ap, subst, ◌∙◌, arith, append_assoc}
+use Rattle.std.proofs.Common.{◌≡◌, ◌≢◌, ℕ, zero, suc, ◌+◌, ◌<◌, Bool, true, false, not, cond, ◌&&◌, Option, Some, None, List, [], ◌∷◌, ◌++◌, length, get_or, take, inl, inr, refl, sym, ap, subst, ◌∙◌, arith, append_assoc}
 use Rattle.std.proofs.lemmas.Bool.{cases_Bool, and_parts, and_from, or_from, not-true, not_from_false}
 use Rattle.std.proofs.lemmas.List.{append-nil}
 use Rattle.std.proofs.lemmas.List.Sums.{fold-append}
@@ -13,7 +13,7 @@ use Rattle.ale_base.specs.declared.way.Way.{Way}
 use Rattle.ale_base.specs.declared.way.Way.TheVariants.{Outgoing, Incoming}
 use Rattle.unit_core.specs.declared.ale_unit.AleUnit.{AleUnit}
 use Rattle.unit_core.specs.declared.records.Record.{Record}
-use Rattle.unit_core.specs.declared.records.Record.TheVariants.{Commit, Dispatch, Done, Ended, Accept, Execute, Direct, Forget, Stop, Start, Retry, Put, App, Repost}
+use Rattle.unit_core.specs.declared.records.Record.TheVariants.{Genesis, Commit, Dispatch, Done, Ended, Accept, Execute, Direct, Forget, Stop, Start, Retry, Put, App, Repost, Model}
 use Rattle.unit_core.specs.Filters.{taken_by, executed_by, done_by, ended_by, forgotten_by, received, executed, done_in, mark_after, mark_of, is_marked}
 use Rattle.unit_core.specs.Queues.{is_listed, is_outstanding, unit_named, tids_of, heads_outbound, heads_inbound}
 use Rattle.ale_base.specs.Prefix.{IsPrefix}
@@ -23,7 +23,7 @@ use Rattle.unit_core.proofs.TidLemmas.{is_tid-other, is_listed-one, is_listed-ap
 use Rattle.unit_core.proofs.QueueLemmas.{heads_outbound-keeps, heads_inbound-keeps}
 use Rattle.unit_core.proofs.OnceLemmas.{MayTake, MayExecute, MayJoin, WasTaken, WasForgotten}
 use Rattle.trfc_protocol.specs.Meaning.{Meaning}
-use Rattle.trfc_protocol.specs.Legal.{is_free, is_free_outbound, is_free_inbound, may_follow, may_follow_others, AllFollow, IsLegal, is_commit, is_operators, IsUnitAt, IsLawful}
+use Rattle.trfc_protocol.specs.Legal.{is_free, is_free_outbound, is_free_inbound, may_follow, may_follow_others, AllFollow, IsLegal, is_commit, is_operators, is_model, may_change_offers, IsUnitAt, IsLawful}
 
 -- a legal log goes on by a record that may follow it
 AllFollow-push : (rules : Meaning) (system : ℕ) (before log : List Record) (next : Record) → AllFollow rules system before log
@@ -39,6 +39,29 @@ AllFollow-push rules system before (x ∷ xs) next all may = (
 pub IsLegal-push : (rules : Meaning) (system : ℕ) (log : List Record) (next : Record) → IsLegal rules system log → may_follow rules system log next ≡ true
     → IsLegal rules system (log ++ next ∷ [])
 IsLegal-push rules system log next legal may = AllFollow-push rules system [] log next legal may
+
+-- the last record of a legal log may follow those before it
+pub last_follows : (rules : Meaning) (system : ℕ) (log : List Record) (next : Record) → IsLegal rules system (log ++ next ∷ [])
+    → may_follow rules system log next ≡ true
+last_follows rules system log next legal = behind [] log legal
+  where
+    behind : (before log : List Record) → AllFollow rules system before (log ++ next ∷ []) → may_follow rules system (before ++ log) next ≡ true
+    behind before [] all = subst (λ l. may_follow rules system l next ≡ true) (sym (append-nil before)) all.0
+    behind before (x ∷ xs) all =
+        subst (λ l. may_follow rules system l next ≡ true) (append_assoc before (x ∷ []) xs) (behind (before ++ x ∷ []) xs all.1)
+
+-- each record of a legal log may follow those before it
+pub follows-at : (rules : Meaning) (system : ℕ) (log : List Record) (k : ℕ) (d : Record) → IsLegal rules system log → k < length log
+    → may_follow rules system (take k log) (get_or log k d) ≡ true
+follows-at rules system log k d legal within = behind [] log k legal within
+  where
+    behind : (before log : List Record) (k : ℕ) → AllFollow rules system before log → k < length log
+        → may_follow rules system (before ++ take k log) (get_or log k d) ≡ true
+    behind before [] k all within = absurd (omega arith)
+    behind before (x ∷ xs) zero all within = subst (λ l. may_follow rules system l x ≡ true) (sym (append-nil before)) all.0
+    behind before (x ∷ xs) (suc k) all within =
+        subst (λ l. may_follow rules system l (get_or xs k d) ≡ true) (append_assoc before (x ∷ []) (take k xs))
+        (behind (before ++ x ∷ []) xs k all.1 (omega arith))
 
 -- a log that is begun goes on by the rules for all records but the first
 pub may_follow-others : (rules : Meaning) (system : ℕ) (log : List Record) (next : Record) → log ≢ [] → may_follow_others rules system log next ≡ true
@@ -87,8 +110,21 @@ module _ (rules : Meaning) (lawful : IsLawful rules) (system : ℕ) (log : List 
   committed-grows next may =
       elim (cases_Bool (is_commit next)) [
         | inl commits ↦ lawful.commits system log next (record { legal = legal; may = may }) commits
-        | inr other ↦ ([], append-nil (rules.committed system log) ∙ sym (lawful.commits_nothing system log next (record { legal = legal; may = may }) other))
+        | inr other ↦ ([], append-nil (rules.committed system log) ∙ sym (lawful.commits_nothing system log next other))
       ]
+
+-- a log that a record joined is not empty
+pub push_not_empty : {A : Type 0} (xs : List A) (x : A) → xs ++ x ∷ [] ≢ []
+push_not_empty [] x same = cc
+push_not_empty (y ∷ ys) x same = cc
+
+-- a Genesis follows no record, so a record that does and is no Model says nothing of the model
+pub offers_kept : (rules : Meaning) (system : ℕ) (log : List Record) (next : Record) → log ≢ [] → may_follow rules system log next ≡ true
+    → is_model next ≡ false → may_change_offers next ≡ false
+offers_kept rules system [] next begun may other = absurd (begun refl)
+offers_kept rules system (x ∷ xs) (Genesis number text) begun may other = cc
+offers_kept rules system (x ∷ xs) (Model text) begun may other = cc
+offers_kept rules system (x ∷ xs) _ begun may other = refl
 
 -- ---- a unit that may go on
 
@@ -211,6 +247,7 @@ IsPlain-operators (Put kind key fields) is = nothing_marked (Put kind key fields
     (elim [ Outgoing ↦ λ tid. refl | Incoming ↦ λ tid. refl ]) refl refl refl refl refl
 IsPlain-operators (App doc) is = nothing_marked (App doc) (elim [ Outgoing ↦ λ tid. refl | Incoming ↦ λ tid. refl ]) refl refl refl refl refl
 IsPlain-operators (Repost doc) is = nothing_marked (Repost doc) (elim [ Outgoing ↦ λ tid. refl | Incoming ↦ λ tid. refl ]) refl refl refl refl refl
+IsPlain-operators (Model text) is = nothing_marked (Model text) (elim [ Outgoing ↦ λ tid. refl | Incoming ↦ λ tid. refl ]) refl refl refl refl refl
 IsPlain-operators _ is = cc
 
 module _ (committed : ℕ → List AleUnit) (logs : ℕ → List Record) (system : ℕ) where

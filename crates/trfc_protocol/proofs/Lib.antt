@@ -1,12 +1,14 @@
 -- Why a safe world stays safe. Each file stands on those before it.
 
--- the systems of a world, and one more record in a log
+-- the systems of a world, and another state of one of them
 pub mod WorldLemmas
 -- legal logs, and the records that may join them
 pub mod LegalLemmas
 -- claims, where one goes and where one more is made
 pub mod ClaimLemmas
--- a record joins the log of one system
+-- sound logs, and a record that joins one of them
+pub mod SoundLemmas
+-- a system writes a record
 pub mod SafeLemmas
 -- what a step may do: a record joins, a claim goes, one more is made
 pub mod NextLemmas
@@ -15,6 +17,15 @@ pub mod SendingLemmas
 pub mod ExecutingLemmas
 pub mod ReplyingLemmas
 pub mod ConfirmingLemmas
+-- the record of an event
+pub mod RecordLemmas
+-- units that are the same
+pub mod SameUnitLemmas
+-- which record a system may be writing as it falls
+pub mod KeepingLemmas
+-- falls and openings
+pub mod FallLemmas
+-- all events
 pub mod EventLemmas
--- the world at first
+-- a world that begins with given logs
 pub mod StartLemmas

@@ -1,8 +1,8 @@
 -- A safe world stays safe where a record joins a log, a claim goes, or one more is made.
 use Rattle.std.specs.Prelude.{Contains}
-use Rattle.std.proofs.Common.{◌≡◌, ◌≢◌, ℕ, ◌<◌, ◌≤◌, ◌==◌, true, false, not, cond, Option, Some, None, List, [], refl, sym, ap, subst, ◌∙◌, arith}
-use Rattle.std.proofs.lemmas.List.Elements.{All-contains, All-push}
-use Rattle.std.proofs.lemmas.Option.{none-some}
+use Rattle.std.proofs.Common.{◌≡◌, ◌≢◌, ℕ, ◌<◌, ◌==◌, Bool, true, false, not, cond, Option, Some, None, [], refl, sym, ap, subst, ◌∙◌, arith}
+use Rattle.std.proofs.lemmas.List.Elements.{All-push}
+use Rattle.std.proofs.lemmas.Option.{same_Some, none-some}
 use Rattle.ale_base.specs.Tid.{TidOf}
 use Rattle.ale_base.specs.declared.mark.Mark.{Mark as Cause}
 use Rattle.ale_base.specs.declared.mark.Mark.TheVariants.{Sysfail}
@@ -13,33 +13,43 @@ use Rattle.unit_core.specs.declared.records.Record.TheVariants as log
 use Rattle.unit_core.specs.Filters.{taken_by, executed_by, done_by, mark_after}
 use Rattle.ale_base.proofs.MemberLemmas.{Contains-nil, Contains-filter_back}
 use Rattle.unit_core.proofs.TidLemmas.{is_tid-other}
-use Rattle.unit_core.proofs.OnceLemmas.{MayJoin}
 use Rattle.trfc_protocol.specs.declared.world.World.{World}
-use Rattle.trfc_protocol.specs.declared.world.SystemState.{SystemState}
 use Rattle.trfc_protocol.specs.declared.held.Held.{Held}
 use Rattle.trfc_protocol.specs.declared.held.HeldKind.{HeldKind}
 use Rattle.trfc_protocol.specs.declared.held.HeldKind.TheVariants.{Out, In}
 use Rattle.trfc_protocol.specs.Meaning.{Meaning}
-use Rattle.trfc_protocol.specs.Legal.{may_follow, IsLawful}
-use Rattle.trfc_protocol.specs.Worlds.{state_of, log_of, is_up, committed_by, appended, claimed, released, is_claimed, claim_of}
-use Rattle.trfc_protocol.specs.Happens.{finishes, closes}
-use Rattle.trfc_protocol.specs.Safe.{is_due, Holds, AreApart, Safe}
-use Rattle.trfc_protocol.proofs.WorldLemmas.{is_up-known, state_of-least, state_of-most, kept-appended, released-appended}
+use Rattle.trfc_protocol.specs.Legal.{is_model, IsLawful}
+use Rattle.trfc_protocol.specs.Worlds.{is_up, state_with, with_record, with_claim, without_claim, is_claimed, claim_of}
+use Rattle.trfc_protocol.specs.RecordOf.{Writing, record_if}
+use Rattle.trfc_protocol.specs.Happens.{ends_with}
+use Rattle.trfc_protocol.specs.Safe.{is_due, Holds, Safe}
+use Rattle.trfc_protocol.proofs.WorldLemmas.{is_up-known, kept-with_state}
 use Rattle.trfc_protocol.proofs.ClaimLemmas.{All-from_Contains, without, AreApart-without, alone, AreApart-push}
-use Rattle.trfc_protocol.proofs.SafeLemmas.{Spares, Safe-appended}
+use Rattle.trfc_protocol.proofs.SafeLemmas.{Spares, MayWrite, hold, Safe-written}
 
 -- the world is safe, by the same rules as before
 abbrev pub IsNext : {R : Type 0} → Meaning → World R → World R → Type 0
 IsNext rules world after = Safe rules after × (after.rules ≡ world.rules)
 
--- a record that takes, executes and finishes nothing, and marks no unit of these claims, is none of theirs
-pub spares_all : (next : Record) (held : Held) → taken_by next ≡ None → executed_by next ≡ None → done_by next ≡ None
-    → (held.kind ≡ Out → mark_after Outgoing held.tid None next ≡ None) → (held.kind ≡ In → mark_after Incoming held.tid None next ≡ None) → Spares next held
-spares_all next held takes executes finishes out incoming = record {
-  out = λ is. (λ t same. absurd (none-some t (sym finishes ∙ same)), out is);
-  in_ = λ is. (λ t same. absurd (none-some t (sym executes ∙ same)), incoming is);
-  direct = λ is. (λ t same. absurd (none-some t (sym finishes ∙ same)), λ unit same. absurd (none-some unit (sym takes ∙ same)));
+-- a record that takes, executes and finishes nothing, is no Model, and marks no unit of these claims, is none of theirs
+pub spares_all : (system : ℕ) (next : Record) (held : Held) → taken_by next ≡ None → executed_by next ≡ None → done_by next ≡ None → is_model next ≡ false
+    → (held.kind ≡ Out → mark_after Outgoing held.tid None next ≡ None) → (held.kind ≡ In → mark_after Incoming held.tid None next ≡ None)
+    → Spares system next held
+spares_all system next held takes executes finishes plain out incoming = record {
+  out = λ is here. (λ t same. absurd (none-some t (sym finishes ∙ same)), out is);
+  in_ = λ is here. (λ t same. absurd (none-some t (sym executes ∙ same)), incoming is);
+  direct = λ is. (
+    λ t same. absurd (none-some t (sym finishes ∙ same)),
+    λ unit same here. absurd (none-some unit (sym takes ∙ same)),
+    λ here. plain,
+  );
 }
+
+-- a record that is found under a condition: the condition holds, and the record is that one
+pub record_if-each : (P : Writing → Type 0) (met : Bool) (system : ℕ) (next : Record) → (met ≡ true → P (record { system = system; next = next }))
+    → (it : Writing) → record_if met system next ≡ Some it → P it
+record_if-each P true system next holds it found = subst P (same_Some (record { system = system; next = next }) it found) (holds refl)
+record_if-each P false system next holds it found = cc
 
 -- a mark or a failure of another unit marks none
 pub not_marked : (way : Way) (tid t : TidOf) (cause : Cause) → t ≢ tid
@@ -56,59 +66,45 @@ module _ {R : Type 0} (rules : Meaning) (lawful : IsLawful rules) (world : World
   pub stays : Next world
   stays = (safe, refl)
 
-  -- a system that is known has a log that is begun
-  begun : (system : ℕ) (state : SystemState) → state_of world.systems system ≡ Some state → log_of world system ≢ []
-  begun system state known =
-      safe.begun system (state_of-least world.systems system state known)
-      (subst (λ n. system ≤ n) safe.systems (state_of-most world.systems system state known))
-
-  -- a claim of the world holds
-  pub hold : (held : Held) → Contains world.claims held → Holds rules world held
-  hold held has = All-contains (Holds rules world) world.claims held safe.hold has
-
-  -- a record joins the log of a system that is up
-  joins_log : (claims : List Held) (system : ℕ) (next : Record) → is_up world system ≡ true
-      → (log_of world system ≢ [] → may_follow rules system (log_of world system) next ≡ true)
-      → MayJoin (committed_by rules world) (log_of world) system next → ((held : Held) → Contains claims held → Holds rules world held) → AreApart claims
-      → ((held : Held) → Contains claims held → Spares next held) → Next (appended (record world { claims = claims }) system next)
-  joins_log claims system next up may join holds apart spared =
-      let known = is_up-known world system up in
-      let some = begun system known.0 known.1 in (
-        Safe-appended rules lawful world safe claims system next known.0 known.1 (may some) some join holds apart spared,
-        (kept-appended (record world { claims = claims }) system next known.0 known.1).2,
+  -- a system writes a record, and its claims stay
+  pub Next-written : (system : ℕ) (next : Record) → MayWrite rules world system next
+      → ((held : Held) → Contains world.claims held → Spares system next held) → Next (with_record world system next)
+  Next-written system next write spared =
+      let known = is_up-known world system write.up in (
+        Safe-written rules lawful world safe world.claims system next write (hold rules lawful world safe) safe.apart spared,
+        (kept-with_state world system (state_with next) known.0 known.1).2,
       )
-
-  -- the same, where no claim goes
-  pub joins_as_is : (system : ℕ) (next : Record) → is_up world system ≡ true
-      → (log_of world system ≢ [] → may_follow rules system (log_of world system) next ≡ true)
-      → MayJoin (committed_by rules world) (log_of world) system next → ((held : Held) → Contains world.claims held → Spares next held)
-      → Next (appended world system next)
-  joins_as_is system next up may join spared = joins_log world.claims system next up may join hold safe.apart spared
 
   -- so do the claims that are left where one goes
   pub others_hold : (number : ℕ) (held : Held) → Contains (without number world.claims) held → Holds rules world held
-  others_hold number held has = hold held (Contains-filter_back (λ h. not (h.number == number)) world.claims held has).0
+  others_hold number held has = hold rules lawful world safe held (Contains-filter_back (λ h. not (h.number == number)) world.claims held has).0
 
   -- the same, where the work of a claim ends
-  pub joins_closed : (held : Held) (next : Record) → is_up world held.system ≡ true
-      → (log_of world held.system ≢ [] → may_follow rules held.system (log_of world held.system) next ≡ true)
-      → MayJoin (committed_by rules world) (log_of world) held.system next
-      → ((other : Held) → Contains (without held.number world.claims) other → Spares next other) → Next (closes rules world held next)
-  joins_closed held next up may join spared =
-      subst (λ (w : World R). IsNext rules world w) (sym (released-appended world held.system held.number next))
-      (joins_log (without held.number world.claims) held.system next up may join (others_hold held.number)
-      (AreApart-without held.number world.claims safe.apart) spared)
+  pub Next-closed : (held : Held) (system : ℕ) (next : Record) → MayWrite rules world system next
+      → ((other : Held) → Contains (without held.number world.claims) other → Spares system next other)
+      → Next (with_record (without_claim world held.number) system next)
+  Next-closed held system next write spared =
+      let known = is_up-known world system write.up in (
+        Safe-written rules lawful world safe (without held.number world.claims) system next write (others_hold held.number)
+            (AreApart-without held.number world.claims safe.apart) spared,
+        (kept-with_state (without_claim world held.number) system (state_with next) known.0 known.1).2,
+      )
+
+  -- what the work of a claim writes
+  pub Next-ends_with : (held : Held) (found : Option Writing) → ((it : Writing) → found ≡ Some it → MayWrite rules world it.system it.next)
+      → ((it : Writing) → found ≡ Some it → (other : Held) → Contains (without held.number world.claims) other → Spares it.system it.next other)
+      → Next (ends_with world held found)
+  Next-ends_with held None write spared = stays
+  Next-ends_with held (Some it) write spared = Next-closed held it.system it.next (write it refl) (spared it refl)
 
   -- a claim goes
-  pub Next-released : (number : ℕ) → Next (released world number)
-  Next-released number = (
+  pub Next-without_claim : (number : ℕ) → Next (without_claim world number)
+  Next-without_claim number = (
     record {
       systems = safe.systems;
-      legal = safe.legal;
-      begun = safe.begun;
-      once = safe.once;
+      sound = safe.sound;
       settled = safe.settled;
-      hold = All-from_Contains (Holds rules (released world number)) (without number world.claims) (λ held has.
+      hold = All-from_Contains (Holds rules (without_claim world number)) (without number world.claims) (λ held has.
           let before = others_hold number held has in record { up = before.up; due = before.due; number = before.number });
       apart = AreApart-without number world.claims safe.apart;
     },
@@ -120,9 +116,7 @@ module _ {R : Type 0} (rules : Meaning) (lawful : IsLawful rules) (world : World
   Next-revoked = (
     record {
       systems = safe.systems;
-      legal = safe.legal;
-      begun = safe.begun;
-      once = safe.once;
+      sound = safe.sound;
       settled = safe.settled;
       hold = All-from_Contains (Holds rules (record world { claims = [] })) [] (λ held has. absurd (Contains-nil held has));
       apart = tt;
@@ -131,23 +125,21 @@ module _ {R : Type 0} (rules : Meaning) (lawful : IsLawful rules) (world : World
   )
 
   -- a claim is made
-  pub Next-claimed : (tid : TidOf) (system : ℕ) (kind : HeldKind) → is_up world system ≡ true
+  pub Next-with_claim : (tid : TidOf) (system : ℕ) (kind : HeldKind) → is_up world system ≡ true
       → is_due rules world (record { number = world.next_number; tid = tid; system = system; kind = kind }) kind ≡ true
-      → is_claimed kind tid world.claims ≡ false → Next (claimed world tid system kind)
-  Next-claimed tid system kind up due free =
+      → is_claimed kind tid world.claims ≡ false → Next (with_claim world tid system kind)
+  Next-with_claim tid system kind up due free =
       let new : Held = record { number = world.next_number; tid = tid; system = system; kind = kind } in (
         record {
           systems = safe.systems;
-          legal = safe.legal;
-          begun = safe.begun;
-          once = safe.once;
+          sound = safe.sound;
           settled = safe.settled;
-          hold = All-push (Holds rules (claimed world tid system kind)) world.claims new
-              (All-from_Contains (Holds rules (claimed world tid system kind)) world.claims (λ held has.
-              let before = hold held has in let below : held.number < world.next_number = before.number in
+          hold = All-push (Holds rules (with_claim world tid system kind)) world.claims new
+              (All-from_Contains (Holds rules (with_claim world tid system kind)) world.claims (λ held has.
+              let before = hold rules lawful world safe held has in let below : held.number < world.next_number = before.number in
               record { up = before.up; due = before.due; number = omega arith }))
               (record { up = up; due = due; number = omega arith });
-          apart = AreApart-push world.claims new safe.apart (λ held has. (hold held has).number) free;
+          apart = AreApart-push world.claims new safe.apart (λ held has. (hold rules lawful world safe held has).number) free;
         },
         refl,
       )

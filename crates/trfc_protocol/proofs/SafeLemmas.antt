@@ -1,7 +1,7 @@
--- A safe world stays safe where a record joins the log of one system.
+-- A safe world stays safe where a record joins the log of one system, whatever those that are down will find.
 use Rattle.std.specs.Prelude.{Contains, All}
 use Rattle.std.specs.List.{cons_option}
-use Rattle.std.proofs.Common.{◌≡◌, ◌≢◌, ℕ, ◌<◌, ◌≤◌, ◌==◌, true, false, not, ◌&&◌, Option, Some, None, List, [], ◌∷◌, ◌++◌, inl, inr, refl, sym, ap, subst, ◌∙◌}
+use Rattle.std.proofs.Common.{◌≡◌, ◌≢◌, ℕ, ◌<◌, ◌≤◌, ◌==◌, Bool, true, false, not, ◌&&◌, Option, Some, None, List, [], ◌∷◌, ◌++◌, inl, inr, refl, sym, ap, subst, ◌∙◌}
 use Rattle.std.proofs.lemmas.Bool.{cases_eq, and_parts, and_from, or_from, not-true, not_from_false, eqb-true, eq-eqb}
 use Rattle.std.proofs.lemmas.List.Folds.{list_any-append}
 use Rattle.std.proofs.lemmas.List.Elements.{All-contains, filter_map-append}
@@ -9,7 +9,6 @@ use Rattle.ale_base.specs.Tid.{TidOf, is_tid}
 use Rattle.ale_base.specs.declared.way.Way.TheVariants.{Outgoing, Incoming}
 use Rattle.unit_core.specs.declared.ale_unit.AleUnit.{AleUnit}
 use Rattle.unit_core.specs.declared.records.Record.{Record}
-use Rattle.unit_core.specs.declared.records.Record.TheVariants.{Genesis}
 use Rattle.unit_core.specs.Filters.{taken_by, executed_by, done_by, received, done_in, mark_after}
 use Rattle.unit_core.specs.Queues.{is_among, unit_named, tids_of, heads_outbound}
 use Rattle.ale_base.specs.Prefix.{IsPrefix}
@@ -18,36 +17,38 @@ use Rattle.ale_base.proofs.MemberLemmas.{find-longer}
 use Rattle.ale_base.proofs.PrefixLemmas.{IsPrefix-same}
 use Rattle.unit_core.proofs.TidLemmas.{is_tid-other, unit_named-Some, unit_named-Contains}
 use Rattle.unit_core.proofs.QueueLemmas.{heads_outbound-keeps}
-use Rattle.unit_core.proofs.OnceLemmas.{MayJoin, at_each, Once-joins}
+use Rattle.unit_core.proofs.OnceLemmas.{Joins, MayJoin}
 use Rattle.trfc_protocol.specs.declared.world.World.{World}
 use Rattle.trfc_protocol.specs.declared.world.SystemState.{SystemState}
 use Rattle.trfc_protocol.specs.declared.held.Held.{Held}
 use Rattle.trfc_protocol.specs.declared.held.HeldKind.{HeldKind}
 use Rattle.trfc_protocol.specs.declared.held.HeldKind.TheVariants.{Out, In, Direct}
 use Rattle.trfc_protocol.specs.Meaning.{Meaning}
-use Rattle.trfc_protocol.specs.Legal.{IsLegal, may_follow, is_empty, is_genesis, IsUnitAt, IsLawful, is_free_outbound, is_free_inbound}
-use Rattle.trfc_protocol.specs.Worlds.{state_of, log_of, committed_by, committed_unit, offers_at, offers_now, with_record, appended}
+use Rattle.trfc_protocol.specs.Legal.{may_follow, may_follow_others, is_empty, is_model, IsUnitAt, IsLawful, is_free_outbound, is_free_inbound}
+use Rattle.trfc_protocol.specs.Worlds.{state_of, log_or_none, rest_or_none, up_or_not, log_found, log_of, log_under, is_up, committed_by, committed_unit, offers_at, offers_now, state_with, with_state, with_record}
 use Rattle.trfc_protocol.specs.Offered.{heads_at_sender}
-use Rattle.trfc_protocol.specs.Safe.{is_direct, is_due, Holds, AreApart, Safe}
-use Rattle.trfc_protocol.proofs.WorldLemmas.{joins, is_up-appended, length-appended, state_of-appended, state_of-appended_other, All-appended, kept-appended, offers_now-known}
-use Rattle.trfc_protocol.proofs.LegalLemmas.{IsLegal-push, committed-NoneTwice, committed-at, committed-grows, is_free_outbound-keeps, is_free_inbound-keeps, option_misses}
+use Rattle.trfc_protocol.specs.Safe.{is_direct, is_due, Holds, AreApart, Sound, Safe}
+use Rattle.trfc_protocol.proofs.WorldLemmas.{state_of-least, state_of-most, is_up-known, log_found-settled, log_found-cases, offers_now-known, length-with_state, state_of-here, state_of-elsewhere, at_each_state, kept-with_state, joins-with_state, is_up-with_state}
+use Rattle.trfc_protocol.proofs.LegalLemmas.{may_follow-others, offers_kept, committed-NoneTwice, committed-at, committed-grows, is_free_outbound-keeps, is_free_inbound-keeps, option_misses}
 use Rattle.trfc_protocol.proofs.ClaimLemmas.{All-from_Contains}
+use Rattle.trfc_protocol.proofs.SoundLemmas.{IsLonger, Sound-joins, MayJoin-further}
 
--- a record is not that of a claim's unit
-pub record Spares (next : Record) (held : Held) : Type 0 where
-  pub out : held.kind ≡ Out → ((t : TidOf) → done_by next ≡ Some t → t ≢ held.tid) × (mark_after Outgoing held.tid None next ≡ None)
-  pub in_ : held.kind ≡ In → ((t : TidOf) → executed_by next ≡ Some t → t ≢ held.tid) × (mark_after Incoming held.tid None next ≡ None)
-  pub direct : held.kind ≡ Direct → ((t : TidOf) → done_by next ≡ Some t → t ≢ held.tid) × ((unit : AleUnit) → taken_by next ≡ Some unit → unit.tid ≢ held.tid)
+-- a record joins the log of a system and is not that of a claim's unit
+pub record Spares (system : ℕ) (next : Record) (held : Held) : Type 0 where
+  pub out : held.kind ≡ Out → held.system ≡ system
+      → ((t : TidOf) → done_by next ≡ Some t → t ≢ held.tid) × (mark_after Outgoing held.tid None next ≡ None)
+  pub in_ : held.kind ≡ In → held.system ≡ system
+      → ((t : TidOf) → executed_by next ≡ Some t → t ≢ held.tid) × (mark_after Incoming held.tid None next ≡ None)
+  pub direct : held.kind ≡ Direct
+      → ((t : TidOf) → done_by next ≡ Some t → t ≢ held.tid)
+      × ((unit : AleUnit) → taken_by next ≡ Some unit → held.system ≡ system → unit.tid ≢ held.tid)
+      × (held.system ≡ system → is_model next ≡ false)
 
-push_not_empty : {A : Type 0} (xs : List A) (x : A) → xs ++ x ∷ [] ≢ []
-push_not_empty [] x same = cc
-push_not_empty (y ∷ ys) x same = cc
-
-genesis_alone : (rules : Meaning) (system : ℕ) (log : List Record) (next : Record) → log ≢ [] → may_follow rules system log next ≡ true
-    → is_genesis next ≡ false
-genesis_alone rules system [] next begun may = absurd (begun refl)
-genesis_alone rules system (x ∷ xs) (Genesis number text) begun may = cc
-genesis_alone rules system (x ∷ xs) _ begun may = refl
+-- a system may write a record: it is up, and the record may follow its log and join the logs of all
+pub record MayWrite {R : Type 0} (rules : Meaning) (world : World R) (system : ℕ) (next : Record) : Type 0 where
+  pub up : is_up world system ≡ true
+  pub may : may_follow rules system (log_of world system) next ≡ true
+  pub join : MayJoin (committed_by rules world) (log_of world) system next
 
 taken_elsewhere : (tid : TidOf) (found : Option AleUnit) → ((unit : AleUnit) → found ≡ Some unit → unit.tid ≢ tid) → is_among tid (cons_option found []) ≡ false
 taken_elsewhere tid None differs = refl
@@ -108,13 +109,34 @@ due-IsRun rules world system tid run =
     run.heads
 
 module _ {R : Type 0} (rules : Meaning) (lawful : IsLawful rules) (world : World R) (safe : Safe rules world) where
+  -- the logs as they are
+  pub sound_now : Sound rules (log_of world)
+  sound_now = safe.sound (λ _. false)
+
+  -- a claim of the world holds
+  pub hold : (held : Held) → Contains world.claims held → Holds rules world held
+  hold held has = All-contains (Holds rules world) world.claims held safe.hold has
+
   -- the units that a system committed have ids that differ
   pub numbered : (system : ℕ) → NoneTwice (tids_of (committed_by rules world system))
-  numbered system = committed-NoneTwice rules lawful system (log_of world system) (safe.legal system)
+  numbered system = committed-NoneTwice rules lawful system (log_of world system) (sound_now.legal system)
 
   -- a unit that a system committed has its place there
   pub committed_place : (system : ℕ) (unit : AleUnit) → Contains (committed_by rules world system) unit → (k : ℕ) × IsUnitAt rules.systems system k unit
-  committed_place system unit has = committed-at rules lawful system (log_of world system) (safe.legal system) unit has
+  committed_place system unit has = committed-at rules lawful system (log_of world system) (sound_now.legal system) unit has
+
+  -- a system that is known has a log that is begun
+  pub begun : (system : ℕ) (state : SystemState) → state_of world.systems system ≡ Some state → log_of world system ≢ []
+  begun system state known =
+      sound_now.begun system (state_of-least world.systems system state known)
+      (subst (λ n. system ≤ n) safe.systems (state_of-most world.systems system state known))
+
+  -- a record that may follow the records behind the first may follow the log of a system that is up
+  pub may_follow-up : (system : ℕ) (next : Record) → is_up world system ≡ true → may_follow_others rules system (log_of world system) next ≡ true
+      → may_follow rules system (log_of world system) next ≡ true
+  may_follow-up system next up may =
+      let known = is_up-known world system up in
+      may_follow-others rules system (log_of world system) next (begun system known.0 known.1) may
 
   -- a unit that is named by its id was committed by the system that the id names
   pub committed_unit-is : (tid : TidOf) (unit : AleUnit) → committed_unit rules world tid ≡ Some unit
@@ -130,7 +152,7 @@ module _ {R : Type 0} (rules : Meaning) (lawful : IsLawful rules) (world : World
       → (unit.receiver ≡ system) × (committed_unit rules world unit.tid ≡ Some unit)
   received-is system unit has =
       let was = All-contains (λ (u : AleUnit). (u.receiver ≡ system) × Contains (committed_by rules world u.sender) u) (received (log_of world system)) unit
-      (safe.once.taken_was_committed system) has in
+      (sound_now.once.taken_was_committed system) has in
       let at = (committed_place unit.sender unit was.1).1 in
       let from : unit.sender ≡ unit.tid.system = sym (ap (λ (t : TidOf). t.system) at.tid) in (
         was.0,
@@ -138,26 +160,45 @@ module _ {R : Type 0} (rules : Meaning) (lawful : IsLawful rules) (world : World
             (subst (λ s. Contains (committed_by rules world s) unit) from was.1),
       )
 
-  module _ (claims : List Held) (system : ℕ) (next : Record) (state : SystemState) (known : state_of world.systems system ≡ Some state)
-      (may : may_follow rules system (log_of world system) next ≡ true) (begun : log_of world system ≢ []) where
+  -- under each choice a log is as it is, or one record longer
+  pub under_longer : (choice : ℕ → Bool) (system : ℕ) → IsLonger (log_of world system) (log_under choice world system)
+  under_longer choice system = log_found-cases (choice system) (state_of world.systems system)
+
+  -- that of a system that is up is as it is
+  pub under_up : (choice : ℕ → Bool) (system : ℕ) → is_up world system ≡ true → log_under choice world system ≡ log_of world system
+  under_up choice system up = log_found-settled (choice system) (state_of world.systems system) (safe.settled system up)
+
+  -- a record that a system may write leaves the logs sound, under each choice
+  pub Sound-written : (system : ℕ) (next : Record) → MayWrite rules world system next → (choice : ℕ → Bool) (after : ℕ → List Record)
+      → Joins (log_under choice world) after system next → Sound rules after
+  Sound-written system next write choice after joins =
+      let same = under_up choice system write.up in
+      Sound-joins rules lawful (log_under choice world) after system next (safe.sound choice)
+      (subst (λ log. may_follow rules system log next ≡ true) (sym same) write.may)
+      (MayJoin-further rules lawful (log_of world) (log_under choice world) sound_now (safe.sound choice) (under_longer choice) system next same write.join)
+      joins
+
+  module _ (claims : List Held) (system : ℕ) (next : Record) (change : SystemState → SystemState) (state : SystemState)
+      (known : state_of world.systems system ≡ Some state) (longer : (change state).log ≡ state.log ++ next ∷ [])
+      (stays_up : state.up ≡ true → (change state).up ≡ true) (may : may_follow rules system (log_of world system) next ≡ true) where
     abbrev before : World R
     before = record world { claims = claims }
 
     abbrev after : World R
-    after = appended before system next
+    after = with_state before system change
 
     log_here : log_of after system ≡ log_of world system ++ next ∷ []
-    log_here = (joins before system next state known).here
+    log_here = (joins-with_state before system change state known next longer).here
 
     log_elsewhere : (other : ℕ) → other ≢ system → log_of after other ≡ log_of world other
-    log_elsewhere = (joins before system next state known).elsewhere
+    log_elsewhere = (joins-with_state before system change state known next longer).elsewhere
 
     committed_elsewhere : (other : ℕ) → other ≢ system → committed_by rules after other ≡ committed_by rules world other
     committed_elsewhere other differs = ap (rules.committed other) (log_elsewhere other differs)
 
     offers_elsewhere : (other : ℕ) → other ≢ system → (function : List ℕ) → offers_now rules after other function ≡ offers_now rules world other function
     offers_elsewhere other differs function = ap (λ found. offers_at rules other found function)
-        (state_of-appended_other before system next state known other differs)
+        (state_of-elsewhere before system change state known other differs)
 
     -- the lists of committed units go on
     pub committed_on : (other : ℕ) → IsPrefix (committed_by rules world other) (committed_by rules after other)
@@ -165,26 +206,28 @@ module _ {R : Type 0} (rules : Meaning) (lawful : IsLawful rules) (world : World
         elim (cases_eq other system) [
           | inl same ↦ subst (λ s. IsPrefix (committed_by rules world s) (committed_by rules after s)) (sym same)
               (subst (λ log. IsPrefix (committed_by rules world system) (rules.committed system log)) (sym log_here)
-              (committed-grows rules lawful system (log_of world system) (safe.legal system) next may))
+              (committed-grows rules lawful system (log_of world system) (sound_now.legal system) next may))
           | inr differs ↦ subst (IsPrefix (committed_by rules world other)) (sym (committed_elsewhere other differs))
               (IsPrefix-same (committed_by rules world other))
         ]
 
-    -- what is offered stays
-    pub offers_on : (other : ℕ) (function : List ℕ) → offers_now rules after other function ≡ offers_now rules world other function
-    offers_on other function =
+    -- what is offered stays, where the record is no Model
+    pub offers_on : (other : ℕ) (function : List ℕ) → (other ≡ system → is_model next ≡ false)
+        → offers_now rules after other function ≡ offers_now rules world other function
+    offers_on other function plain =
         elim (cases_eq other system) [
           | inl same ↦ subst (λ s. offers_now rules after s function ≡ offers_now rules world s function) (sym same)
-              (offers_now-known after rules system (with_record next state) function (state_of-appended before system next state known)
+              (offers_now-known after rules system (change state) function (state_of-here before system change state known)
               ∙ ap (λ log. rules.offers system log function) log_here
-              ∙ lawful.offers_stay system (log_of world system) next function (record { legal = safe.legal system; may = may })
-              (genesis_alone rules system (log_of world system) next begun may)
+              ∙ lawful.offers_stay system (log_of world system) next function (record { legal = sound_now.legal system; may = may })
+              (offers_kept rules system (log_of world system) next (begun system state known) may (plain same))
               ∙ sym (offers_now-known world rules system state function known))
           | inr differs ↦ offers_elsewhere other differs function
         ]
 
     -- what a claim was made for due still
-    out_due : (held : Held) → ((t : TidOf) → done_by next ≡ Some t → t ≢ held.tid) × (mark_after Outgoing held.tid None next ≡ None)
+    out_due : (held : Held)
+        → (held.system ≡ system → ((t : TidOf) → done_by next ≡ Some t → t ≢ held.tid) × (mark_after Outgoing held.tid None next ≡ None))
         → is_due rules world held Out ≡ true → is_due rules after held Out ≡ true
     out_due held spared due =
         let parts = and_parts (held.system == held.tid.system)
@@ -197,17 +240,19 @@ module _ {R : Type 0} (rules : Meaning) (lawful : IsLawful rules) (world : World
               (sym same) log_here in
               subst (λ units. is_free_outbound units (log_of after held.system) held.tid ≡ true) more.1
               (subst (λ l. is_free_outbound (committed_by rules world held.system ++ more.0) l held.tid ≡ true) (sym log)
-              (is_free_outbound-keeps (committed_by rules world held.system) more.0 (log_of world held.system) next held.tid parts.1 spared.0 spared.1))
+              (is_free_outbound-keeps (committed_by rules world held.system) more.0 (log_of world held.system) next held.tid parts.1
+              (spared same).0 (spared same).1))
           | inr differs ↦ subst (λ units. is_free_outbound units (log_of after held.system) held.tid ≡ true) (sym (committed_elsewhere held.system differs))
               (subst (λ l. is_free_outbound (committed_by rules world held.system) l held.tid ≡ true) (sym (log_elsewhere held.system differs)) parts.1)
         ])
 
-    in_due : (held : Held) → ((t : TidOf) → executed_by next ≡ Some t → t ≢ held.tid) × (mark_after Incoming held.tid None next ≡ None)
+    in_due : (held : Held)
+        → (held.system ≡ system → ((t : TidOf) → executed_by next ≡ Some t → t ≢ held.tid) × (mark_after Incoming held.tid None next ≡ None))
         → is_due rules world held In ≡ true → is_due rules after held In ≡ true
     in_due held spared due =
         elim (cases_eq held.system system) [
           | inl same ↦ subst (λ l. is_free_inbound l held.tid ≡ true) (sym (subst (λ s. log_of after s ≡ log_of world s ++ next ∷ []) (sym same) log_here))
-              (is_free_inbound-keeps (log_of world held.system) next held.tid due spared.0 spared.1)
+              (is_free_inbound-keeps (log_of world held.system) next held.tid due (spared same).0 (spared same).1)
           | inr differs ↦ subst (λ l. is_free_inbound l held.tid ≡ true) (sym (log_elsewhere held.system differs)) due
         ]
 
@@ -232,7 +277,7 @@ module _ {R : Type 0} (rules : Meaning) (lawful : IsLawful rules) (world : World
               (sym (log_elsewhere unit.tid.system differs)) heads)
         ]
 
-    new_on : (other : ℕ) (tid : TidOf) → ((unit : AleUnit) → taken_by next ≡ Some unit → unit.tid ≢ tid)
+    new_on : (other : ℕ) (tid : TidOf) → ((unit : AleUnit) → taken_by next ≡ Some unit → other ≡ system → unit.tid ≢ tid)
         → is_among tid (received (log_of world other)) ≡ false → is_among tid (received (log_of after other)) ≡ false
     new_on other tid spared new =
         elim (cases_eq other system) [
@@ -242,11 +287,14 @@ module _ {R : Type 0} (rules : Meaning) (lawful : IsLawful rules) (world : World
               ∙ filter_map-append taken_by (log_of world other) (next ∷ []) in
               ap (is_among tid) units ∙ list_any-append (λ (u : AleUnit). is_tid u.tid tid) (received (log_of world other)) (cons_option (taken_by next) [])
               ∙ or_from (is_among tid (received (log_of world other))) (is_among tid (cons_option (taken_by next) [])) new
-              (taken_elsewhere tid (taken_by next) spared)
+              (taken_elsewhere tid (taken_by next) (λ unit taken. spared unit taken same))
           | inr differs ↦ ap (λ l. is_among tid (received l)) (log_elsewhere other differs) ∙ new
         ]
 
-    direct_due : (held : Held) → ((t : TidOf) → done_by next ≡ Some t → t ≢ held.tid) × ((unit : AleUnit) → taken_by next ≡ Some unit → unit.tid ≢ held.tid)
+    direct_due : (held : Held)
+        → ((t : TidOf) → done_by next ≡ Some t → t ≢ held.tid)
+        × ((unit : AleUnit) → taken_by next ≡ Some unit → held.system ≡ system → unit.tid ≢ held.tid)
+        × (held.system ≡ system → is_model next ≡ false)
         → is_due rules world held Direct ≡ true → is_due rules after held Direct ≡ true
     direct_due held spared due =
         let run = IsRun-due rules world held.system held.tid due in
@@ -258,37 +306,53 @@ module _ {R : Type 0} (rules : Meaning) (lawful : IsLawful rules) (world : World
               ∙ find-longer (λ (u : AleUnit). is_tid u.tid held.tid) (committed_by rules world held.tid.system) more.0 run.unit run.named;
           receiver = run.receiver;
           direct = run.direct;
-          offers = offers_on held.system run.unit.function ∙ run.offers;
-          new = new_on held.system run.unit.tid (λ unit taken same. spared.1 unit taken (same ∙ its)) run.new;
+          offers = offers_on held.system run.unit.function spared.2 ∙ run.offers;
+          new = new_on held.system run.unit.tid (λ unit taken here same. spared.1 unit taken here (same ∙ its)) run.new;
           heads = heads_on run.unit (λ t finishes same. spared.0 t finishes (same ∙ its)) run.heads;
         })
 
-    by_kind : (held : Held) (kind : HeldKind) → held.kind ≡ kind → Spares next held → is_due rules world held kind ≡ true → is_due rules after held kind ≡ true
+    by_kind : (held : Held) (kind : HeldKind) → held.kind ≡ kind → Spares system next held → is_due rules world held kind ≡ true
+        → is_due rules after held kind ≡ true
     by_kind held Out is spared due = out_due held (spared.out is) due
     by_kind held In is spared due = in_due held (spared.in_ is) due
     by_kind held Direct is spared due = direct_due held (spared.direct is) due
 
-    holds_on : (held : Held) → Spares next held → Holds rules world held → Holds rules after held
-    holds_on held spared holds = record {
-      up = is_up-appended before system next state known held.system ∙ holds.up;
-      due = by_kind held held.kind refl spared holds.due;
-      number = subst (λ n. held.number < n) (sym (kept-appended before system next state known).1) holds.number;
-    }
+    -- the claims that the record is not of hold still
+    pub All-hold : ((held : Held) → Contains claims held → Holds rules world held) → ((held : Held) → Contains claims held → Spares system next held)
+        → All (Holds rules after) after.claims
+    All-hold holds spared =
+        let kept = kept-with_state before system change state known in
+        subst (All (Holds rules after)) (sym kept.0)
+        (All-from_Contains (Holds rules after) claims (λ held has.
+        let was = holds held has in
+        record {
+          up = is_up-with_state before system change state known stays_up held.system was.up;
+          due = by_kind held held.kind refl (spared held has) was.due;
+          number = subst (λ n. held.number < n) (sym kept.1) was.number;
+        }))
 
-    -- the world is safe still, where the record may join, and is not that of a unit that is claimed
-    pub Safe-appended : MayJoin (committed_by rules world) (log_of world) system next → ((held : Held) → Contains claims held → Holds rules world held)
-        → AreApart claims → ((held : Held) → Contains claims held → Spares next held) → Safe rules after
-    Safe-appended join hold apart spared = record {
-      systems = length-appended before system next state known ∙ safe.systems;
-      legal = at_each (log_of world) (log_of after) system next (joins before system next state known) (IsLegal rules) safe.legal
-          (IsLegal-push rules system (log_of world system) next (safe.legal system) may);
-      begun = at_each (log_of world) (log_of after) system next (joins before system next state known)
-          (λ s log. 1 ≤ s → s ≤ rules.systems → log ≢ []) safe.begun
-          (λ _ _. push_not_empty (log_of world system) next);
-      once = Once-joins (committed_by rules world) (committed_by rules after) (log_of world) (log_of after) system next numbered safe.once join
-          (joins before system next state known) committed_on;
-      settled = All-appended before (λ (s : SystemState). s.rest ≡ None) system next state known (λ none. none) safe.settled;
-      hold = subst (All (Holds rules after)) (sym (kept-appended before system next state known).0)
-          (All-from_Contains (Holds rules after) claims (λ held has. holds_on held (spared held has) (hold held has)));
-      apart = subst AreApart (sym (kept-appended before system next state known).0) apart;
-    }
+  -- the world is safe where a system writes a record, which is not that of a unit that is claimed still
+  pub Safe-written : (claims : List Held) (system : ℕ) (next : Record) → MayWrite rules world system next
+      → ((held : Held) → Contains claims held → Holds rules world held) → AreApart claims
+      → ((held : Held) → Contains claims held → Spares system next held) → Safe rules (with_record (record world { claims = claims }) system next)
+  Safe-written claims system next write holds apart spared =
+      let up = is_up-known world system write.up in
+      let state : SystemState = up.0 in
+      let known : state_of world.systems system ≡ Some state = up.1 in
+      let base : World R = record world { claims = claims } in
+      let change : SystemState → SystemState = state_with next in
+      let none : rest_or_none (state_of world.systems system) ≡ None = safe.settled system write.up in
+      let still : state.rest ≡ None = sym (ap rest_or_none known) ∙ none in
+      record {
+        systems = length-with_state base system change state known ∙ safe.systems;
+        sound = λ choice. Sound-written system next write choice (log_under choice (with_record base system next)) (record {
+          here = ap (log_found (choice system)) (state_of-here base system change state known)
+              ∙ log_found-settled (choice system) (Some (change state)) still
+              ∙ sym (ap (λ log. log ++ next ∷ []) (log_found-settled (choice system) (state_of world.systems system) none ∙ ap log_or_none known));
+          elsewhere = λ other differs. ap (log_found (choice other)) (state_of-elsewhere base system change state known other differs);
+        });
+        settled = at_each_state base system change state known (λ _ found. up_or_not found ≡ true → rest_or_none found ≡ None) (λ _. still)
+            (λ other _. safe.settled other);
+        hold = All-hold claims system next change state known refl (λ stays. stays) write.may holds spared;
+        apart = subst AreApart (sym (kept-with_state base system change state known).0) apart;
+      }

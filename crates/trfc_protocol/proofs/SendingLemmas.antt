@@ -1,5 +1,6 @@
 -- A safe world stays safe where a unit is claimed by its sender, and where it arrives.
 use Rattle.std.specs.Prelude.{Contains}
+use Rattle.std.specs.Option.{option_and_then, option_map_or}
 use Rattle.std.proofs.Common.{◌≡◌, ℕ, ◌==◌, Bool, true, false, not, cond, ◌&&◌, ◌||◌, Option, Some, None, inl, inr, refl, sym, ap, subst, ◌∙◌}
 use Rattle.std.proofs.lemmas.Bool.{cond_both, and_parts, and_from, or_cases, both_ways, not-true, not_from_false, eq-eqb}
 use Rattle.std.proofs.lemmas.Option.{same_Some, none-some}
@@ -13,16 +14,18 @@ use Rattle.trfc_protocol.specs.declared.world.World.{World}
 use Rattle.trfc_protocol.specs.declared.held.HeldKind.TheVariants.{Out, Direct}
 use Rattle.trfc_protocol.specs.declared.answer.Answer.{Answer}
 use Rattle.trfc_protocol.specs.declared.answer.Answer.TheVariants as answer
+use Rattle.trfc_protocol.specs.declared.event.Event.TheVariants as event
 use Rattle.trfc_protocol.specs.Meaning.{Meaning}
 use Rattle.trfc_protocol.specs.Legal.{is_empty, is_new, is_free_outbound, IsLawful}
-use Rattle.trfc_protocol.specs.Worlds.{log_of, is_up, committed_by, committed_unit, offers_now, appended, claimed, is_claimed}
+use Rattle.trfc_protocol.specs.Worlds.{log_of, is_up, committed_by, committed_unit, offers_now, with_record, with_claim, is_claimed}
 use Rattle.trfc_protocol.specs.Offered.{is_stopped_outbound, may_move, heads_at_sender, may_arrive, answer_to}
-use Rattle.trfc_protocol.specs.Happens.{claims_outbound, answered, arrives}
+use Rattle.trfc_protocol.specs.RecordOf.{record_of_answer, record_of_arrival}
+use Rattle.trfc_protocol.specs.Happens.{written, with_run, after_arrival, happens}
 use Rattle.trfc_protocol.specs.Safe.{Safe}
-use Rattle.trfc_protocol.proofs.LegalLemmas.{may_follow-others, MayJoin-accept}
+use Rattle.trfc_protocol.proofs.LegalLemmas.{MayJoin-accept}
 use Rattle.trfc_protocol.proofs.ClaimLemmas.{not_claimed}
-use Rattle.trfc_protocol.proofs.SafeLemmas.{due-IsRun, committed_unit-is}
-use Rattle.trfc_protocol.proofs.NextLemmas.{IsNext, Next-claimed, joins_as_is, stays}
+use Rattle.trfc_protocol.proofs.SafeLemmas.{MayWrite, due-IsRun, committed_unit-is, may_follow-up}
+use Rattle.trfc_protocol.proofs.NextLemmas.{IsNext, Next-with_claim, Next-written, stays}
 
 -- what the answer says of the receiver
 answer_New : (up among busy empty offers : Bool)
@@ -50,18 +53,18 @@ module _ {R : Type 0} (rules : Meaning) (lawful : IsLawful rules) (world : World
   Next after = IsNext rules world after
 
   -- a unit is claimed by its sender
-  pub Next-claims_outbound : (tid : TidOf) → Next (claims_outbound rules world tid)
+  pub Next-claims_outbound : (tid : TidOf) → Next (happens rules world (event.Claim tid))
   Next-claims_outbound tid =
       let up = is_up world tid.system in
       let free = is_free_outbound (committed_by rules world tid.system) (log_of world tid.system) tid in
       let idle = not (is_claimed Out tid world.claims) in
       let moves = may_move (is_stopped_outbound (log_of world tid.system)) (committed_unit rules world tid) in
-      cond_both (up && free && idle && moves) (claimed world tid tid.system Out) world Next
+      cond_both (up && free && idle && moves) (with_claim world tid tid.system Out) world Next
       (λ pass.
       let a = and_parts (up && free && idle) moves pass in
       let b = and_parts (up && free) idle a.0 in
       let c = and_parts up free b.0 in
-      Next-claimed rules lawful world safe tid tid.system Out c.0 (and_from (tid.system == tid.system) free (eq-eqb tid.system tid.system refl) c.1)
+      Next-with_claim rules lawful world safe tid tid.system Out c.0 (and_from (tid.system == tid.system) free (eq-eqb tid.system tid.system refl) c.1)
       (not-true (is_claimed Out tid world.claims) b.1))
       (λ _. stays rules lawful world safe)
 
@@ -97,39 +100,52 @@ module _ {R : Type 0} (rules : Meaning) (lawful : IsLawful rules) (world : World
         | inr is ↦ is
       ]
 
+  -- what the answer New says of the receiver
+  answer-new : (unit : AleUnit) → answer_to rules world unit ≡ answer.New
+      → (is_up world unit.receiver ≡ true) × (is_among unit.tid (received (log_of world unit.receiver)) ≡ false)
+      × (is_claimed Direct unit.tid world.claims ≡ false) × (is_empty unit.inq ≡ false)
+  answer-new unit is =
+      answer_New (is_up world unit.receiver) (is_among unit.tid (received (log_of world unit.receiver))) (is_claimed Direct unit.tid world.claims)
+      (is_empty unit.inq) (offers_now rules world unit.receiver unit.function) is
+
   -- a unit is taken in
+  pub writes-accept : (tid : TidOf) (unit : AleUnit) → committed_unit rules world tid ≡ Some unit → may_arrive rules world unit ≡ true
+      → answer_to rules world unit ≡ answer.New → MayWrite rules world unit.receiver (log.Accept unit)
+  writes-accept tid unit named may is =
+      let parts = answer-new unit is in
+      record {
+        up = parts.0;
+        may = may_follow-up rules lawful world safe unit.receiver (log.Accept unit) parts.0
+            (and_from (is_new unit.receiver (log_of world unit.receiver) unit) (not (is_empty unit.inq)) (new_from unit parts.1)
+            (not_from_false (is_empty unit.inq) parts.3));
+        join = MayJoin-accept (committed_by rules world) (log_of world) unit.receiver unit
+            (may_take tid unit unit.receiver named refl parts.1 (heads_of_new unit may parts.1));
+      }
+
   Next-accept : (tid : TidOf) (unit : AleUnit) → committed_unit rules world tid ≡ Some unit → may_arrive rules world unit ≡ true
-      → answer_to rules world unit ≡ answer.New
-      → Next (appended world unit.receiver (log.Accept unit))
+      → answer_to rules world unit ≡ answer.New → Next (with_record world unit.receiver (log.Accept unit))
   Next-accept tid unit named may is =
-      let among = is_among unit.tid (received (log_of world unit.receiver)) in
-      let parts = answer_New (is_up world unit.receiver) among (is_claimed Direct unit.tid world.claims) (is_empty unit.inq)
-      (offers_now rules world unit.receiver unit.function) is in
-      joins_as_is rules lawful world safe unit.receiver (log.Accept unit) parts.0
-      (λ some. may_follow-others rules unit.receiver (log_of world unit.receiver) (log.Accept unit) some
-      (and_from (is_new unit.receiver (log_of world unit.receiver) unit) (not (is_empty unit.inq)) (new_from unit parts.1)
-      (not_from_false (is_empty unit.inq) parts.3)))
-      (MayJoin-accept (committed_by rules world) (log_of world) unit.receiver unit
-      (may_take tid unit unit.receiver named refl parts.1 (heads_of_new unit may parts.1)))
+      Next-written rules lawful world safe unit.receiver (log.Accept unit) (writes-accept tid unit named may is)
       (λ held has. record {
-        out = λ kind. (λ t same. absurd (none-some t same), refl);
-        in_ = λ kind. (λ t same. absurd (none-some t same), refl);
+        out = λ kind here. (λ t same. absurd (none-some t same), refl);
+        in_ = λ kind here. (λ t same. absurd (none-some t same), refl);
         direct = λ kind. (
           λ t same. absurd (none-some t same),
-          λ u same its.
-              not_claimed Direct unit.tid world.claims parts.2 held has kind (sym its ∙ sym (ap (λ (v : AleUnit). v.tid) (same_Some unit u same))),
+          λ u same here its.
+              not_claimed Direct unit.tid world.claims (answer-new unit is).2 held has kind (sym its ∙ sym (ap (λ (v : AleUnit). v.tid) (same_Some unit u same))),
+          λ here. refl,
         );
       })
 
   -- a direct run begins
   Next-runs : (tid : TidOf) (unit : AleUnit) → committed_unit rules world tid ≡ Some unit → may_arrive rules world unit ≡ true
       → answer_to rules world unit ≡ answer.Run
-      → Next (claimed world unit.tid unit.receiver Direct)
+      → Next (with_claim world unit.tid unit.receiver Direct)
   Next-runs tid unit named may is =
       let parts = answer_Run (is_up world unit.receiver) (is_among unit.tid (received (log_of world unit.receiver)))
       (is_claimed Direct unit.tid world.claims) (is_empty unit.inq) (offers_now rules world unit.receiver unit.function) is in
       let its : unit.tid ≡ tid = (committed_unit-is rules lawful world safe tid unit named).1 in
-      Next-claimed rules lawful world safe unit.tid unit.receiver Direct parts.0
+      Next-with_claim rules lawful world safe unit.tid unit.receiver Direct parts.0
       (due-IsRun rules world unit.receiver unit.tid (record {
         unit = unit;
         named = subst (λ t. committed_unit rules world t ≡ Some unit) (sym its) named;
@@ -143,8 +159,7 @@ module _ {R : Type 0} (rules : Meaning) (lawful : IsLawful rules) (world : World
 
   -- the same by the answer
   by_answer : (tid : TidOf) (unit : AleUnit) (given : Answer) → committed_unit rules world tid ≡ Some unit → may_arrive rules world unit ≡ true
-      → answer_to rules world unit ≡ given
-      → Next (answered rules world unit given)
+      → answer_to rules world unit ≡ given → Next (written (record_of_answer unit given) (with_run world unit given))
   by_answer tid unit answer.New named may is = Next-accept tid unit named may is
   by_answer tid unit answer.Run named may is = Next-runs tid unit named may is
   by_answer tid unit answer.Down named may is = stays rules lawful world safe
@@ -153,8 +168,13 @@ module _ {R : Type 0} (rules : Meaning) (lawful : IsLawful rules) (world : World
   by_answer tid unit answer.SysFail named may is = stays rules lawful world safe
 
   -- a unit arrives, and its receiver answers
-  pub Next-arrives : (tid : TidOf) (found : Option AleUnit) → committed_unit rules world tid ≡ found → Next (arrives rules world found)
+  pub Next-arrives : (tid : TidOf) (found : Option AleUnit) → committed_unit rules world tid ≡ found
+      → Next (written (option_and_then (record_of_arrival rules world) found) (option_map_or (after_arrival rules world) found world))
   Next-arrives tid None named = stays rules lawful world safe
-  Next-arrives tid (Some unit) named =
-      cond_both (may_arrive rules world unit) (answered rules world unit (answer_to rules world unit)) world Next
-      (λ may. by_answer tid unit (answer_to rules world unit) named may refl) (λ _. stays rules lawful world safe)
+  Next-arrives tid (Some unit) named = at (may_arrive rules world unit) refl
+    where
+      at : (may : Bool) → may_arrive rules world unit ≡ may
+          → Next (written (cond may (record_of_answer unit (answer_to rules world unit)) None)
+          (cond may (with_run world unit (answer_to rules world unit)) world))
+      at true may = by_answer tid unit (answer_to rules world unit) named may refl
+      at false may = stays rules lawful world safe

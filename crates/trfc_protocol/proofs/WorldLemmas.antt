@@ -1,16 +1,15 @@
--- The systems of a world, and one more record in the log of one of them.
-use Rattle.std.specs.Prelude.{slice_get, slice_set, slice_index_or, All}
-use Rattle.std.proofs.Common.{◌≡◌, ◌≢◌, ℕ, zero, suc, ◌-◌, ◌≤◌, true, Option, Some, None, List, [], ◌∷◌, ◌++◌, length, inl, inr, refl, sym, ap, subst, ◌∙◌, arith}
+-- The systems of a world, and another state of one of them.
+use Rattle.std.specs.Prelude.{slice_get, slice_set, slice_index_or}
+use Rattle.std.proofs.Common.{◌≡◌, ◌≢◌, ℕ, zero, suc, ◌-◌, ◌≤◌, Bool, true, false, Option, Some, None, List, [], ◌∷◌, ◌++◌, length, inl, inr, ◌⊎◌, refl, sym, ap, subst, ◌∙◌, arith}
 use Rattle.std.proofs.lemmas.Bool.{cases_eq}
 use Rattle.std.proofs.lemmas.List.{length-set}
-use Rattle.std.proofs.lemmas.List.Elements.{All-set}
-use Rattle.std.proofs.lemmas.Option.{same_Some, slice_get_within, get_or_from_slice_get}
+use Rattle.std.proofs.lemmas.Option.{same_Some, slice_get_within}
 use Rattle.unit_core.specs.declared.records.Record.{Record}
 use Rattle.unit_core.proofs.OnceLemmas.{Joins}
 use Rattle.trfc_protocol.specs.declared.world.World.{World}
 use Rattle.trfc_protocol.specs.declared.world.SystemState.{SystemState}
 use Rattle.trfc_protocol.specs.Meaning.{Meaning}
-use Rattle.trfc_protocol.specs.Worlds.{state_of, log_or_none, up_or_not, log_of, is_up, offers_at, offers_now, with_record, appended_at, appended, released}
+use Rattle.trfc_protocol.specs.Worlds.{state_of, log_or_none, rest_or_none, up_or_not, log_with, log_found, log_of, is_up, offers_at, offers_now, with_state_at, with_state, without_claim}
 
 slice_get-set : {A : Type 0} (xs : List A) (k : ℕ) (x y : A) → slice_get xs k ≡ Some x → slice_get (slice_set xs k y) k ≡ Some y
 slice_get-set [] k x y here = cc
@@ -64,100 +63,101 @@ pub state_of-most : (systems : List SystemState) (system : ℕ) (state : SystemS
 state_of-most systems zero state known = omega arith
 state_of-most systems (suc k) state known = omega (arith, slice_get_within systems k state known)
 
-state_has : (P : SystemState → Type 0) (systems : List SystemState) (system : ℕ) (state : SystemState) → state_of systems system ≡ Some state
-    → All P systems → P state
-state_has P systems zero state known all = cc
-state_has P systems (suc k) state known all =
-    subst P (get_or_from_slice_get systems k state state known) (all k state (slice_get_within systems k state known))
-
 -- a system that is up is known
 up_known : (found : Option SystemState) → up_or_not found ≡ true → (state : SystemState) × (found ≡ Some state)
 up_known None up = cc
 up_known (Some state) up = (state, refl)
+
+-- a state that has nothing to find has one log
+pub log_found-settled : (choice : Bool) (found : Option SystemState) → rest_or_none found ≡ None → log_found choice found ≡ log_or_none found
+log_found-settled false found none = refl
+log_found-settled true None none = refl
+log_found-settled true (Some state) none = ap (log_with state.log) none
+
+-- what is found is the log, or the log and one record
+pub log_found-cases : (choice : Bool) (found : Option SystemState)
+    → (log_found choice found ≡ log_or_none found) ⊎ ((rest : Record) × (log_found choice found ≡ log_or_none found ++ rest ∷ []))
+log_found-cases false found = inl refl
+log_found-cases true None = inl refl
+log_found-cases true (Some state) = at state.rest refl
+  where
+    at : (rest : Option Record) → state.rest ≡ rest
+        → (log_with state.log state.rest ≡ state.log) ⊎ ((next : Record) × (log_with state.log state.rest ≡ state.log ++ next ∷ []))
+    at None is = inl (ap (log_with state.log) is)
+    at (Some next) is = inr (next, ap (log_with state.log) is)
 
 module _ {R : Type 0} (world : World R) where
   -- a system that is up is known
   pub is_up-known : (system : ℕ) → is_up world system ≡ true → (state : SystemState) × (state_of world.systems system ≡ Some state)
   is_up-known system up = up_known (state_of world.systems system) up
 
-  -- one more record in the log of a known system
-  pub appended-known : (system : ℕ) (next : Record) (state : SystemState) → state_of world.systems system ≡ Some state
-      → appended world system next ≡ record world { systems = slice_set world.systems (system - 1) (with_record next state) }
-  appended-known system next state known = ap (appended_at world (system - 1) next) known
-
-  with_state : ℕ → SystemState → World R
-  with_state system new = record world { systems = slice_set world.systems (system - 1) new }
-
-  pub joins : (system : ℕ) (next : Record) (state : SystemState) → state_of world.systems system ≡ Some state
-      → Joins (log_of world) (log_of (appended world system next)) system next
-  joins system next state known =
-      let after : World R = record world { systems = slice_set world.systems (system - 1) (with_record next state) } in
-      subst (λ (w : World R). Joins (log_of world) (log_of w) system next) (sym (appended-known system next state known))
-      (record {
-        here = ap log_or_none (state_of-set world.systems system state (with_record next state) known)
-            ∙ sym (ap (λ found. log_or_none found ++ next ∷ []) known);
-        elsewhere = λ other differs. ap log_or_none (state_of-set_other world.systems system other state (with_record next state) known differs);
-      })
-
-  -- what is up stays so
-  pub is_up-appended : (system : ℕ) (next : Record) (state : SystemState) → state_of world.systems system ≡ Some state
-      → (other : ℕ) → is_up (appended world system next) other ≡ is_up world other
-  is_up-appended system next state known other =
-      ap (λ (w : World R). is_up w other) (appended-known system next state known)
-      ∙ elim (cases_eq other system) [
-        | inl same ↦ subst (λ s. up_or_not (state_of (slice_set world.systems (system - 1) (with_record next state)) s) ≡ up_or_not
-            (state_of world.systems s)) (sym same)
-            (ap up_or_not (state_of-set world.systems system state (with_record next state) known) ∙ sym (ap up_or_not known))
-        | inr differs ↦ ap up_or_not (state_of-set_other world.systems system other state (with_record next state) known differs)
-      ]
-
-  -- the number of systems stays
-  pub length-appended : (system : ℕ) (next : Record) (state : SystemState) → state_of world.systems system ≡ Some state
-      → length (appended world system next).systems ≡ length world.systems
-  length-appended system next state known =
-      ap (λ (w : World R). length w.systems) (appended-known system next state known) ∙ length-set world.systems (system - 1) (with_record next state)
-
-  -- the state of the system whose log grows
-  pub state_of-appended : (system : ℕ) (next : Record) (state : SystemState) → state_of world.systems system ≡ Some state
-      → state_of (appended world system next).systems system ≡ Some (with_record next state)
-  state_of-appended system next state known =
-      ap (λ (w : World R). state_of w.systems system) (appended-known system next state known)
-      ∙ state_of-set world.systems system state (with_record next state) known
-
-  -- the state of each other system
-  pub state_of-appended_other : (system : ℕ) (next : Record) (state : SystemState) → state_of world.systems system ≡ Some state → (other : ℕ) → other ≢ system
-      → state_of (appended world system next).systems other ≡ state_of world.systems other
-  state_of-appended_other system next state known other differs =
-      ap (λ (w : World R). state_of w.systems other) (appended-known system next state known)
-      ∙ state_of-set_other world.systems system other state (with_record next state) known differs
-
-  -- a fact of each system's state, where the record leaves it
-  pub All-appended : (P : SystemState → Type 0) (system : ℕ) (next : Record) (state : SystemState) → state_of world.systems system ≡ Some state
-      → (P state → P (with_record next state)) → All P world.systems → All P (appended world system next).systems
-  All-appended P system next state known keeps all =
-      subst (λ (w : World R). All P w.systems) (sym (appended-known system next state known))
-      (All-set P world.systems (system - 1) (with_record next state) (keeps (state_has P world.systems system state known all)) all)
-
-  -- what a record that joins a log leaves of the world
-  pub kept-appended : (system : ℕ) (next : Record) (state : SystemState) → state_of world.systems system ≡ Some state
-      → ((appended world system next).claims ≡ world.claims) × ((appended world system next).next_number ≡ world.next_number)
-      × ((appended world system next).rules ≡ world.rules)
-  kept-appended system next state known =
-      let same = appended-known system next state known in
-      (ap (λ (w : World R). w.claims) same, ap (λ (w : World R). w.next_number) same, ap (λ (w : World R). w.rules) same)
-
-  -- a claim that goes and a record that joins do so in any order
-  pub released-appended : (system number : ℕ) (next : Record)
-      → released (appended world system next) number ≡ appended (released world number) system next
-  released-appended system number next = at (state_of world.systems system)
-    where
-      at : (found : Option SystemState)
-          → released (appended_at world (system - 1) next found) number ≡ appended_at (released world number) (system - 1) next found
-      at None = refl
-      at (Some state) = refl
-
   -- what a known system offers, by its log
   pub offers_now-known : (rules : Meaning) (system : ℕ) (state : SystemState) (function : List ℕ) → state_of world.systems system ≡ Some state
       → offers_now rules world system function ≡ rules.offers system (log_of world system) function
   offers_now-known rules system state function known =
       ap (λ found. offers_at rules system found function) known ∙ sym (ap (λ found. rules.offers system (log_or_none found) function) known)
+
+  -- another state of a system that is not known leaves the world
+  pub with_state-unknown : (system : ℕ) (change : SystemState → SystemState) → state_of world.systems system ≡ None
+      → with_state world system change ≡ world
+  with_state-unknown system change unknown = ap (with_state_at world (system - 1) change) unknown
+
+  -- a claim that goes and another state come in any order
+  pub without_claim-with_state : (system number : ℕ) (change : SystemState → SystemState)
+      → without_claim (with_state world system change) number ≡ with_state (without_claim world number) system change
+  without_claim-with_state system number change = at (state_of world.systems system)
+    where
+      at : (found : Option SystemState)
+          → without_claim (with_state_at world (system - 1) change found) number ≡ with_state_at (without_claim world number) (system - 1) change found
+      at None = refl
+      at (Some state) = refl
+
+  module _ (system : ℕ) (change : SystemState → SystemState) (state : SystemState) (known : state_of world.systems system ≡ Some state) where
+    -- another state of a known system
+    pub with_state-known : with_state world system change ≡ record world { systems = slice_set world.systems (system - 1) (change state) }
+    with_state-known = ap (with_state_at world (system - 1) change) known
+
+    -- the number of systems stays
+    pub length-with_state : length (with_state world system change).systems ≡ length world.systems
+    length-with_state = ap (λ (w : World R). length w.systems) with_state-known ∙ length-set world.systems (system - 1) (change state)
+
+    -- the state of that system
+    pub state_of-here : state_of (with_state world system change).systems system ≡ Some (change state)
+    state_of-here = ap (λ (w : World R). state_of w.systems system) with_state-known ∙ state_of-set world.systems system state (change state) known
+
+    -- the state of each other system
+    pub state_of-elsewhere : (other : ℕ) → other ≢ system → state_of (with_state world system change).systems other ≡ state_of world.systems other
+    state_of-elsewhere other differs =
+        ap (λ (w : World R). state_of w.systems other) with_state-known
+        ∙ state_of-set_other world.systems system other state (change state) known differs
+
+    -- what holds of the state of that system, and of all others as they were, holds of each
+    pub at_each_state : (P : ℕ → Option SystemState → Type 0) → P system (Some (change state))
+        → ((other : ℕ) → other ≢ system → P other (state_of world.systems other))
+        → (other : ℕ) → P other (state_of (with_state world system change).systems other)
+    at_each_state P here elsewhere other =
+        elim (cases_eq other system) [
+          | inl same ↦ subst (λ s. P s (state_of (with_state world system change).systems s)) (sym same) (subst (P system) (sym state_of-here) here)
+          | inr differs ↦ subst (P other) (sym (state_of-elsewhere other differs)) (elsewhere other differs)
+        ]
+
+    -- the rest of the world stays
+    pub kept-with_state : ((with_state world system change).claims ≡ world.claims) × ((with_state world system change).next_number ≡ world.next_number)
+        × ((with_state world system change).rules ≡ world.rules)
+    kept-with_state =
+        let same = with_state-known in
+        (ap (λ (w : World R). w.claims) same, ap (λ (w : World R). w.next_number) same, ap (λ (w : World R). w.rules) same)
+
+    -- a log that another state makes one record longer
+    pub joins-with_state : (next : Record) → (change state).log ≡ state.log ++ next ∷ []
+        → Joins (log_of world) (log_of (with_state world system change)) system next
+    joins-with_state next longer = record {
+      here = ap log_or_none state_of-here ∙ longer ∙ sym (ap (λ found. log_or_none found ++ next ∷ []) known);
+      elsewhere = λ other differs. ap log_or_none (state_of-elsewhere other differs);
+    }
+
+    -- what is up stays so, where another state leaves it up
+    pub is_up-with_state : (state.up ≡ true → (change state).up ≡ true) → (other : ℕ) → is_up world other ≡ true
+        → is_up (with_state world system change) other ≡ true
+    is_up-with_state stays =
+        at_each_state (λ s found. is_up world s ≡ true → up_or_not found ≡ true) (λ up. stays (sym (ap up_or_not known) ∙ up)) (λ _ _ up. up)

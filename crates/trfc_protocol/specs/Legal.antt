@@ -1,5 +1,5 @@
--- Which record may follow a log. Those of the application (Commit, Dispatch, Put, App, Repost) are left to the rules; the
--- protocol decides all others.
+-- Which record may follow a log. Those of the application and of the model (Commit, Dispatch, Put, App, Repost, Model) are
+-- left to the rules; the protocol decides all others.
 use Rattle.std.specs.Prelude.{◌≡◌, ℕ, ◌+◌, ◌<◌, ◌≤◌, ⊤, Bool, true, false, not, ◌==◌, ◌&&◌, nat_le, Option, Some, None, List, [], ◌∷◌, ◌++◌, length, slice_index_or}
 use Rattle.ale_base.specs.Tid.{TidOf}
 use Rattle.ale_base.specs.declared.system_no.TheConstants.SystemNo.{MAX}
@@ -8,7 +8,7 @@ use Rattle.ale_base.specs.declared.way.Way.{Way}
 use Rattle.ale_base.specs.declared.way.Way.TheVariants.{Outgoing, Incoming}
 use Rattle.unit_core.specs.declared.ale_unit.AleUnit.{AleUnit}
 use Rattle.unit_core.specs.declared.records.Record.{Record}
-use Rattle.unit_core.specs.declared.records.Record.TheVariants.{Genesis, Commit, Dispatch, Mark, Done, Ended, Accept, Execute, Direct, Fail, Forget, Stop, Start, Retry, Put, App, Repost}
+use Rattle.unit_core.specs.declared.records.Record.TheVariants.{Genesis, Commit, Dispatch, Mark, Done, Ended, Accept, Execute, Direct, Fail, Forget, Stop, Start, Retry, Put, App, Repost, Model}
 use Rattle.unit_core.specs.Filters.{received, executed, done_in, ended_in, forgotten_in, is_marked}
 use Rattle.unit_core.specs.Queues.{is_listed, is_among, unit_named, is_outstanding, are_different, heads_outbound, heads_inbound}
 use Rattle.ale_base.specs.Prefix.{IsPrefix}
@@ -81,6 +81,7 @@ may_follow_others rules system log Dispatch = rules.allows system log Dispatch
 may_follow_others rules system log (Put kind key fields) = rules.allows system log (Put kind key fields)
 may_follow_others rules system log (App doc) = rules.allows system log (App doc)
 may_follow_others rules system log (Repost doc) = rules.allows system log (Repost doc)
+may_follow_others rules system log (Model text) = rules.allows system log (Model text)
 
 -- whether a record may begin a log
 abbrev pub may_begin : ℕ → Record → Bool
@@ -108,7 +109,7 @@ is_commit (Commit origin docs) = true
 is_commit Dispatch = true
 is_commit _ = false
 
--- the records of an operator and of the application
+-- the records of an operator and of the application, and the one that replaces the model
 abbrev pub is_operators : Record → Bool
 is_operators (Stop way destination name) = true
 is_operators (Start way destination name) = true
@@ -116,12 +117,19 @@ is_operators (Retry way tid) = true
 is_operators (Put kind key fields) = true
 is_operators (App doc) = true
 is_operators (Repost doc) = true
+is_operators (Model text) = true
 is_operators _ = false
 
--- the record that begins a log
-abbrev pub is_genesis : Record → Bool
-is_genesis (Genesis number text) = true
-is_genesis _ = false
+-- the record that replaces the model
+abbrev pub is_model : Record → Bool
+is_model (Model text) = true
+is_model _ = false
+
+-- the records that may change what a system offers: they say by which model it goes
+abbrev pub may_change_offers : Record → Bool
+may_change_offers (Genesis number text) = true
+may_change_offers (Model text) = true
+may_change_offers _ = false
 
 -- the unit at place k of the units that a system commits: its id has the number after k, it is for another system, and
 -- the names of its queues differ in each direction
@@ -134,8 +142,8 @@ pub record IsUnitAt (systems system k : ℕ) (unit : AleUnit) : Type 0 where
   pub outbound_names : are_different unit.outq ≡ true
   pub inbound_names : are_different unit.inq ≡ true
 
--- a legal log goes on by a record that may follow it
-pub record GoesOn (rules : Meaning) (system : ℕ) (log : List Record) (next : Record) : Type 0 where
+-- a record may follow a legal log
+pub record MayFollow (rules : Meaning) (system : ℕ) (log : List Record) (next : Record) : Type 0 where
   pub legal : IsLegal rules system log
   pub may : may_follow rules system log next ≡ true
 
@@ -150,11 +158,11 @@ pub record IsLawful (rules : Meaning) : Type 0 where
   pub numbered : (system : ℕ) (log : List Record) → IsLegal rules system log → (k : ℕ) (d : AleUnit) → k < length (rules.committed system log)
       → IsUnitAt rules.systems system k (slice_index_or (rules.committed system log) k d)
   pub most : (system : ℕ) (log : List Record) → IsLegal rules system log → length (rules.committed system log) ≤ MAX_UNIT
-  -- a record that commits adds units behind those before it, and every other record leaves them
-  pub commits : (system : ℕ) (log : List Record) (next : Record) → GoesOn rules system log next → is_commit next ≡ true
+  -- a record that commits adds units behind those before it, and every other record leaves them, after any log
+  pub commits : (system : ℕ) (log : List Record) (next : Record) → MayFollow rules system log next → is_commit next ≡ true
       → IsPrefix (rules.committed system log) (rules.committed system (log ++ next ∷ []))
-  pub commits_nothing : (system : ℕ) (log : List Record) (next : Record) → GoesOn rules system log next → is_commit next ≡ false
+  pub commits_nothing : (system : ℕ) (log : List Record) (next : Record) → is_commit next ≡ false
       → rules.committed system (log ++ next ∷ []) ≡ rules.committed system log
-  -- a record behind the first leaves what is offered
-  pub offers_stay : (system : ℕ) (log : List Record) (next : Record) (function : List ℕ) → GoesOn rules system log next → is_genesis next ≡ false
+  -- a record that says nothing of the model leaves what is offered
+  pub offers_stay : (system : ℕ) (log : List Record) (next : Record) (function : List ℕ) → MayFollow rules system log next → may_change_offers next ≡ false
       → rules.offers system (log ++ next ∷ []) function ≡ rules.offers system log function

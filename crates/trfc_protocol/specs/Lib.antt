@@ -6,11 +6,17 @@ pub mod Legal
 pub mod Worlds
 -- which unit is offered, and how its arrival is answered
 pub mod Offered
--- the events
+-- whether two units are the same
+pub mod SameUnit
+-- which record an event appends
+pub mod RecordOf
+-- which record a system may be writing as it falls
+pub mod Keeping
+-- what an event makes of the world
 pub mod Happens
 -- what holds of the world at every moment
 pub mod Safe
--- the world at first
+-- a world that begins with given logs
 pub mod Start
 -- rules that list each system's units, and their laws
 pub mod ListedRules

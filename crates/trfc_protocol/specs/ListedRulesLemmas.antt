@@ -10,7 +10,7 @@ use Rattle.unit_core.specs.declared.records.Record.{Record}
 use Rattle.unit_core.specs.declared.records.Record.TheVariants.{Commit}
 use Rattle.ale_base.specs.Prefix.{IsPrefix}
 use Rattle.unit_core.specs.Queues.{are_different}
-use Rattle.trfc_protocol.specs.Legal.{IsUnitAt, IsLawful, is_commit, may_follow}
+use Rattle.trfc_protocol.specs.Legal.{IsUnitAt, IsLawful, is_commit}
 use Rattle.trfc_protocol.specs.ListedRules.{is_unit, are_units, are_lists, are_listed, list_of, is_commit_record, commits_of, listed_meaning}
 
 is_unit-at : (systems system k : ℕ) (unit : AleUnit) → is_unit systems system (k + 1) unit ≡ true → IsUnitAt systems system k unit
@@ -107,10 +107,9 @@ commits_of-push (x ∷ xs) next =
     ap (λ (n : ℕ). cond (is_commit_record x) 1 0 + n) (commits_of-push xs next)
     ∙ sym (add_assoc (cond (is_commit_record x) 1 0) (commits_of xs) (commits_of (next ∷ [])))
 
-no_dispatch : (lists : List (List AleUnit)) (system : ℕ) (log : List Record) (next : Record) → may_follow (listed_meaning lists) system log next ≡ true
-    → is_commit next ≡ false → commits_of (next ∷ []) ≡ 0
-no_dispatch lists system log (Commit origin docs) may is = cc
-no_dispatch lists system log _ may is = refl
+none_committed : (next : Record) → is_commit next ≡ false → commits_of (next ∷ []) ≡ 0
+none_committed (Commit origin docs) is = cc
+none_committed _ is = refl
 
 -- the laws hold
 pub lawful : (lists : List (List AleUnit)) → IsTrue (are_listed lists) → IsLawful (listed_meaning lists)
@@ -132,9 +131,9 @@ lawful lists are =
       commits = λ system log next goes is.
           subst (λ (n : ℕ). IsPrefix (take (commits_of log) (list_of lists system)) (take n (list_of lists system))) (sym (commits_of-push log next))
           (take-further (list_of lists system) (commits_of log) (commits_of (next ∷ [])));
-      commits_nothing = λ system log next goes is.
+      commits_nothing = λ system log next is.
           let none : commits_of log + 0 ≡ commits_of log = omega arith in
           ap (λ (n : ℕ). take n (list_of lists system))
-          (commits_of-push log next ∙ ap (λ (n : ℕ). commits_of log + n) (no_dispatch lists system log next goes.may is) ∙ none);
+          (commits_of-push log next ∙ ap (λ (n : ℕ). commits_of log + n) (none_committed next is) ∙ none);
       offers_stay = λ system log next function goes is. refl;
     }

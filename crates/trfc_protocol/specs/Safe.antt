@@ -1,6 +1,7 @@
 -- What holds of the world at every moment.
 use Rattle.std.specs.Prelude.{◌≡◌, ◌≢◌, ℕ, ◌<◌, ◌≤◌, ⊤, Bool, true, false, not, ◌==◌, ◌&&◌, Option, Some, None, List, [], ◌∷◌, length, All}
 use Rattle.unit_core.specs.declared.ale_unit.AleUnit.{AleUnit}
+use Rattle.unit_core.specs.declared.records.Record.{Record}
 use Rattle.unit_core.specs.Filters.{received}
 use Rattle.unit_core.specs.Queues.{is_among}
 use Rattle.unit_core.specs.Once.{Once}
@@ -10,7 +11,7 @@ use Rattle.trfc_protocol.specs.declared.held.HeldKind.{HeldKind}
 use Rattle.trfc_protocol.specs.declared.held.HeldKind.TheVariants.{Out, In, Direct}
 use Rattle.trfc_protocol.specs.Meaning.{Meaning}
 use Rattle.trfc_protocol.specs.Legal.{IsLegal, is_empty, is_free_outbound, is_free_inbound}
-use Rattle.trfc_protocol.specs.Worlds.{log_of, is_up, offers_now, committed_by, committed_unit, is_claimed, claim_of}
+use Rattle.trfc_protocol.specs.Worlds.{log_of, log_under, rest_of, is_up, offers_now, committed_by, committed_unit, is_claimed, claim_of}
 use Rattle.trfc_protocol.specs.Offered.{heads_at_sender}
 
 -- a direct run is due: the unit has no inbound queue and a function that its receiver offers, was not received, and heads its
@@ -42,14 +43,18 @@ abbrev pub AreApart : List Held → Type 0
 AreApart [] = ⊤
 AreApart (held ∷ others) = (claim_of held.number others ≡ None) × (is_claimed held.kind held.tid others ≡ false) × AreApart others
 
--- the logs are legal and keep the exactly-once law, and each claim holds. No system has a record that it may find at its
--- opening, since none has fallen
+-- the logs of all systems are legal, each begins with its Genesis, and together they keep the exactly-once law
+pub record Sound (rules : Meaning) (logs : ℕ → List Record) : Type 0 where
+  pub legal : (system : ℕ) → IsLegal rules system (logs system)
+  pub begun : (system : ℕ) → 1 ≤ system → system ≤ rules.systems → logs system ≢ []
+  pub once : Once (λ system. rules.committed system (logs system)) logs
+
+-- Whatever the systems that are down find at their openings, the logs are sound. A system that is up has nothing to find.
+-- Each claim holds, by the logs as they are.
 pub record Safe {R : Type 0} (rules : Meaning) (world : World R) : Type 0 where
   pub systems : length world.systems ≡ rules.systems
-  pub legal : (system : ℕ) → IsLegal rules system (log_of world system)
-  pub begun : (system : ℕ) → 1 ≤ system → system ≤ rules.systems → log_of world system ≢ []
-  pub once : Once (committed_by rules world) (log_of world)
-  pub settled : All (λ state. state.rest ≡ None) world.systems
+  pub sound : (choice : ℕ → Bool) → Sound rules (log_under choice world)
+  pub settled : (system : ℕ) → is_up world system ≡ true → rest_of world system ≡ None
   pub hold : All (Holds rules world) world.claims
   pub apart : AreApart world.claims
 

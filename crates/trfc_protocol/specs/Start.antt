@@ -1,16 +1,28 @@
--- The world at first.
-use Rattle.std.specs.Prelude.{ℕ, true, None, [], ◌∷◌, map}
+-- A world that begins with given logs.
+use Rattle.std.specs.Prelude.{ℕ, zero, suc, true, None, List, [], ◌∷◌, map, slice_index_or}
 use Rattle.std.specs.List.{range_with_len}
+use Rattle.unit_core.specs.declared.records.Record.{Record}
 use Rattle.unit_core.specs.declared.records.Record.TheVariants.{Genesis}
 use Rattle.trfc_protocol.specs.declared.world.World.{World}
 use Rattle.trfc_protocol.specs.declared.world.SystemState.{SystemState}
-use Rattle.trfc_protocol.specs.Meaning.{Meaning}
 
--- a system at first: it is up, and its log is its Genesis, with an empty text
-abbrev pub started_state : ℕ → SystemState
-started_state number = record { log = Genesis number [] ∷ []; up = true; rest = None }
+-- the log of a system among those of all, which are numbered from 1
+abbrev pub log_in : List (List Record) → ℕ → List Record
+log_in logs zero = []
+log_in logs (suc k) = slice_index_or logs k []
 
--- the world at first: all systems, numbered from 1, and no claim
-abbrev pub started : {R : Type 0} → Meaning → R → World R
-started meaning rules =
-    record { rules = rules; systems = map started_state (range_with_len 1 meaning.systems); claims = []; falls = 0; next_number = 1 }
+-- a system that begins with a log: it is up
+abbrev pub first_state : List Record → SystemState
+first_state log = record { log = log; up = true; rest = None }
+
+-- the world that begins with these logs: all systems are up, and there is no claim
+abbrev pub first_world : {R : Type 0} → R → List (List Record) → World R
+first_world rules logs = record { rules = rules; systems = map first_state logs; claims = []; falls = 0; next_number = 1 }
+
+-- a log that is a Genesis alone
+abbrev pub genesis_log : List ℕ → ℕ → List Record
+genesis_log text system = Genesis system text ∷ []
+
+-- each system's log is its Genesis, with the same text
+abbrev pub genesis_logs : List ℕ → ℕ → List (List Record)
+genesis_logs text systems = map (genesis_log text) (range_with_len 1 systems)

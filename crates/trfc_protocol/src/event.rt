@@ -55,12 +55,13 @@ pub enum Event {
     Operator {
         action: Action,
     },
-    /// A system falls, and may find a record at its opening. Not part of the protocol yet.
+    /// A system falls. The record is the one that it was writing, which it may find at its opening; with none it finds
+    /// nothing.
     Fall {
         system: SystemNo,
         kept: Option<Record>,
     },
-    /// A system is opened. Not part of the protocol yet.
+    /// A system that is down is opened, and finds what it may find.
     Open {
         system: SystemNo,
     },
@@ -89,7 +90,7 @@ pub enum CoreAnswer {
 /// What an operator or the application does.
 #[derive(Debug, Drop)]
 pub enum Action {
-    /// Appends a Stop, Start, Retry, Put, App or Repost.
+    /// Appends a Stop, Start, Retry, Put, App, Repost or Model.
     Append(SystemNo, Record),
     /// Drops all claims.
     Revoke,

@@ -1,22 +1,25 @@
 //! What each event makes of a world, by the headings of the protocol's page: records of documents and of the operator here,
-//! and in the files below how a unit is sent, executed, replied to and confirmed. Only `step` calls it.
+//! and in the files below how a unit is sent, executed, replied to and confirmed, and how a system falls and is opened. Only
+//! `step` calls it.
 
 mod confirming;
 mod executing;
+mod falling;
 mod replying;
 mod sending;
 
-use crate::legal::{is_commit, is_operators, may_follow};
+use crate::legal::{is_commit, is_model, is_operators, may_follow};
 use crate::{Action, Event, Held, ReplyTo, Rules, World};
 use ale_base::{Items, OutOfMemory, SystemNo};
 use std::alloc::Global;
 use unit_core::Record;
 
 impl<R: Rules> World<R> {
-    ghost use Rattle.std.specs.Prelude.{◌≡◌, ◌&&◌, [], OnOk, OnErr, IfOk};
-    ghost use Rattle.trfc_protocol.specs.Worlds.{log_of, is_up};
-    ghost use Rattle.trfc_protocol.specs.Happens.{happens, writes, closes};
-    ghost use Rattle.trfc_protocol.specs.Legal.{may_follow};
+    ghost use Rattle.std.specs.Prelude.{◌≡◌, [], OnOk, OnErr, IfOk};
+    ghost use Rattle.trfc_protocol.specs.Worlds.{with_record, without_claim};
+    ghost use Rattle.trfc_protocol.specs.RecordOf.{may_operate, record_asked};
+    ghost use Rattle.trfc_protocol.specs.Happens.{happens, written};
+    ghost use Rattle.trfc_protocol.specs.Keeping.{may_append};
     ghost use Rattle.trfc_protocol.specs.Safe.{IsSafe};
 
     /// Lets an event happen. An event makes one record or one claim at most, and that is the one step that can fail, so
@@ -36,8 +39,10 @@ impl<R: Rules> World<R> {
             Event::Reply { to } => self.reply(alloc, to),
             Event::LoseRequest { number } | Event::LoseReply { number } => self.lose(*number),
             Event::Confirm { tid } => self.confirm(alloc, *tid),
+            Event::LoseConfirm { .. } => Ok(()),
             Event::Operator { action } => self.operate(alloc, action),
-            Event::LoseConfirm { .. } | Event::Fall { .. } | Event::Open { .. } => Ok(()),
+            Event::Fall { system, kept } => self.fall_with(alloc, *system, kept),
+            Event::Open { system } => self.open_fallen(*system),
         }
     }
 
@@ -60,7 +65,9 @@ impl<R: Rules> World<R> {
         ensures err { OnErr result (self.new ≡ self.old) }
     {
         match action {
-            Action::Append(system, next) => self.write(alloc, is_operators(next), *system, next),
+            Action::Append(system, next) => {
+                self.write(alloc, self.may_operate(next), *system, next)
+            }
             Action::Revoke => {
                 self.revoke(alloc);
                 Ok(())
@@ -75,6 +82,14 @@ impl<R: Rules> World<R> {
         self.claims = Items::new(alloc);
     }
 
+    /// Whether an operator or the application may append a record of this kind. The model is replaced only where there is no
+    /// claim.
+    pub(crate) fn may_operate(&self, next: &Record) -> bool
+        ensures { result ≡ may_operate self.now next.now }
+    {
+        is_operators(next) && (!is_model(next) || self.claims.is_empty())
+    }
+
     /// A system that is up appends a record that may follow its log, where it is of the kind that is asked for.
     fn write(
         &mut self,
@@ -84,7 +99,7 @@ impl<R: Rules> World<R> {
         next: &Record,
     ) -> Result<(), OutOfMemory>
         requires { IsSafe R.meaning self.old }
-        ensures ok { OnOk result (self.new ≡ writes (R.meaning self.old.rules) self.old of_kind system next.now) }
+        ensures ok { OnOk result (self.new ≡ written (record_asked (R.meaning self.old.rules) self.old of_kind system next.now) self.old) }
         ensures err { OnErr result (self.new ≡ self.old) }
     {
         if !self.may_write(alloc, of_kind, system, next)? {
@@ -95,7 +110,7 @@ impl<R: Rules> World<R> {
     }
 
     /// Whether a system is up, and a record of the kind that is asked for may follow its log.
-    fn may_write(
+    pub(crate) fn may_write(
         &self,
         alloc: Global,
         of_kind: bool,
@@ -103,17 +118,17 @@ impl<R: Rules> World<R> {
         next: &Record,
     ) -> Result<bool, OutOfMemory>
         requires { IsSafe R.meaning self.now }
-        ensures { IfOk result (λ may. may ≡ (is_up self.now system && of_kind && may_follow (R.meaning self.now.rules) system (log_of self.now system) next.now)) }
+        ensures { IfOk result (λ may. may ≡ may_append (R.meaning self.now.rules) self.now of_kind system next.now) }
     {
         if !self.is_up(system) || !of_kind {
             return Ok(false);
         }
-        may_follow(alloc, &self.rules, system, self.log(system), next)
+        may_follow(alloc, &self.rules, system, self.legal_log(system), next)
     }
 
     /// The work of a claim ends: its system appends a record, and the claim goes.
     pub(crate) fn close(&mut self, held: &Held, next: Record) -> Result<(), OutOfMemory>
-        ensures ok { OnOk result (self.new ≡ closes (R.meaning self.old.rules) self.old held.now next) }
+        ensures ok { OnOk result (self.new ≡ with_record (without_claim self.old held.now.number) held.now.system next) }
         ensures err { OnErr result (self.new ≡ self.old) }
     {
         // The claim goes last: it is still there where memory runs out.

@@ -1,10 +1,10 @@
-//! Which record may follow a legal log.
+//! Legal logs: which record may follow one, and whether a log is one.
 
-ghost use Rattle.std.specs.Prelude.{◌≡◌, ◌≤◌, ◌&&◌, not, IfOk};
+ghost use Rattle.std.specs.Prelude.{◌≡◌, ◌≤◌, ◌&&◌, ◌↔◌, not, IsTrue, IfOk};
 ghost use Rattle.unit_core.specs.Filters.{received, done_in, ended_in, forgotten_in};
 ghost use Rattle.unit_core.specs.Queues.{is_listed, is_among};
 ghost use Rattle.trfc_protocol.specs.Meaning.{Meaning};
-ghost use Rattle.trfc_protocol.specs.Legal.{IsLegal, may_begin, may_follow, may_follow_others, is_free_outbound, is_free_inbound, is_new, is_destination, is_open_at, offers_received, is_commit, is_operators};
+ghost use Rattle.trfc_protocol.specs.Legal.{IsLegal, may_begin, may_follow, may_follow_others, is_free_outbound, is_free_inbound, is_new, is_destination, is_open_at, offers_received, is_commit, is_operators, is_model};
 
 use crate::Rules;
 use ale_base::{OutOfMemory, SystemNo, Tid, Way};
@@ -14,8 +14,26 @@ use unit_core::{
     is_among, is_listed, is_marked, received, unit_named,
 };
 
-/// Whether a record may follow a legal log.
-pub(crate) fn may_follow<R: Rules>(
+/// Whether the log of a system is legal: each of its records may follow those before it.
+pub fn is_legal<R: Rules>(
+    alloc: Global,
+    rules: &R,
+    system: SystemNo,
+    log: &[Record],
+) -> Result<bool, OutOfMemory>
+    requires { system ≤ (R.meaning rules.now).systems }
+    ensures { IfOk result (λ legal. IsTrue legal ↔ IsLegal (R.meaning rules.now) system log.now) }
+{
+    for (place, next) in log.iter().enumerate() {
+        if !may_follow(alloc, rules, system, &log[..place], next)? {
+            return Ok(false);
+        }
+    }
+    Ok(true)
+}
+
+/// Whether a record may follow a legal log of a system.
+pub fn may_follow<R: Rules>(
     alloc: Global,
     rules: &R,
     system: SystemNo,
@@ -89,7 +107,8 @@ fn may_follow_others<R: Rules>(
         | Record::Dispatch
         | Record::Put { .. }
         | Record::App { .. }
-        | Record::Repost { .. } => rules.allows(alloc, system, log, next),
+        | Record::Repost { .. }
+        | Record::Model { .. } => rules.allows(alloc, system, log, next),
     }
 }
 
@@ -224,7 +243,7 @@ pub(crate) fn is_commit(entry: &Record) -> bool
     matches!(entry, Record::Commit { .. } | Record::Dispatch)
 }
 
-/// Whether the record is one of an operator or of the application.
+/// Whether the record is one of an operator or of the application, or replaces the model.
 pub(crate) fn is_operators(entry: &Record) -> bool
     ensures { result ≡ is_operators entry.now }
 {
@@ -236,5 +255,13 @@ pub(crate) fn is_operators(entry: &Record) -> bool
             | Record::Put { .. }
             | Record::App { .. }
             | Record::Repost { .. }
+            | Record::Model { .. }
     )
+}
+
+/// Whether the record replaces the model.
+pub(crate) fn is_model(entry: &Record) -> bool
+    ensures { result ≡ is_model entry.now }
+{
+    matches!(entry, Record::Model { .. })
 }

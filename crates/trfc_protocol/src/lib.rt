@@ -2,19 +2,22 @@
 //! workers, and what each event makes of them.
 //!
 //! Contract: from a world that is safe every list of events gives a world that is safe, so each unit is taken and
-//! executed at most once, and in the order of its queues, whatever is lost or repeated; and each step is exactly that
-//! of the definition. The definitions are in `specs/`: `Meaning` and `Legal` (the rules of a landscape, and which record
-//! may follow a log), `Worlds`, `Offered`, `Happens` (the events), `Safe`.
+//! executed at most once, and in the order of its queues, whatever is lost or repeated and whichever systems fall and are
+//! opened; and each step is exactly that of the definition. The definitions are in `specs/`: `Meaning` and `Legal` (the
+//! rules of a landscape, and which record may follow a log), `Worlds`, `Offered`, `RecordOf`, `Keeping` and `Happens` (the
+//! events), `Safe`.
 #![tactic(auto)]
 
 mod answer;
 mod event;
 mod happens;
 mod held;
+mod keeping;
 mod legal;
 mod listed_rules;
 mod offered;
 mod rules;
+mod same_unit;
 mod start;
 mod steps;
 mod world;
@@ -22,6 +25,7 @@ mod world;
 pub use answer::Answer;
 pub use event::{Action, CoreAnswer, Event, ReplyTo};
 pub use held::{Held, HeldKind};
+pub use legal::{is_legal, may_follow};
 pub use listed_rules::ListedRules;
 pub use rules::Rules;
 pub use steps::{run_events, step};

@@ -16,7 +16,17 @@ impl<R: Rules> World<R> {
     ghost use Rattle.std.specs.Prelude.{true, ◌≡◌, IfOk};
     ghost use Rattle.trfc_protocol.specs.Worlds.{log_of, state_of, offers_now, committed_by, committed_unit};
     ghost use Rattle.trfc_protocol.specs.Offered.{is_offered_outbound, is_offered_inbound, heads_at_sender, may_arrive, answer_to, offers_received_now};
+    ghost use Rattle.trfc_protocol.specs.Legal.{IsLegal};
     ghost use Rattle.trfc_protocol.specs.Safe.{IsSafe};
+
+    /// The log of a system, which is legal.
+    pub(crate) fn legal_log(&self, system: SystemNo) -> &[Record]
+        requires { IsSafe R.meaning self.now }
+        ensures log { result.now ≡ log_of self.now system }
+        ensures legal { IsLegal (R.meaning self.now.rules) system result.now }
+    {
+        self.log(system)
+    }
 
     /// The units that a system committed, in order. There are none where the landscape has no system of this number.
     pub fn committed_by(&self, alloc: Global, system: SystemNo) -> Result<Vec<AleUnit>, OutOfMemory>
@@ -26,7 +36,7 @@ impl<R: Rules> World<R> {
         if !self.is_known(system) {
             return Ok(Vec::new(alloc));
         }
-        self.rules.units(alloc, system, self.log(system))
+        self.rules.units(alloc, system, self.legal_log(system))
     }
 
     /// The unit of this id, as its sender committed it. None exactly where it did not.
@@ -51,7 +61,7 @@ impl<R: Rules> World<R> {
         if !self.is_up(system) || self.is_claimed(HeldKind::Out, tid) {
             return Ok(false);
         }
-        let log = self.log(system);
+        let log = self.legal_log(system);
         if !is_free_outbound(alloc, &self.rules, system, log, tid)? {
             return Ok(false);
         }
@@ -99,7 +109,7 @@ impl<R: Rules> World<R> {
             return Ok(false);
         }
         self.rules
-            .offers(alloc, system, self.log(system), &unit.function)
+            .offers(alloc, system, self.legal_log(system), &unit.function)
     }
 
     /// Whether a system offers the function of a unit that it received.

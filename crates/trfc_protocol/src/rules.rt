@@ -29,7 +29,7 @@ pub trait Rules: Drop {
         requires legal { IsLegal (meaning self.now) system log.now }
         ensures { IfOk result (λ units. units.items ≡ (meaning self.now).committed system log.now) };
 
-    /// Whether a Commit, Dispatch, Put, App or Repost may follow a legal log of this system.
+    /// Whether a Commit, Dispatch, Put, App, Repost or Model may follow a legal log of this system.
     fn allows(
         &self,
         alloc: Global,
@@ -53,6 +53,6 @@ pub trait Rules: Drop {
         requires legal { IsLegal (meaning self.now) system log.now }
         ensures { IfOk result (λ offers. offers ≡ (meaning self.now).offers system log.now function.now) };
 
-    // The laws of the rules: how units are numbered, which records commit them, and that what is offered stays.
+    // The laws of the rules: how units are numbered, which records commit them, and which may change what is offered.
     ghost lawful: { (rules : Self) → IsLawful (meaning rules) };
 }

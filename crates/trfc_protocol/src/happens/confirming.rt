@@ -1,7 +1,7 @@
 //! A unit that is done is confirmed: its receiver forgets the id, and then its sender ends it.
 
 use crate::legal::may_end;
-use crate::{Rules, World};
+use crate::{Event, ReplyTo, Rules, World};
 use ale_base::{OutOfMemory, SystemNo, Tid};
 use std::alloc::Global;
 use unit_core::{AleUnit, Record, done_in, forgotten_in, is_listed};
@@ -10,14 +10,14 @@ impl<R: Rules> World<R> {
     ghost use Rattle.std.specs.Prelude.{◌≡◌, ◌&&◌, not, OnOk, OnErr, IfOk};
     ghost use Rattle.unit_core.specs.Filters.{done_in, ended_in, forgotten_in};
     ghost use Rattle.unit_core.specs.Queues.{is_listed};
-    ghost use Rattle.trfc_protocol.specs.Worlds.{log_of, is_up, committed_unit};
-    ghost use Rattle.trfc_protocol.specs.Happens.{confirms, ends};
+    ghost use Rattle.trfc_protocol.specs.Worlds.{log_of, is_up};
+    ghost use Rattle.trfc_protocol.specs.Happens.{happens};
     ghost use Rattle.trfc_protocol.specs.Safe.{IsSafe};
 
     /// The confirmation of a unit that is done arrives, and its receiver forgets the id, unless it has.
     pub(crate) fn confirm(&mut self, alloc: Global, tid: Tid) -> Result<(), OutOfMemory>
         requires { IsSafe R.meaning self.old }
-        ensures ok { OnOk result (self.new ≡ confirms (R.meaning self.old.rules) self.old (committed_unit (R.meaning self.old.rules) self.old tid)) }
+        ensures ok { OnOk result (self.new ≡ happens (R.meaning self.old.rules) self.old (Event.Confirm tid)) }
         ensures err { OnErr result (self.new ≡ self.old) }
     {
         let Some(unit) = self.committed_unit(alloc, tid)? else {
@@ -44,7 +44,7 @@ impl<R: Rules> World<R> {
     }
 
     /// Whether the unit of this id is done at its sender.
-    fn is_done(&self, alloc: Global, tid: Tid) -> Result<bool, OutOfMemory>
+    pub(crate) fn is_done(&self, alloc: Global, tid: Tid) -> Result<bool, OutOfMemory>
         ensures { IfOk result (λ done. done ≡ is_listed tid (done_in (log_of self.now tid.system))) }
     {
         let done = done_in(alloc, self.log(tid.system()))?;
@@ -52,7 +52,12 @@ impl<R: Rules> World<R> {
     }
 
     /// Whether a system forgot this id.
-    fn is_forgotten(&self, alloc: Global, system: SystemNo, tid: Tid) -> Result<bool, OutOfMemory>
+    pub(crate) fn is_forgotten(
+        &self,
+        alloc: Global,
+        system: SystemNo,
+        tid: Tid,
+    ) -> Result<bool, OutOfMemory>
         ensures { IfOk result (λ forgotten. forgotten ≡ is_listed tid (forgotten_in (log_of self.now system))) }
     {
         let forgotten = forgotten_in(alloc, self.log(system))?;
@@ -62,7 +67,7 @@ impl<R: Rules> World<R> {
     /// The sender of a unit learns that its id is forgotten.
     pub(crate) fn end(&mut self, alloc: Global, tid: Tid) -> Result<(), OutOfMemory>
         requires { IsSafe R.meaning self.old }
-        ensures ok { OnOk result (self.new ≡ ends (R.meaning self.old.rules) self.old tid (committed_unit (R.meaning self.old.rules) self.old tid)) }
+        ensures ok { OnOk result (self.new ≡ happens (R.meaning self.old.rules) self.old (Event.Reply (ReplyTo.Forgotten tid))) }
         ensures err { OnErr result (self.new ≡ self.old) }
     {
         let Some(unit) = self.committed_unit(alloc, tid)? else {

@@ -1,20 +1,20 @@
 //! A unit that was taken in is executed, or fails where its receiver does not offer its function; and a direct run ends.
 
-use crate::{Held, HeldKind, Rules, World};
+use crate::{Event, Held, HeldKind, Rules, World};
 use ale_base::{OutOfMemory, Tid};
 use std::alloc::Global;
 use unit_core::Record;
 
 impl<R: Rules> World<R> {
     ghost use Rattle.std.specs.Prelude.{◌≡◌, OnOk, OnErr};
-    ghost use Rattle.trfc_protocol.specs.Worlds.{committed_unit, claim_of};
-    ghost use Rattle.trfc_protocol.specs.Happens.{claims_inbound, finishes, finishes_by, fails};
+    ghost use Rattle.trfc_protocol.specs.RecordOf.{record_of_work};
+    ghost use Rattle.trfc_protocol.specs.Happens.{happens, ends_with};
     ghost use Rattle.trfc_protocol.specs.Safe.{IsSafe};
 
     /// A unit that is offered inbound is claimed by its receiver.
     pub(crate) fn claim_inbound(&mut self, alloc: Global, tid: Tid) -> Result<(), OutOfMemory>
         requires { IsSafe R.meaning self.old }
-        ensures ok { OnOk result (self.new ≡ claims_inbound (R.meaning self.old.rules) self.old tid (committed_unit (R.meaning self.old.rules) self.old tid)) }
+        ensures ok { OnOk result (self.new ≡ happens (R.meaning self.old.rules) self.old (Event.Run tid)) }
         ensures err { OnErr result (self.new ≡ self.old) }
     {
         let Some(unit) = self.committed_unit(alloc, tid)? else {
@@ -29,7 +29,7 @@ impl<R: Rules> World<R> {
     /// The work of a claim ends, and its unit is executed where the claim's system offers its function.
     pub(crate) fn finish(&mut self, alloc: Global, number: u64) -> Result<(), OutOfMemory>
         requires { IsSafe R.meaning self.old }
-        ensures ok { OnOk result (self.new ≡ finishes (R.meaning self.old.rules) self.old (claim_of number self.old.claims)) }
+        ensures ok { OnOk result (self.new ≡ happens (R.meaning self.old.rules) self.old (Event.Finish number)) }
         ensures err { OnErr result (self.new ≡ self.old) }
     {
         let Some(held) = self.claim_of(number).copied() else {
@@ -45,7 +45,7 @@ impl<R: Rules> World<R> {
     /// A unit that was taken in is executed.
     fn finish_inbound(&mut self, alloc: Global, held: &Held) -> Result<(), OutOfMemory>
         requires { IsSafe R.meaning self.old }
-        ensures ok { OnOk result (self.new ≡ finishes_by (R.meaning self.old.rules) self.old held.now HeldKind.In) }
+        ensures ok { OnOk result (self.new ≡ ends_with self.old held.now (record_of_work (R.meaning self.old.rules) self.old held.now HeldKind.In)) }
         ensures err { OnErr result (self.new ≡ self.old) }
     {
         if !self.offers_received(alloc, held.system, held.tid)? {
@@ -57,7 +57,7 @@ impl<R: Rules> World<R> {
     /// A direct run ends: the unit is taken in and executed in one record.
     fn finish_direct(&mut self, alloc: Global, held: &Held) -> Result<(), OutOfMemory>
         requires { IsSafe R.meaning self.old }
-        ensures ok { OnOk result (self.new ≡ finishes_by (R.meaning self.old.rules) self.old held.now HeldKind.Direct) }
+        ensures ok { OnOk result (self.new ≡ ends_with self.old held.now (record_of_work (R.meaning self.old.rules) self.old held.now HeldKind.Direct)) }
         ensures err { OnErr result (self.new ≡ self.old) }
     {
         let Some(unit) = self.committed_unit(alloc, held.tid)? else {
@@ -72,7 +72,7 @@ impl<R: Rules> World<R> {
     /// The work of a claim ends, and its unit fails where the claim's system does not offer its function.
     pub(crate) fn fail(&mut self, alloc: Global, number: u64) -> Result<(), OutOfMemory>
         requires { IsSafe R.meaning self.old }
-        ensures ok { OnOk result (self.new ≡ fails (R.meaning self.old.rules) self.old (claim_of number self.old.claims)) }
+        ensures ok { OnOk result (self.new ≡ happens (R.meaning self.old.rules) self.old (Event.Fail number)) }
         ensures err { OnErr result (self.new ≡ self.old) }
     {
         let Some(held) = self.claim_of(number).copied() else {
