@@ -5,7 +5,7 @@ ghost use Rattle.protocol_scenes.specs.Worlds.{IsSafeWorld};
 use crate::listing::put_claim;
 use crate::rules;
 use crate::text::Text;
-use crate::words::Words;
+use crate::words::{Words, meaning_of};
 use ale_base::{OutOfMemory, SystemNo, Tid};
 use case_form::LineEnd;
 use std::alloc::Global;
@@ -30,13 +30,26 @@ pub(crate) fn ask(alloc: Global, world: &World<ListedRules>, line: &[u8]) -> Res
     Ok(answer(alloc, world, question)?)
 }
 
+/// What is asked about.
+#[derive(Clone, Copy)]
+enum Subject {
+    Unit,
+    System,
+    Claim,
+}
+
+const SUBJECTS: [(&'static [u8], Subject); 3] = [
+    (b"unit", Subject::Unit),
+    (b"system", Subject::System),
+    (b"claim", Subject::Claim),
+];
+
 fn read_question(line: &[u8]) -> Option<Question> {
     let mut words = Words::of(line);
-    let question = match words.word() {
-        b"unit" => Question::Unit(words.tid()?),
-        b"system" => Question::System(words.system()?),
-        b"claim" => Question::Claim(words.number().ok()?),
-        _ => return None,
+    let question = match meaning_of(&SUBJECTS, words.word())? {
+        Subject::Unit => Question::Unit(words.tid()?),
+        Subject::System => Question::System(words.system()?),
+        Subject::Claim => Question::Claim(words.number().ok()?),
     };
     if words.is_at_end() {
         Some(question)

@@ -3,56 +3,75 @@
 use crate::records::read_record;
 use crate::rules;
 use crate::units::Lists;
-use crate::words::Words;
+use crate::words::{Words, meaning_of};
 use case_form::LineEnd;
 use std::alloc::Global;
 use trfc_protocol::{Action, CoreAnswer, Event, ReplyTo};
 
+/// The word that begins an event.
+#[derive(Clone, Copy)]
+enum EventWord {
+    Commit,
+    Claim,
+    Arrive,
+    Run,
+    Finish,
+    Fail,
+    Reply,
+    Lose,
+    Confirm,
+    Operate,
+    Revoke,
+    Fall,
+    Open,
+}
+
+impl EventWord {
+    const WORDS: [(&'static [u8], EventWord); 13] = [
+        (b"commit", EventWord::Commit),
+        (b"claim", EventWord::Claim),
+        (b"arrive", EventWord::Arrive),
+        (b"run", EventWord::Run),
+        (b"finish", EventWord::Finish),
+        (b"fail", EventWord::Fail),
+        (b"reply", EventWord::Reply),
+        (b"lose", EventWord::Lose),
+        (b"confirm", EventWord::Confirm),
+        (b"operate", EventWord::Operate),
+        (b"revoke", EventWord::Revoke),
+        (b"fall", EventWord::Fall),
+        (b"open", EventWord::Open),
+    ];
+}
+
 /// The event of a line.
 pub(crate) fn read_event(alloc: Global, lists: &Lists, line: &[u8]) -> Result<Event, LineEnd> {
     let mut words = Words::of(line);
-    let word = words.word();
-    let event = match word {
-        b"commit" | b"operate" | b"fall" => return read_recording(alloc, lists, word, words),
-        b"claim" | b"arrive" | b"run" | b"confirm" => read_of_unit(word, &mut words)?,
-        b"finish" | b"fail" => read_of_claim(word, &mut words)?,
-        b"reply" => read_reply(&mut words)?,
-        b"lose" => read_loss(&mut words)?,
-        b"revoke" => Event::Operator {
-            action: Action::Revoke,
-        },
-        b"open" => read_opening(&mut words)?,
-        _ => return Err(rules::BAD_EVENT.into()),
-    };
-    words.end()?;
-    Ok(event)
+    match meaning_of(&EventWord::WORDS, words.word()) {
+        Some(EventWord::Commit) => read_commit(alloc, lists, words),
+        Some(EventWord::Operate) => read_operation(alloc, lists, words),
+        Some(EventWord::Fall) => read_fall(alloc, lists, words),
+        Some(word) => {
+            let event = read_short(word, &mut words)?;
+            words.end()?;
+            Ok(event)
+        }
+        None => Err(rules::BAD_EVENT.into()),
+    }
 }
 
-/// An event of a system and a record.
-fn read_recording(
-    alloc: Global,
-    lists: &Lists,
-    word: &[u8],
-    words: Words,
-) -> Result<Event, LineEnd> {
-    let mut words = words;
-    let Some(system) = words.system() else {
-        return Err(rules::NO_SYSTEM.into());
-    };
-    if word == b"fall".as_slice() && words.is_at_end() {
-        return Ok(Event::Fall { system, kept: None });
+/// An event that has no record.
+fn read_short(word: EventWord, words: &mut Words) -> Result<Event, LineEnd> {
+    match word {
+        EventWord::Finish | EventWord::Fail => read_of_claim(word, words),
+        EventWord::Reply => read_reply(words),
+        EventWord::Lose => read_loss(words),
+        EventWord::Revoke => Ok(Event::Operator {
+            action: Action::Revoke,
+        }),
+        EventWord::Open => read_opening(words),
+        _ => read_of_unit(word, words),
     }
-    let what = read_record(alloc, lists, words)?;
-    Ok(match word {
-        b"commit" => Event::Commit { system, what },
-        b"operate" => Event::Operator {
-            action: Action::Append(system, what),
-        },
-        _ => Event::Fall {
-            system,
-            kept: Some(what),
-        },
-    })
 }
 
 fn read_opening(words: &mut Words) -> Result<Event, LineEnd> {
@@ -62,58 +81,115 @@ fn read_opening(words: &mut Words) -> Result<Event, LineEnd> {
     }
 }
 
-fn read_of_unit(word: &[u8], words: &mut Words) -> Result<Event, LineEnd> {
+fn read_commit(alloc: Global, lists: &Lists, words: Words) -> Result<Event, LineEnd> {
+    let mut words = words;
+    let Some(system) = words.system() else {
+        return Err(rules::NO_SYSTEM.into());
+    };
+    let what = read_record(alloc, lists, words)?;
+    Ok(Event::Commit { system, what })
+}
+
+fn read_operation(alloc: Global, lists: &Lists, words: Words) -> Result<Event, LineEnd> {
+    let mut words = words;
+    let Some(system) = words.system() else {
+        return Err(rules::NO_SYSTEM.into());
+    };
+    let action = Action::Append(system, read_record(alloc, lists, words)?);
+    Ok(Event::Operator { action })
+}
+
+/// A fall: its system, and the record that it was writing where there is one.
+fn read_fall(alloc: Global, lists: &Lists, words: Words) -> Result<Event, LineEnd> {
+    let mut words = words;
+    let Some(system) = words.system() else {
+        return Err(rules::NO_SYSTEM.into());
+    };
+    if words.is_at_end() {
+        return Ok(Event::Fall { system, kept: None });
+    }
+    let kept = Some(read_record(alloc, lists, words)?);
+    Ok(Event::Fall { system, kept })
+}
+
+fn read_of_unit(word: EventWord, words: &mut Words) -> Result<Event, LineEnd> {
     let Some(tid) = words.tid() else {
         return Err(rules::NO_TID.into());
     };
     Ok(match word {
-        b"claim" => Event::Claim { tid },
-        b"arrive" => Event::Arrive { tid },
-        b"run" => Event::Run { tid },
+        EventWord::Claim => Event::Claim { tid },
+        EventWord::Arrive => Event::Arrive { tid },
+        EventWord::Run => Event::Run { tid },
         _ => Event::Confirm { tid },
     })
 }
 
-fn read_of_claim(word: &[u8], words: &mut Words) -> Result<Event, LineEnd> {
+fn read_of_claim(word: EventWord, words: &mut Words) -> Result<Event, LineEnd> {
     let number = words.number()?;
-    Ok(if word == b"finish".as_slice() {
-        Event::Finish { number }
-    } else {
-        Event::Fail { number }
+    Ok(match word {
+        EventWord::Finish => Event::Finish { number },
+        _ => Event::Fail { number },
     })
 }
 
+const ANSWERS: [(&'static [u8], CoreAnswer); 3] = [
+    (b"done", CoreAnswer::Done),
+    (b"sysfail", CoreAnswer::SysFail),
+    (b"busy", CoreAnswer::Busy),
+];
+
 /// A reply: `forgotten TID`, or what is replied to the claim of a number, as `done 3`.
 fn read_reply(words: &mut Words) -> Result<Event, LineEnd> {
-    let answer = match words.word() {
-        b"forgotten" => {
-            let Some(tid) = words.tid() else {
-                return Err(rules::NO_TID.into());
-            };
-            let to = ReplyTo::Forgotten(tid);
-            return Ok(Event::Reply { to });
-        }
-        b"done" => CoreAnswer::Done,
-        b"sysfail" => CoreAnswer::SysFail,
-        b"busy" => CoreAnswer::Busy,
-        _ => return Err(rules::BAD_EVENT.into()),
+    let word = words.word();
+    if word == b"forgotten".as_slice() {
+        return read_forgotten(words);
+    }
+    let Some(answer) = meaning_of(&ANSWERS, word) else {
+        return Err(rules::BAD_EVENT.into());
     };
     let to = ReplyTo::Claim(words.number()?, answer);
     Ok(Event::Reply { to })
 }
 
+fn read_forgotten(words: &mut Words) -> Result<Event, LineEnd> {
+    match words.tid() {
+        Some(tid) => Ok(Event::Reply {
+            to: ReplyTo::Forgotten(tid),
+        }),
+        None => Err(rules::NO_TID.into()),
+    }
+}
+
+/// A message that may be lost.
+#[derive(Clone, Copy)]
+enum Message {
+    Request,
+    Reply,
+    Confirmation,
+}
+
+const MESSAGES: [(&'static [u8], Message); 3] = [
+    (b"request", Message::Request),
+    (b"reply", Message::Reply),
+    (b"confirmation", Message::Confirmation),
+];
+
 fn read_loss(words: &mut Words) -> Result<Event, LineEnd> {
-    match words.word() {
-        b"request" => Ok(Event::LoseRequest {
+    match meaning_of(&MESSAGES, words.word()) {
+        Some(Message::Request) => Ok(Event::LoseRequest {
             number: words.number()?,
         }),
-        b"reply" => Ok(Event::LoseReply {
+        Some(Message::Reply) => Ok(Event::LoseReply {
             number: words.number()?,
         }),
-        b"confirmation" => match words.tid() {
-            Some(tid) => Ok(Event::LoseConfirm { tid }),
-            None => Err(rules::NO_TID.into()),
-        },
-        _ => Err(rules::BAD_EVENT.into()),
+        Some(Message::Confirmation) => read_lost_confirmation(words),
+        None => Err(rules::BAD_EVENT.into()),
+    }
+}
+
+fn read_lost_confirmation(words: &mut Words) -> Result<Event, LineEnd> {
+    match words.tid() {
+        Some(tid) => Ok(Event::LoseConfirm { tid }),
+        None => Err(rules::NO_TID.into()),
     }
 }

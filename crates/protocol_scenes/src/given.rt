@@ -1,4 +1,4 @@
-//! Logs made by hand: what they tell, and which clauses of the law they break.
+//! Logs made by hand: what they tell, whether they are legal, and which clauses of the law they break.
 
 use crate::law::{Logs, front_of};
 use crate::listing::{put_log, put_system};
@@ -6,10 +6,11 @@ use crate::records::read_record;
 use crate::rules;
 use crate::text::Text;
 use crate::units::{Lists, lists_of};
-use crate::words::Words;
+use crate::words::{ItemWord, Words};
 use ale_base::{Items, OutOfMemory, QueueName, SystemNo, Tid, Way};
 use case_form::{BlockLine, CaseFault, Item, LineEnd, Step};
 use std::alloc::Global;
+use trfc_protocol::{ListedRules, is_legal};
 use unit_core::{
     Record, done_in, ended_in, executed, forgotten_in, is_marked, is_stopped, received,
 };
@@ -19,19 +20,21 @@ use unit_core::{
 enum Question {
     Records,
     Law,
+    Legal,
     Told(SystemNo),
     Marked(Tid),
     Stopped(QueueName),
 }
 
-fn read_question(word: &[u8], words: Words) -> Option<Question> {
+fn read_question(word: ItemWord, words: Words) -> Option<Question> {
     let mut words = words;
     let question = match word {
-        b"records" => Question::Records,
-        b"law" => Question::Law,
-        b"told" => Question::Told(words.system()?),
-        b"marked" => Question::Marked(words.tid()?),
-        b"stopped" => Question::Stopped(words.name()?),
+        ItemWord::Records => Question::Records,
+        ItemWord::Law => Question::Law,
+        ItemWord::Legal => Question::Legal,
+        ItemWord::Told => Question::Told(words.system()?),
+        ItemWord::Marked => Question::Marked(words.tid()?),
+        ItemWord::Stopped => Question::Stopped(words.name()?),
         _ => return None,
     };
     if words.is_at_end() {
@@ -71,13 +74,26 @@ impl Given {
     /// Reads an item, and adds its step where it is one.
     fn read(&mut self, item: &Item, steps: &mut Items<Step>) -> Result<(), CaseFault> {
         let words = Words::of(item.rest.as_slice());
-        match item.word.as_slice() {
-            b"systems" | b"unit" => return Ok(()),
-            b"committed" => return self.read_committed(words).map_err(|end| end.at(item.line)),
-            b"given" => return self.read_logs(item.block.as_slice()),
-            _ => {}
+        let Some(word) = ItemWord::of(item) else {
+            return Err(LineEnd::Broken(rules::NO_SUCH_ITEM).at(item.line));
+        };
+        match word {
+            ItemWord::Systems | ItemWord::Unit => Ok(()),
+            ItemWord::Committed => self.read_committed(words).map_err(|end| end.at(item.line)),
+            ItemWord::Given => self.read_logs(item.block.as_slice()),
+            _ => self.answer(item, word, words, steps),
         }
-        let Some(question) = read_question(item.word.as_slice(), words) else {
+    }
+
+    /// Adds the step of an item that asks something.
+    fn answer(
+        &self,
+        item: &Item,
+        word: ItemWord,
+        words: Words,
+        steps: &mut Items<Step>,
+    ) -> Result<(), CaseFault> {
+        let Some(question) = read_question(word, words) else {
             return Err(LineEnd::Broken(rules::NO_SUCH_ITEM).at(item.line));
         };
         let mut found = Text::new(self.alloc);
@@ -133,6 +149,7 @@ impl Given {
         match question {
             Question::Records => self.put_records(text),
             Question::Law => self.put_broken(text),
+            Question::Legal => self.put_legal(text),
             Question::Told(system) => self.put_told(text, system),
             Question::Marked(tid) => self.put_marked(text, tid),
             Question::Stopped(name) => self.put_stopped(text, name),
@@ -154,6 +171,18 @@ impl Given {
             logs.add(log.as_slice(), front_of(&self.lists, place, self.committed))?;
         }
         logs.put_broken(text)
+    }
+
+    /// Puts of each log whether it is legal, by rules that list these units.
+    fn put_legal(&self, text: &mut Text) -> Result<(), OutOfMemory> {
+        let Some(rules) = ListedRules::of(self.lists.clone()?) else {
+            return text.put_line(b"refused");
+        };
+        for (place, log) in self.logs.iter().enumerate() {
+            put_system(text, place)?;
+            text.put_line(legality(self.alloc, &rules, place, log.as_slice())?)?;
+        }
+        Ok(())
     }
 
     /// Puts what the log of a system tells of its units.
@@ -208,6 +237,26 @@ impl Given {
             }
         }
         put_none(text)
+    }
+}
+
+/// Whether the log of the system at a place is legal.
+fn legality(
+    alloc: Global,
+    rules: &ListedRules,
+    place: usize,
+    log: &[Record],
+) -> Result<&'static [u8], OutOfMemory> {
+    if place >= rules.units.len() || place >= SystemNo::MAX as usize {
+        return Ok(b"no such system");
+    }
+    let Some(system) = SystemNo::of(place as u8 + 1) else {
+        return Ok(b"no such system");
+    };
+    if is_legal(alloc, rules, system, log)? {
+        Ok(b"legal")
+    } else {
+        Ok(b"not legal")
     }
 }
 

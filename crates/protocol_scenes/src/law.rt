@@ -4,7 +4,7 @@ use crate::text::Text;
 use crate::units::Lists;
 use ale_base::{Items, OutOfMemory, QueueName, SystemNo, Tid, Way};
 use std::alloc::Global;
-use trfc_protocol::{Held, HeldKind, ListedRules, World};
+use trfc_protocol::{Held, HeldKind, ListedRules, SystemState, World};
 use unit_core::{AleUnit, Record};
 
 /// A clause of the exactly-once law.
@@ -504,6 +504,54 @@ pub(crate) fn logs_of<'a>(
         logs.add(log, front_of(lists, place, commits_of(log)))?;
     }
     Ok(logs)
+}
+
+/// The same of logs that stand apart from a world.
+pub(crate) fn logs_with<'a>(
+    alloc: Global,
+    lists: &'a Lists,
+    found: &'a Items<Items<Record>>,
+) -> Result<Logs<'a>, OutOfMemory> {
+    let mut logs = Logs::new(alloc);
+    for (place, log) in found.iter().enumerate() {
+        let log = log.as_slice();
+        logs.add(log, front_of(lists, place, commits_of(log)))?;
+    }
+    Ok(logs)
+}
+
+/// Copies of the logs of a world, with what a system may find at its opening where its bit is set: the lowest bit is that of
+/// system 1.
+pub(crate) fn logs_found(
+    alloc: Global,
+    world: &World<ListedRules>,
+    choice: u64,
+) -> Result<Items<Items<Record>>, OutOfMemory> {
+    let mut logs = Items::new(alloc);
+    let mut bits = choice;
+    for state in &world.systems {
+        logs.push(log_found(alloc, state, bits % 2 == 1)?)?;
+        bits /= 2;
+    }
+    Ok(logs)
+}
+
+/// A copy of the log of a system, with what it may find or without.
+fn log_found(
+    alloc: Global,
+    state: &SystemState,
+    is_found: bool,
+) -> Result<Items<Record>, OutOfMemory> {
+    let mut log = Items::new(alloc);
+    for record in &state.log {
+        log.push(record.copied()?)?;
+    }
+    if is_found {
+        if let Some(rest) = &state.rest {
+            log.push(rest.copied()?)?;
+        }
+    }
+    Ok(log)
 }
 
 /// The first units that the system at a place lists.

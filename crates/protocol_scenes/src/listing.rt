@@ -20,7 +20,7 @@ pub(crate) fn lengths_of(
     Ok(lengths)
 }
 
-/// Puts the records of each system behind these lengths, and then the claims.
+/// Puts the records of each system behind these lengths, then the claims, and then the systems that are down.
 pub(crate) fn put_world(
     text: &mut Text,
     lists: &Lists,
@@ -31,7 +31,29 @@ pub(crate) fn put_world(
         let length = lengths.get(place).copied().unwrap_or(0);
         put_log(text, lists, place, state.log.as_slice(), length)?;
     }
-    put_claims(text, world.claims.as_slice())
+    put_claims(text, world.claims.as_slice())?;
+    for (place, state) in world.systems.iter().enumerate() {
+        if !state.up {
+            put_down(text, lists, place, &state.rest)?;
+        }
+    }
+    Ok(())
+}
+
+/// Puts that a system is down, and the record that it may find.
+fn put_down(
+    text: &mut Text,
+    lists: &Lists,
+    place: usize,
+    rest: &Option<Record>,
+) -> Result<(), OutOfMemory> {
+    put_system(text, place)?;
+    text.put(b"down")?;
+    if let Some(found) = rest {
+        text.put(b", may find ")?;
+        put_record(text, lists, found)?;
+    }
+    text.end_line()
 }
 
 /// Puts the records of the system at a place behind the first ones, a line each.

@@ -8,6 +8,7 @@
 
 mod asking;
 mod events;
+mod falling;
 mod given;
 mod law;
 mod listing;

@@ -3,78 +3,142 @@
 use crate::rules;
 use crate::text::Text;
 use crate::units::{Lists, unit_of};
-use crate::words::Words;
+use crate::words::{Words, meaning_of};
 use ale_base::{DocNum, FieldValue, Items, Mark, OutOfMemory, QueueName, Tid, Way};
 use case_form::{LineEnd, cut};
 use std::alloc::Global;
 use unit_core::{AleUnit, Record};
 
+/// The word that begins a record.
+#[derive(Clone, Copy)]
+enum RecordWord {
+    Genesis,
+    Commit,
+    Dispatch,
+    Mark,
+    Done,
+    Ended,
+    Accept,
+    Execute,
+    Direct,
+    Fail,
+    Forget,
+    Stop,
+    Start,
+    Retry,
+    Put,
+    App,
+    Repost,
+    Model,
+}
+
+impl RecordWord {
+    const WORDS: [(&'static [u8], RecordWord); 18] = [
+        (b"Genesis", RecordWord::Genesis),
+        (b"Commit", RecordWord::Commit),
+        (b"Dispatch", RecordWord::Dispatch),
+        (b"Mark", RecordWord::Mark),
+        (b"Done", RecordWord::Done),
+        (b"Ended", RecordWord::Ended),
+        (b"Accept", RecordWord::Accept),
+        (b"Execute", RecordWord::Execute),
+        (b"Direct", RecordWord::Direct),
+        (b"Fail", RecordWord::Fail),
+        (b"Forget", RecordWord::Forget),
+        (b"Stop", RecordWord::Stop),
+        (b"Start", RecordWord::Start),
+        (b"Retry", RecordWord::Retry),
+        (b"Put", RecordWord::Put),
+        (b"App", RecordWord::App),
+        (b"Repost", RecordWord::Repost),
+        (b"Model", RecordWord::Model),
+    ];
+}
+
 /// The record of a line.
 pub(crate) fn read_record(alloc: Global, lists: &Lists, words: Words) -> Result<Record, LineEnd> {
     let mut words = words;
-    let word = words.word();
-    let record = match word {
-        b"Mark" | b"Done" | b"Ended" | b"Execute" | b"Fail" | b"Forget" => {
-            read_told(word, &mut words)?
-        }
-        b"Accept" | b"Direct" => read_taken(lists, word, &mut words)?,
-        b"Stop" | b"Start" | b"Retry" => read_switch(word, &mut words)?,
-        b"Genesis" | b"Commit" => read_text(alloc, word, &mut words)?,
-        b"Put" => read_put(alloc, &mut words)?,
-        _ => read_number(word, &mut words)?,
+    let Some(word) = meaning_of(&RecordWord::WORDS, words.word()) else {
+        return Err(rules::BAD_RECORD.into());
     };
+    let record = read_kind(alloc, lists, word, &mut words)?;
     words.end()?;
     Ok(record)
 }
 
+/// The record that a word begins.
+fn read_kind(
+    alloc: Global,
+    lists: &Lists,
+    word: RecordWord,
+    words: &mut Words,
+) -> Result<Record, LineEnd> {
+    match word {
+        RecordWord::Genesis => read_genesis(alloc, words),
+        RecordWord::Commit => read_commit(alloc, words),
+        RecordWord::Dispatch => Ok(Record::Dispatch),
+        RecordWord::Mark => read_mark(words),
+        RecordWord::Accept | RecordWord::Direct => read_taken(lists, word, words),
+        RecordWord::Stop => read_switch(words, true),
+        RecordWord::Start => read_switch(words, false),
+        RecordWord::Retry => read_retry(words),
+        RecordWord::Put => read_put(alloc, words),
+        RecordWord::App | RecordWord::Repost => read_document(word, words),
+        RecordWord::Model => read_model(alloc, words),
+        _ => read_told(word, words),
+    }
+}
+
+fn read_mark(words: &mut Words) -> Result<Record, LineEnd> {
+    let Some(tid) = words.tid() else {
+        return Err(rules::NO_TID.into());
+    };
+    let cause = words.cause()?;
+    Ok(Record::Mark { tid, cause })
+}
+
 /// A record that tells something of a unit's id.
-fn read_told(word: &[u8], words: &mut Words) -> Result<Record, LineEnd> {
+fn read_told(word: RecordWord, words: &mut Words) -> Result<Record, LineEnd> {
     let Some(tid) = words.tid() else {
         return Err(rules::NO_TID.into());
     };
     Ok(match word {
-        b"Mark" => Record::Mark {
-            tid,
-            cause: words.cause()?,
-        },
-        b"Done" => Record::Done { tid },
-        b"Ended" => Record::Ended { tid },
-        b"Execute" => Record::Execute { tid },
-        b"Fail" => Record::Fail { tid },
+        RecordWord::Done => Record::Done { tid },
+        RecordWord::Ended => Record::Ended { tid },
+        RecordWord::Execute => Record::Execute { tid },
+        RecordWord::Fail => Record::Fail { tid },
         _ => Record::Forget { tid },
     })
 }
 
 /// A record that takes in a unit that is listed.
-fn read_taken(lists: &Lists, word: &[u8], words: &mut Words) -> Result<Record, LineEnd> {
+fn read_taken(lists: &Lists, word: RecordWord, words: &mut Words) -> Result<Record, LineEnd> {
     let Some(tid) = words.tid() else {
         return Err(rules::NO_TID.into());
     };
-    let Some(unit) = unit_of(lists, tid) else {
+    let Some(listed) = unit_of(lists, tid) else {
         return Err(rules::NO_UNIT.into());
     };
-    let unit = unit.clone()?;
-    Ok(if word == b"Accept".as_slice() {
-        Record::Accept { unit }
-    } else {
-        Record::Direct { unit }
+    let unit = listed.clone()?;
+    Ok(match word {
+        RecordWord::Accept => Record::Accept { unit },
+        _ => Record::Direct { unit },
     })
 }
 
-/// A record of a queue that is stopped or started, or of a unit that is retried.
-fn read_switch(word: &[u8], words: &mut Words) -> Result<Record, LineEnd> {
+/// A record of a queue that is stopped or started.
+fn read_switch(words: &mut Words, stops: bool) -> Result<Record, LineEnd> {
     let way = words.way()?;
-    if word == b"Retry".as_slice() {
-        let Some(tid) = words.tid() else {
-            return Err(rules::NO_TID.into());
-        };
-        return Ok(Record::Retry { way, tid });
+    let destination = words.byte()?;
+    match words.name() {
+        Some(name) => Ok(switch(way, destination, name, stops)),
+        None => Err(rules::BAD_RECORD.into()),
     }
-    let destination = u8::try_from(words.number()?).unwrap_or(0);
-    let Some(name) = words.name() else {
-        return Err(rules::BAD_RECORD.into());
-    };
-    Ok(if word == b"Stop".as_slice() {
+}
+
+/// A Stop or a Start of a queue.
+pub(crate) fn switch(way: Way, destination: u8, name: QueueName, stops: bool) -> Record {
+    if stops {
         Record::Stop {
             way,
             destination,
@@ -86,36 +150,53 @@ fn read_switch(word: &[u8], words: &mut Words) -> Result<Record, LineEnd> {
             destination,
             name,
         }
-    })
+    }
 }
 
-/// A Genesis, with its system and its text, or a Commit, with its message where it has one.
-fn read_text(alloc: Global, word: &[u8], words: &mut Words) -> Result<Record, LineEnd> {
-    if word == b"Genesis".as_slice() {
-        let system = u8::try_from(words.number()?).unwrap_or(0);
-        let text = Items::from_slice(alloc, words.rest())?;
-        return Ok(Record::Genesis { system, text });
-    }
-    let origin = if words.is_at_end() {
-        None
-    } else {
-        Some(Items::from_slice(alloc, words.rest())?)
+fn read_retry(words: &mut Words) -> Result<Record, LineEnd> {
+    let way = words.way()?;
+    let Some(tid) = words.tid() else {
+        return Err(rules::NO_TID.into());
     };
-    Ok(Record::Commit {
-        origin,
-        docs: Items::new(alloc),
-    })
+    Ok(Record::Retry { way, tid })
+}
+
+/// A Genesis, with its system and its text.
+fn read_genesis(alloc: Global, words: &mut Words) -> Result<Record, LineEnd> {
+    let system = words.byte()?;
+    let text = Items::from_slice(alloc, words.rest())?;
+    Ok(Record::Genesis { system, text })
+}
+
+/// A Commit, with its message where it has one.
+fn read_commit(alloc: Global, words: &mut Words) -> Result<Record, LineEnd> {
+    let docs = Items::new(alloc);
+    if words.is_at_end() {
+        return Ok(Record::Commit { origin: None, docs });
+    }
+    let origin = Some(Items::from_slice(alloc, words.rest())?);
+    Ok(Record::Commit { origin, docs })
+}
+
+fn read_model(alloc: Global, words: &mut Words) -> Result<Record, LineEnd> {
+    let text = Items::from_slice(alloc, words.rest())?;
+    Ok(Record::Model { text })
 }
 
 /// A Put: the kind and the key of its object, and the fields with their values.
 fn read_put(alloc: Global, words: &mut Words) -> Result<Record, LineEnd> {
     let kind = Items::from_slice(alloc, words.word())?;
     let key = Items::from_slice(alloc, words.word())?;
+    let fields = read_fields(alloc, words.rest())?;
+    Ok(Record::Put { kind, key, fields })
+}
+
+fn read_fields(alloc: Global, line: &[u8]) -> Result<Items<FieldValue>, LineEnd> {
     let mut fields = Items::new(alloc);
-    for part in words.rest().split(|byte| *byte == b' ') {
+    for part in line.split(|byte| *byte == b' ') {
         fields.push(read_field(alloc, part)?)?;
     }
-    Ok(Record::Put { kind, key, fields })
+    Ok(fields)
 }
 
 /// A field and its value, with `=` between them.
@@ -129,18 +210,13 @@ fn read_field(alloc: Global, part: &[u8]) -> Result<FieldValue, LineEnd> {
     })
 }
 
-/// A Dispatch, or a record of an inbound document.
-fn read_number(word: &[u8], words: &mut Words) -> Result<Record, LineEnd> {
-    match word {
-        b"Dispatch" => Ok(Record::Dispatch),
-        b"App" => Ok(Record::App {
-            doc: DocNum(words.number()?),
-        }),
-        b"Repost" => Ok(Record::Repost {
-            doc: DocNum(words.number()?),
-        }),
-        _ => Err(rules::BAD_RECORD.into()),
-    }
+/// A record of an inbound document.
+fn read_document(word: RecordWord, words: &mut Words) -> Result<Record, LineEnd> {
+    let doc = DocNum(words.number()?);
+    Ok(match word {
+        RecordWord::App => Record::App { doc },
+        _ => Record::Repost { doc },
+    })
 }
 
 /// Puts a record as the line that reads as it.
@@ -181,6 +257,10 @@ pub(crate) fn put_record(
         }
         Record::App { doc } => put_numbered(text, b"App", doc.0),
         Record::Repost { doc } => put_numbered(text, b"Repost", doc.0),
+        Record::Model { text: own } => {
+            text.put(b"Model")?;
+            put_rest(text, own.as_slice())
+        }
     }
 }
 

@@ -11,6 +11,7 @@ use crate::rules;
 use crate::text::Text;
 use crate::units::{Lists, lists_of};
 use crate::walks::walk_all;
+use crate::words::ItemWord;
 use ale_base::{Items, OutOfMemory};
 use case_form::{CaseFault, Item, LineEnd, Step};
 use std::alloc::Global;
@@ -46,9 +47,9 @@ fn play_all(
 fn refused(alloc: Global, items: &[Item]) -> Result<Items<Step>, CaseFault> {
     let mut steps = Items::new(alloc);
     for item in items {
-        match item.word.as_slice() {
-            b"systems" | b"unit" => {}
-            b"refused" => steps.push(Step::of(alloc, item, Vec::new(alloc))?)?,
+        match ItemWord::of(item) {
+            Some(ItemWord::Systems | ItemWord::Unit) => {}
+            Some(ItemWord::Refused) => steps.push(Step::of(alloc, item, Vec::new(alloc))?)?,
             _ => return Err(LineEnd::Broken(rules::REFUSED).at(item.line)),
         }
     }
@@ -67,7 +68,7 @@ fn play(
     requires { IsSafeWorld world }
     ensures { IfOk result IsSafeWorld }
 {
-    if item.word.as_slice() == b"event".as_slice() {
+    if is_event(item) {
         return play_event(alloc, lists, world, item, steps);
     }
     look(alloc, lists, &world, before, item, steps)?;
@@ -151,16 +152,39 @@ fn look(
 ) -> Result<(), CaseFault>
     requires { IsSafeWorld world.now }
 {
-    let found = match item.word.as_slice() {
-        b"systems" | b"unit" => return Ok(()),
-        b"ask" => ask(alloc, world, item.rest.as_slice()).map_err(|end| end.at(item.line))?,
-        b"again" => again(alloc, lists, before)?,
-        b"law" => law(alloc, lists, world)?,
-        b"walks" => walk_all(alloc, lists, before, item)?,
-        _ => return Err(LineEnd::Broken(rules::NO_SUCH_ITEM).at(item.line)),
+    let Some(word) = ItemWord::of(item) else {
+        return Err(LineEnd::Broken(rules::NO_SUCH_ITEM).at(item.line));
     };
+    if word == ItemWord::Systems || word == ItemWord::Unit {
+        return Ok(());
+    }
+    let found = find(alloc, lists, world, before, item, word)?;
     steps.push(Step::of(alloc, item, found.into_bytes())?)?;
     Ok(())
+}
+
+/// What is found at an item that leaves the world as it is.
+fn find(
+    alloc: Global,
+    lists: &Lists,
+    world: &World<ListedRules>,
+    before: &[Item],
+    item: &Item,
+    word: ItemWord,
+) -> Result<Text, CaseFault>
+    requires { IsSafeWorld world.now }
+{
+    match word {
+        ItemWord::Ask => ask(alloc, world, item.rest.as_slice()).map_err(|end| end.at(item.line)),
+        ItemWord::Again => again(alloc, lists, before),
+        ItemWord::Law => law(alloc, lists, world),
+        ItemWord::Walks => walk_all(alloc, lists, before, item),
+        _ => Err(LineEnd::Broken(rules::NO_SUCH_ITEM).at(item.line)),
+    }
+}
+
+fn is_event(item: &Item) -> bool {
+    item.word.as_slice() == b"event".as_slice()
 }
 
 /// The whole logs and the claims after all events so far, which happen at once to the world at first.
@@ -168,7 +192,7 @@ fn again(alloc: Global, lists: &Lists, before: &[Item]) -> Result<Text, CaseFaul
     let world = first_world(alloc, before)?;
     let mut events = Vec::new(alloc);
     for item in before {
-        if item.word.as_slice() == b"event".as_slice() {
+        if is_event(item) {
             events.push(event_of(alloc, lists, item)?)?;
         }
     }

@@ -2,6 +2,7 @@
 
 use crate::given::steps_of_logs;
 use crate::scene::steps_of_scene;
+use crate::words::ItemWord;
 use ale_base::{Items, OutOfMemory};
 use case_form::{CaseFault, Item, Outcome, Step, Suite, read_items};
 use std::alloc::Global;
@@ -22,7 +23,7 @@ impl Suite for ProtocolScenes {
 fn steps_of(alloc: Global, items: &[Item]) -> Result<Items<Step>, CaseFault> {
     if items
         .iter()
-        .any(|item| item.word.as_slice() == b"given".as_slice())
+        .any(|item| ItemWord::of(item) == Some(ItemWord::Given))
     {
         steps_of_logs(alloc, items)
     } else {

@@ -1,7 +1,7 @@
 //! The units that a case lists.
 
 use crate::rules;
-use crate::words::Words;
+use crate::words::{ItemWord, Words, meaning_of};
 use ale_base::{Fixed, Items, SystemNo, Tid};
 use case_form::{BlockLine, CaseFault, Item, LineEnd, put_text};
 use idoc_record::{read_control, read_data};
@@ -30,9 +30,11 @@ pub(crate) fn unit_of(lists: &Lists, tid: Tid) -> Option<&AleUnit> {
 /// Adds what an item lists. An item of another word lists nothing.
 fn add_listed(alloc: Global, lists: &mut Lists, item: &Item) -> Result<(), CaseFault> {
     let words = Words::of(item.rest.as_slice());
-    match item.word.as_slice() {
-        b"systems" => add_systems(alloc, lists, words).map_err(|end| end.at(item.line)),
-        b"unit" => {
+    match ItemWord::of(item) {
+        Some(ItemWord::Systems) => {
+            add_systems(alloc, lists, words).map_err(|end| end.at(item.line))
+        }
+        Some(ItemWord::Unit) => {
             let docs = docs_of(alloc, item.block.as_slice())?;
             add_unit(alloc, lists, words, docs).map_err(|end| end.at(item.line))
         }
@@ -110,17 +112,33 @@ fn read_unit(
     Ok(unit)
 }
 
+/// A part of a unit.
+#[derive(Clone, Copy)]
+enum Part {
+    Outbound,
+    Inbound,
+    Function,
+}
+
+const PARTS: [(&'static [u8], Part); 3] = [
+    (b"outq", Part::Outbound),
+    (b"inq", Part::Inbound),
+    (b"function", Part::Function),
+];
+
 /// Reads queues or the function of a unit, where one is given.
 fn read_part(alloc: Global, unit: &mut AleUnit, words: &mut Words) -> Result<(), LineEnd> {
-    match words.word() {
-        b"" => {}
-        b"outq" => unit.outq = words.names(alloc)?,
-        b"inq" => unit.inq = words.names(alloc)?,
-        b"function" => match Fixed::of(words.word()) {
+    if words.is_at_end() {
+        return Ok(());
+    }
+    match meaning_of(&PARTS, words.word()) {
+        Some(Part::Outbound) => unit.outq = words.names(alloc)?,
+        Some(Part::Inbound) => unit.inq = words.names(alloc)?,
+        Some(Part::Function) => match Fixed::of(words.word()) {
             Some(function) => unit.function = function,
             None => return Err(rules::BAD_UNIT.into()),
         },
-        _ => return Err(rules::BAD_UNIT.into()),
+        None => return Err(rules::BAD_UNIT.into()),
     }
     Ok(())
 }

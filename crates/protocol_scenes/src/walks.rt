@@ -1,16 +1,19 @@
-//! Walks through the protocol by events that a small generator chooses. After each event the exactly-once law and the claims
-//! are looked at plainly.
+//! Walks through the protocol by events that a small generator chooses, falls and openings among them. After each event the
+//! exactly-once law and the claims are looked at plainly; where systems are down that may find a record, the law also as it
+//! is under a choice of what is found.
 
 ghost use Rattle.std.specs.Prelude.{◌<◌, ◌≤◌, IfOk};
 ghost use Rattle.protocol_scenes.specs.Worlds.{IsSafeWorld};
 
-use crate::law::{executed, logs_of};
+use crate::falling::fall_or_open;
+use crate::law::{executed, logs_found, logs_of, logs_with};
+use crate::records::switch;
 use crate::rules;
 use crate::scene::{first_world, world_after};
 use crate::text::Text;
 use crate::units::Lists;
 use crate::words::Words;
-use ale_base::{Items, OutOfMemory, QueueName, SystemNo, Tid, Way};
+use ale_base::{Items, OutOfMemory, SystemNo, Tid, Way};
 use case_form::{CaseFault, Item, LineEnd};
 use std::alloc::Global;
 use trfc_protocol::{Action, CoreAnswer, Event, ListedRules, ReplyTo, World};
@@ -18,13 +21,13 @@ use unit_core::{AleUnit, Record};
 
 /// Numbers that follow from a seed: Knuth's linear congruential generator of MMIX.
 #[derive(Drop)]
-struct Dice {
+pub(crate) struct Dice {
     state: u64,
 }
 
 impl Dice {
     /// A number below this one, which is not 0.
-    fn below(&mut self, bound: u64) -> u64
+    pub(crate) fn below(&mut self, bound: u64) -> u64
         requires { 1 ≤ bound }
         ensures { result < bound }
     {
@@ -36,13 +39,15 @@ impl Dice {
     }
 }
 
-/// How many walks there are, and of how many events; the first seed; and how many units have to be executed at least.
+/// How many walks there are, and of how many events; the first seed; and how many units have to be executed at least, and how
+/// many falls have to leave a record.
 #[derive(Clone, Copy)]
 struct Plan {
     walks: u64,
     events: u64,
     seed: u64,
     least: u64,
+    kept: u64,
 }
 
 /// What was seen on walks.
@@ -51,6 +56,7 @@ struct Seen {
     keeps_law: bool,
     claims_hold: bool,
     executed: u64,
+    kept: u64,
 }
 
 /// Walks as an item says, and tells what was seen.
@@ -66,6 +72,7 @@ pub(crate) fn walk_all(
         keeps_law: true,
         claims_hold: true,
         executed: 0,
+        kept: 0,
     };
     for _ in 0..plan.walks {
         let world = first_world(alloc, before)?;
@@ -80,12 +87,14 @@ fn read_plan(line: &[u8]) -> Result<Plan, LineEnd> {
     let events = named(&mut words, b"events")?;
     let seed = named(&mut words, b"seed")?;
     let least = named(&mut words, b"least")?;
+    let kept = named(&mut words, b"kept")?;
     words.end()?;
     Ok(Plan {
         walks,
         events,
         seed,
         least,
+        kept,
     })
 }
 
@@ -110,13 +119,20 @@ fn report(alloc: Global, plan: Plan, seen: Seen) -> Result<Text, OutOfMemory> {
     } else {
         b"a claim does not hold".as_slice()
     })?;
-    if seen.executed >= plan.least {
-        text.put_line(b"units enough were executed")?;
-    } else {
-        text.put_number(seen.executed)?;
-        text.put_line(b" units executed")?;
-    }
+    put_count(&mut text, seen.executed, plan.least, b"units executed")?;
+    put_count(&mut text, seen.kept, plan.kept, b"falls that left a record")?;
     Ok(text)
+}
+
+/// Puts that there were enough of what is counted, or how many there were.
+fn put_count(text: &mut Text, count: u64, least: u64, what: &[u8]) -> Result<(), OutOfMemory> {
+    if count >= least {
+        text.put(b"enough ")?;
+    } else {
+        text.put_number(count)?;
+        text.put(b" ")?;
+    }
+    text.put_line(what)
 }
 
 /// One walk.
@@ -149,14 +165,44 @@ fn go_on(
     requires { IsSafeWorld world }
     ensures { IfOk result IsSafeWorld }
 {
-    match event(alloc, lists, dice, world.next_number) {
+    match event(alloc, lists, dice, world.next_number)? {
         Some(event) => {
+            let falls = world.falls;
             let after = world_after(alloc, world, &event)?;
+            count_kept(&event, falls, &after, seen);
             look(alloc, lists, &after, seen)?;
+            look_at_found(alloc, lists, &after, dice, seen)?;
             Ok(after)
         }
         None => Ok(world),
     }
+}
+
+/// Counts a fall that left a record.
+fn count_kept(event: &Event, falls: u64, after: &World<ListedRules>, seen: &mut Seen) {
+    if let Event::Fall { kept: Some(_), .. } = event {
+        if after.falls != falls {
+            seen.kept = seen.kept.saturating_add(1);
+        }
+    }
+}
+
+/// Looks at the law where some of the systems that are down find their records, by a choice of the dice.
+fn look_at_found(
+    alloc: Global,
+    lists: &Lists,
+    world: &World<ListedRules>,
+    dice: &mut Dice,
+    seen: &mut Seen,
+) -> Result<(), OutOfMemory> {
+    if world.systems.iter().all(|state| state.rest.is_none()) {
+        return Ok(());
+    }
+    let found = logs_found(alloc, world, dice.below(65_536))?;
+    if !logs_with(alloc, lists, &found)?.keep_all() {
+        seen.keeps_law = false;
+    }
+    Ok(())
 }
 
 /// Looks at the law and the claims.
@@ -190,10 +236,31 @@ fn count_executed(world: &World<ListedRules>) -> u64 {
 }
 
 /// An event, possible or not, of one of the units.
-fn event(alloc: Global, lists: &Lists, dice: &mut Dice, next_number: u64) -> Option<Event> {
-    let unit = pick(lists, dice)?;
+fn event(
+    alloc: Global,
+    lists: &Lists,
+    dice: &mut Dice,
+    next_number: u64,
+) -> Result<Option<Event>, OutOfMemory> {
+    let Some(unit) = pick(lists, dice) else {
+        return Ok(None);
+    };
     let number = next_number.saturating_sub(1 + dice.below(3));
-    match dice.below(21) {
+    match dice.below(28) {
+        kind @ 0..=21 => Ok(event_of(alloc, unit, kind, number, dice)),
+        _ => Ok(Some(fall_or_open(alloc, unit, dice)?)),
+    }
+}
+
+/// An event of a unit while its systems are up.
+fn event_of(
+    alloc: Global,
+    unit: &AleUnit,
+    kind: u64,
+    number: u64,
+    dice: &mut Dice,
+) -> Option<Event> {
+    match kind {
         0 | 15 => Some(commit(alloc, unit.sender)),
         1 | 2 => Some(Event::Claim { tid: unit.tid }),
         3 | 4 => Some(Event::Arrive { tid: unit.tid }),
@@ -204,9 +271,10 @@ fn event(alloc: Global, lists: &Lists, dice: &mut Dice, next_number: u64) -> Opt
         }),
         14 => Some(retry(unit, dice)),
         16 => Some(Event::LoseConfirm { tid: unit.tid }),
-        17 => switch(unit, true, dice),
-        18 | 19 => switch(unit, false, dice),
-        kind => Some(work_ends(kind, number, dice)),
+        17 => switch_of(unit, true, dice),
+        18 | 19 => switch_of(unit, false, dice),
+        21 => Some(replace_model(alloc, unit.receiver)),
+        _ => Some(work_ends(kind, number, dice)),
     }
 }
 
@@ -257,6 +325,12 @@ fn commit(alloc: Global, system: SystemNo) -> Event {
     }
 }
 
+/// A Model of a system, with an empty text.
+fn replace_model(alloc: Global, system: SystemNo) -> Event {
+    let text = Items::new(alloc);
+    operate(system, Record::Model { text })
+}
+
 fn operate(system: SystemNo, next: Record) -> Event {
     Event::Operator {
         action: Action::Append(system, next),
@@ -277,31 +351,15 @@ fn retry_at(system: SystemNo, way: Way, tid: Tid) -> Event {
 }
 
 /// A Stop or a Start of the first queue of a unit, at its sender or at its receiver.
-fn switch(unit: &AleUnit, stops: bool, dice: &mut Dice) -> Option<Event> {
+fn switch_of(unit: &AleUnit, stops: bool, dice: &mut Dice) -> Option<Event> {
     if dice.below(2) == 0 {
         let name = unit.outq.get(0)?;
-        let next = switched(Way::Outgoing, unit.receiver.get(), *name, stops);
+        let next = switch(Way::Outgoing, unit.receiver.get(), *name, stops);
         Some(operate(unit.sender, next))
     } else {
         let name = unit.inq.get(0)?;
-        let next = switched(Way::Incoming, 0, *name, stops);
+        let next = switch(Way::Incoming, 0, *name, stops);
         Some(operate(unit.receiver, next))
-    }
-}
-
-fn switched(way: Way, destination: u8, name: QueueName, stops: bool) -> Record {
-    if stops {
-        Record::Stop {
-            way,
-            destination,
-            name,
-        }
-    } else {
-        Record::Start {
-            way,
-            destination,
-            name,
-        }
     }
 }
 

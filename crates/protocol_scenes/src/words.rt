@@ -1,9 +1,60 @@
-//! The words of a line, and what they stand for.
+//! The words of a line, and what they stand for. Words are looked up in tables: a match on their bytes is dear to prove.
 
 use crate::rules;
 use ale_base::{Items, Mark, QueueName, SystemNo, Tid, Way};
-use case_form::{LineEnd, cut, first_word, number_of};
+use case_form::{Item, LineEnd, cut, first_word, number_of};
 use std::alloc::Global;
+
+/// What a word stands for in a table. None where it is not there.
+pub(crate) fn meaning_of<T: Copy>(table: &[(&'static [u8], T)], word: &[u8]) -> Option<T> {
+    let (_, meaning) = table.iter().find(|entry| entry.0 == word)?;
+    Some(*meaning)
+}
+
+/// The word that begins an item.
+#[derive(Clone, Copy, PartialEq, Eq)]
+pub(crate) enum ItemWord {
+    Systems,
+    Unit,
+    Refused,
+    Event,
+    Ask,
+    Again,
+    Law,
+    Walks,
+    Given,
+    Committed,
+    Records,
+    Legal,
+    Told,
+    Marked,
+    Stopped,
+}
+
+impl ItemWord {
+    const WORDS: [(&'static [u8], ItemWord); 15] = [
+        (b"systems", ItemWord::Systems),
+        (b"unit", ItemWord::Unit),
+        (b"refused", ItemWord::Refused),
+        (b"event", ItemWord::Event),
+        (b"ask", ItemWord::Ask),
+        (b"again", ItemWord::Again),
+        (b"law", ItemWord::Law),
+        (b"walks", ItemWord::Walks),
+        (b"given", ItemWord::Given),
+        (b"committed", ItemWord::Committed),
+        (b"records", ItemWord::Records),
+        (b"legal", ItemWord::Legal),
+        (b"told", ItemWord::Told),
+        (b"marked", ItemWord::Marked),
+        (b"stopped", ItemWord::Stopped),
+    ];
+
+    /// The word of an item. None where there is no such item.
+    pub(crate) fn of(item: &Item) -> Option<ItemWord> {
+        meaning_of(&ItemWord::WORDS, item.word.as_slice())
+    }
+}
 
 /// The words of a line that are not read yet.
 #[derive(Clone, Copy)]
@@ -58,19 +109,33 @@ impl<'a> Words<'a> {
         tid_of(self.word())
     }
 
+    /// A number of a record, of at most one byte.
+    pub(crate) fn byte(&mut self) -> Result<u8, LineEnd> {
+        match u8::try_from(self.number()?) {
+            Ok(number) => Ok(number),
+            Err(_) => Err(rules::BAD_RECORD.into()),
+        }
+    }
+
     pub(crate) fn way(&mut self) -> Result<Way, LineEnd> {
-        match self.word() {
-            b"outgoing" => Ok(Way::Outgoing),
-            b"incoming" => Ok(Way::Incoming),
-            _ => Err(rules::BAD_RECORD.into()),
+        let word = self.word();
+        if word == b"outgoing".as_slice() {
+            Ok(Way::Outgoing)
+        } else if word == b"incoming".as_slice() {
+            Ok(Way::Incoming)
+        } else {
+            Err(rules::BAD_RECORD.into())
         }
     }
 
     pub(crate) fn cause(&mut self) -> Result<Mark, LineEnd> {
-        match self.word() {
-            b"CPICERR" => Ok(Mark::Cpicerr),
-            b"SYSFAIL" => Ok(Mark::Sysfail),
-            _ => Err(rules::BAD_RECORD.into()),
+        let word = self.word();
+        if word == b"CPICERR".as_slice() {
+            Ok(Mark::Cpicerr)
+        } else if word == b"SYSFAIL".as_slice() {
+            Ok(Mark::Sysfail)
+        } else {
+            Err(rules::BAD_RECORD.into())
         }
     }
 

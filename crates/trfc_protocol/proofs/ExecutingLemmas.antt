@@ -75,7 +75,7 @@ module _ {R : Type 0} (rules : Meaning) (lawful : IsLawful rules) (world : World
       }
 
   -- the unit of an inbound claim was received
-  in_received : (held : Held) → Holds rules world held → held.kind ≡ In
+  pub in_received : (held : Held) → Holds rules world held → held.kind ≡ In
       → (unit : AleUnit) × Contains (received (log_of world held.system)) unit × (unit.tid ≡ held.tid)
   in_received held holds kind =
       let l = log_of world held.system in

@@ -3,8 +3,8 @@ use Rattle.std.specs.Prelude.{Contains, is_some, slice_index_or}
 use Rattle.std.specs.List.{cons_option}
 use Rattle.std.proofs.lemmas.List.Elements.{filter_map-append}
 use Rattle.std.proofs.Common.{◌≡◌, ◌≢◌, ℕ, zero, suc, ◌+◌, ◌<◌, Bool, true, false, not, cond, ◌&&◌, Option, Some, None, List, [], ◌∷◌, ◌++◌, length, get_or, take, inl, inr, refl, sym, ap, subst, ◌∙◌, arith, append_assoc}
-use Rattle.std.proofs.lemmas.Bool.{cases_Bool, and_parts, and_from, or_from, not-true, not_from_false}
-use Rattle.std.proofs.lemmas.List.{append-nil}
+use Rattle.std.proofs.lemmas.Bool.{cases_Bool, both_ways, and_parts, and_from, or_from, not-true, not_from_false}
+use Rattle.std.proofs.lemmas.List.{append-nil, take_more}
 use Rattle.std.proofs.lemmas.List.Sums.{fold-append}
 use Rattle.std.proofs.lemmas.Option.{same_Some, none-some}
 use Rattle.ale_base.specs.Tid.{TidOf, is_tid}
@@ -62,6 +62,18 @@ follows-at rules system log k d legal within = behind [] log k legal within
     behind before (x ∷ xs) (suc k) all within =
         subst (λ l. may_follow rules system l (get_or xs k d) ≡ true) (append_assoc before (x ∷ []) (take k xs))
         (behind (before ++ x ∷ []) xs k all.1 (omega arith))
+
+-- what a scan tells of one record: a legal log has none that may not follow, and the records so far are legal with one that may
+pub legal_refutes : (rules : Meaning) (system : ℕ) (log : List Record) (k : ℕ) (next : Record) (may : Bool) → k < length log → next ≡ get_or log k next
+    → may ≡ may_follow rules system (take k log) next → may ≡ false → IsLegal rules system log → ⊥
+legal_refutes rules system log k next may within is told refuses legal =
+    both_ways may refuses (told ∙ ap (may_follow rules system (take k log)) is ∙ follows-at rules system log k next legal within)
+
+pub legal_so_far : (rules : Meaning) (system : ℕ) (log : List Record) (k : ℕ) (next : Record) (may : Bool) → k < length log → next ≡ get_or log k next
+    → may ≡ may_follow rules system (take k log) next → may ≡ true → IsLegal rules system (take k log) → IsLegal rules system (take (k + 1) log)
+legal_so_far rules system log k next may within is told allows legal =
+    subst (IsLegal rules system) (sym (take_more log k next within))
+    (IsLegal-push rules system (take k log) (get_or log k next) legal (ap (may_follow rules system (take k log)) (sym is) ∙ sym told ∙ allows))
 
 -- a log that is begun goes on by the rules for all records but the first
 pub may_follow-others : (rules : Meaning) (system : ℕ) (log : List Record) (next : Record) → log ≢ [] → may_follow_others rules system log next ≡ true

@@ -29,3 +29,5 @@ pub mod FallLemmas
 pub mod EventLemmas
 -- a world that begins with given logs
 pub mod StartLemmas
+-- what crates above need beside the events
+pub mod ForCallers

@@ -37,7 +37,7 @@ module _ {R : Type 0} (world : World R) where
   abbrev pub after_run : TidOf → AleUnit → World R
   after_run tid unit = if is_offered_inbound world unit.receiver tid then with_claim world tid unit.receiver In else world
 
-  -- the claim goes with the record that it was made for
+  -- The claim goes with the record that it was made for. Where no record is written the work is not over, so it stays.
   abbrev pub after_work : Option Held → Option Writing → World R
   after_work (Some held) (Some it) = without_claim world held.number
   after_work _ _ = world
@@ -64,19 +64,19 @@ module _ {R : Type 0} (rules : Meaning) (world : World R) where
   abbrev pub after_arrival : AleUnit → World R
   after_arrival unit = if may_arrive rules world unit then with_run world unit (answer_to rules world unit) else world
 
-  -- the claims after an event; its record is not in the log yet
-  abbrev pub claims_after : Event → World R
-  claims_after (event.Claim tid) = if is_offered_outbound rules world tid then with_claim world tid tid.system Out else world
-  claims_after (event.Arrive tid) = option_map_or after_arrival (committed_unit rules world tid) world
-  claims_after (event.Run tid) = option_map_or (after_run world tid) (committed_unit rules world tid) world
-  claims_after (event.Reply (Claim number reply.Busy)) = option_map_or (λ held. after_busy world held held.kind) (claim_of number world.claims) world
-  claims_after (event.Reply (Claim number given)) = after_work world (claim_of number world.claims) (record_of rules world (event.Reply (Claim number given)))
-  claims_after (event.Finish number) = after_work world (claim_of number world.claims) (record_of rules world (event.Finish number))
-  claims_after (event.Fail number) = after_work world (claim_of number world.claims) (record_of rules world (event.Fail number))
-  claims_after (event.LoseRequest number) = after_work world (claim_of number world.claims) (record_of rules world (event.LoseRequest number))
-  claims_after (event.LoseReply number) = after_work world (claim_of number world.claims) (record_of rules world (event.LoseReply number))
-  claims_after (event.Operator Revoke) = record world { claims = [] }
-  claims_after _ = world
+  -- the world with the claims that an event leaves; its record is not in the log yet
+  abbrev pub with_claims_after : Event → World R
+  with_claims_after (event.Claim tid) = if is_offered_outbound rules world tid then with_claim world tid tid.system Out else world
+  with_claims_after (event.Arrive tid) = option_map_or after_arrival (committed_unit rules world tid) world
+  with_claims_after (event.Run tid) = option_map_or (after_run world tid) (committed_unit rules world tid) world
+  with_claims_after (event.Reply (Claim number reply.Busy)) = option_map_or (λ held. after_busy world held held.kind) (claim_of number world.claims) world
+  with_claims_after (event.Reply (Claim number given)) = after_work world (claim_of number world.claims) (record_of rules world (event.Reply (Claim number given)))
+  with_claims_after (event.Finish number) = after_work world (claim_of number world.claims) (record_of rules world (event.Finish number))
+  with_claims_after (event.Fail number) = after_work world (claim_of number world.claims) (record_of rules world (event.Fail number))
+  with_claims_after (event.LoseRequest number) = after_work world (claim_of number world.claims) (record_of rules world (event.LoseRequest number))
+  with_claims_after (event.LoseReply number) = after_work world (claim_of number world.claims) (record_of rules world (event.LoseReply number))
+  with_claims_after (event.Operator Revoke) = record world { claims = [] }
+  with_claims_after _ = world
 
   -- a system falls as it writes a record, which it may find at its opening
   abbrev pub falls_writing : ℕ → Record → World R
@@ -87,7 +87,7 @@ module _ {R : Type 0} (rules : Meaning) (world : World R) where
   happens (event.Fall system None) = falls_empty world system
   happens (event.Fall system (Some next)) = falls_writing system next
   happens (event.Open system) = opens world system
-  happens other = written (record_of rules world other) (claims_after other)
+  happens other = written (record_of rules world other) (with_claims_after other)
 
 -- the world after a list of events, one after the other
 abbrev pub run : {R : Type 0} → (R → Meaning) → World R → List Event → World R

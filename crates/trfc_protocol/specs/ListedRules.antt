@@ -1,5 +1,5 @@
 -- Rules that list each system's units beforehand.
-use Rattle.std.specs.Prelude.{ℕ, zero, suc, ◌+◌, Bool, true, false, not, ◌==◌, ◌&&◌, nat_le, nat_lt, nat_eq, List, [], ◌∷◌, length, take, codes, slice_index_or, if◌then◌else◌}
+use Rattle.std.specs.Prelude.{ℕ, zero, suc, ◌+◌, Bool, true, false, not, ◌==◌, ◌&&◌, ◌||◌, nat_le, nat_lt, nat_eq, List, [], ◌∷◌, length, take, codes, slice_index_or, if◌then◌else◌}
 use Rattle.std.specs.Cmp.Lexicographic.{pointwise}
 use Rattle.ale_base.specs.declared.system_no.TheConstants.SystemNo.{MAX}
 use Rattle.ale_base.specs.declared.tid.TheConstants.Tid.{MAX_UNIT}
@@ -8,6 +8,7 @@ use Rattle.unit_core.specs.declared.records.Record.{Record}
 use Rattle.unit_core.specs.declared.records.Record.TheVariants.{Commit}
 use Rattle.unit_core.specs.Queues.{are_different}
 use Rattle.trfc_protocol.specs.Meaning.{Meaning}
+use Rattle.trfc_protocol.specs.Legal.{is_model}
 
 -- whether this is unit k of a system: its id says so, the system sends it, another one receives it, and the names of its
 -- queues differ
@@ -47,12 +48,12 @@ abbrev pub commits_of : List Record → ℕ
 commits_of [] = 0
 commits_of (next ∷ log) = (if is_commit_record next then 1 else 0) + commits_of log
 
--- The k-th Commit of a system commits the k-th unit of its list, and may follow while there is one. No other record of
--- the application may, and one function is offered.
+-- The k-th Commit of a system commits the k-th unit of its list, and may follow while there is one. A Model may always
+-- follow, no other record of the application may, and one function is offered.
 abbrev pub listed_meaning : List (List AleUnit) → Meaning
 listed_meaning lists = record {
   systems = length lists;
   committed = λ system log. take (commits_of log) (list_of lists system);
-  allows = λ system log next. is_commit_record next && nat_lt (commits_of log) (length (list_of lists system));
+  allows = λ system log next. is_model next || (is_commit_record next && nat_lt (commits_of log) (length (list_of lists system)));
   offers = λ system log function. pointwise nat_eq function (codes "IDOC_INBOUND_ASYNCHRONOUS");
 }

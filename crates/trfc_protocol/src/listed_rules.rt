@@ -4,13 +4,14 @@ ghost use Rattle.std.specs.Prelude.{◌≡◌, ◌≤◌, IsTrue, length};
 ghost use Rattle.trfc_protocol.specs.ListedRules.{are_listed, is_unit, are_units, are_lists, is_commit_record, commits_of};
 
 use crate::Rules;
+use crate::legal::is_model;
 use ale_base::{Fixed, Items, OutOfMemory, SystemNo, Tid};
 use std::alloc::Global;
 use unit_core::{AleUnit, Record, are_different};
 
 /// Rules that list each system's units beforehand: the k-th Commit of a system commits the k-th unit of its list, and is
-/// allowed while there is one. No other record of the application is allowed, and `IDOC_INBOUND_ASYNCHRONOUS` alone is
-/// offered.
+/// allowed while there is one. A Model is always allowed, and no other record of the application is.
+/// `IDOC_INBOUND_ASYNCHRONOUS` alone is offered, by every model.
 #[derive(Debug, Drop)]
 pub struct ListedRules {
     /// The units of each system, from system 1 on.
@@ -87,7 +88,8 @@ impl Rules for ListedRules {
         next: &Record,
     ) -> Result<bool, OutOfMemory> {
         let _ = alloc;
-        Ok(is_commit_record(next) && commits_of(log) < self.list(system).len())
+        Ok(is_model(next)
+            || (is_commit_record(next) && commits_of(log) < self.list(system).len()))
     }
 
     fn offers(

@@ -9,7 +9,7 @@ use std::alloc::Global;
 use unit_core::Record;
 
 impl<R: Rules> World<R> {
-    ghost use Rattle.std.specs.Prelude.{◌≡◌, length, IfOk};
+    ghost use Rattle.std.specs.Prelude.{◌≡◌, [], length, IfOk};
     ghost use Rattle.trfc_protocol.specs.Start.{log_in, first_world, genesis_logs};
     ghost use Rattle.trfc_protocol.specs.Safe.{Sound, IsSafe};
 
@@ -34,8 +34,8 @@ impl<R: Rules> World<R> {
         })
     }
 
-    /// The world at first: the log of each system is its Genesis, with this text.
-    pub fn start(alloc: Global, rules: R, text: &[u8]) -> Result<World<R>, OutOfMemory>
+    /// The world in which the log of each system is its Genesis, with this text.
+    pub fn begin(alloc: Global, rules: R, text: &[u8]) -> Result<World<R>, OutOfMemory>
         ensures world { IfOk result (λ world. world ≡ first_world rules (genesis_logs text.now (R.meaning rules).systems)) }
         ensures safe { IfOk result (IsSafe R.meaning) }
     {
@@ -44,6 +44,14 @@ impl<R: Rules> World<R> {
             logs.push(genesis_log(alloc, number + 1, text)?)?;
         }
         World::of_logs(alloc, rules, logs)
+    }
+
+    /// The same with an empty text.
+    pub fn start(alloc: Global, rules: R) -> Result<World<R>, OutOfMemory>
+        ensures world { IfOk result (λ world. world ≡ first_world rules (genesis_logs [] (R.meaning rules).systems)) }
+        ensures safe { IfOk result (IsSafe R.meaning) }
+    {
+        World::begin(alloc, rules, &[])
     }
 }
 

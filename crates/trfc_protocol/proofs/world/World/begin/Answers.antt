@@ -5,7 +5,7 @@ use Rattle.std.proofs.lemmas.List.FromFn.{map-range_with_len_more}
 use Rattle.trfc_protocol.specs.Safe.{Sound}
 use Rattle.trfc_protocol.specs.Start.{log_in, genesis_log, genesis_logs}
 use Rattle.trfc_protocol.proofs.StartLemmas.{Sound-genesis, length-genesis_logs}
-use Rattle.trfc_protocol.proofs.world.World.start.Goals as goal
+use Rattle.trfc_protocol.proofs.world.World.begin.Goals as goal
 
 pub loop-number-preserved : goal.loop-number-preserved
 loop-number-preserved g c =
