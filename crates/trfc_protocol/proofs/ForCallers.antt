@@ -2,10 +2,10 @@
 -- and that a record that was taken back leaves the world as it was.
 use Rattle.std.specs.Prelude.{Contains, slice_get, slice_set, take}
 use Rattle.std.specs.Option.{option_map_or}
-use Rattle.std.proofs.Common.{◌≡◌, ℕ, zero, suc, ◌+◌, ◌-◌, ◌==◌, true, false, not, ◌&&◌, ◌||◌, Option, Some, None, List, [], ◌∷◌, ◌++◌, length, inl, inr, refl, sym, ap, subst, ◌∙◌, arith}
+use Rattle.std.proofs.Common.{◌≡◌, ℕ, zero, suc, ◌-◌, true, false, not, ◌||◌, Option, Some, None, List, [], ◌∷◌, ◌++◌, length, inl, inr, refl, sym, ap, subst, ◌∙◌, arith}
 use Rattle.std.proofs.Math.Bool.{or-true}
 use Rattle.std.proofs.lemmas.Bool.{cond_both, and_from, both_ways, false_from_ne_true, not_from_false}
-use Rattle.std.proofs.lemmas.List.{append-nil, take-append-le, take_all, length-append}
+use Rattle.std.proofs.lemmas.List.{take-append-le, take_all, length-append}
 use Rattle.std.proofs.lemmas.List.Elements.{All-contains}
 use Rattle.ale_base.specs.Tid.{TidOf}
 use Rattle.ale_base.specs.declared.way.Way.TheVariants.{Outgoing}
@@ -16,7 +16,7 @@ use Rattle.unit_core.specs.Queues.{is_listed, is_among, unit_named, heads_outbou
 use Rattle.ale_base.specs.Prefix.{IsPrefix}
 use Rattle.ale_base.proofs.OptionLemmas.{none_or_some}
 use Rattle.ale_base.proofs.PrefixLemmas.{IsPrefix-same}
-use Rattle.unit_core.proofs.TidLemmas.{Contains-is_listed, is_listed-Contains, is_among-Contains, unit_named-Some, unit_named-Contains}
+use Rattle.unit_core.proofs.TidLemmas.{Contains-is_listed, is_listed-Contains, is_among-Contains, unit_named-Contains}
 use Rattle.unit_core.proofs.OnceLemmas.{WasTaken}
 use Rattle.trfc_protocol.specs.declared.world.World.{World}
 use Rattle.trfc_protocol.specs.declared.world.SystemState.{SystemState}
@@ -103,9 +103,12 @@ module _ {R : Type 0} (rules : Meaning) (lawful : IsLawful rules) (world : World
       let log = log_of world held.tid.system in
       let is = is_free-parts (done_in log) (is_marked Outgoing held.tid log) (heads_outbound (done_in log) units) (committed_unit rules world held.tid)
       (subst (λ s. is_free_outbound (committed_by rules world s) (log_of world s) held.tid ≡ true) parts.0 parts.1) in
-      let its : is.0.tid ≡ held.tid = (committed_unit-is rules lawful world safe held.tid is.0 is.1).1 in
-      (is.0, is.1, is.2,
-        subst (λ (t : TidOf). heads_outbound (done_in (log_of world t.system)) (committed_by rules world t.system) is.0 ≡ true) (sym its) is.4)
+      let its : is.0.tid ≡ held.tid = (committed_unit-is rules lawful world safe held.tid is.0 is.1).1 in (
+        is.0,
+        is.1,
+        is.2,
+        subst (λ (t : TidOf). heads_outbound (done_in (log_of world t.system)) (committed_by rules world t.system) is.0 ≡ true) (sym its) is.4,
+      )
 
   -- the unit of a claim is the one that its sender committed
   pub claimed_unit : (held : Held) → Contains world.claims held → (unit : AleUnit) × (committed_unit rules world held.tid ≡ Some unit)

@@ -1,5 +1,6 @@
 -- Which record a system may be writing as it falls: one that some event, possible now, appends there (`IsWritten`). The test
--- goes by the kind of the record. That it is exactly this is ensured by `World::may_keep`.
+-- goes by the kind of the record. In a safe world it is exactly this, as `World::may_keep` ensures, and the system is up: a
+-- claim is of a system that is up.
 use Rattle.std.specs.Prelude.{◌≡◌, ℕ, Bool, true, false, not, ◌==◌, ◌&&◌, Some}
 use Rattle.std.specs.Option.{option_map_or}
 use Rattle.ale_base.specs.declared.mark.Mark.{Mark as Cause}

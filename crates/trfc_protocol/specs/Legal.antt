@@ -83,7 +83,7 @@ may_follow_others rules system log (App doc) = rules.allows system log (App doc)
 may_follow_others rules system log (Repost doc) = rules.allows system log (Repost doc)
 may_follow_others rules system log (Model text) = rules.allows system log (Model text)
 
--- whether a record may begin a log
+-- whether a record may begin a log: a Genesis alone, since every other record is read by the model that it holds
 abbrev pub may_begin : ℕ → Record → Bool
 may_begin system (Genesis number text) = number == system
 may_begin system _ = false
@@ -158,7 +158,7 @@ pub record IsLawful (rules : Meaning) : Type 0 where
   pub numbered : (system : ℕ) (log : List Record) → IsLegal rules system log → (k : ℕ) (d : AleUnit) → k < length (rules.committed system log)
       → IsUnitAt rules.systems system k (slice_index_or (rules.committed system log) k d)
   pub most : (system : ℕ) (log : List Record) → IsLegal rules system log → length (rules.committed system log) ≤ MAX_UNIT
-  -- a record that commits adds units behind those before it, and every other record leaves them, after any log
+  -- a record that commits adds units behind those before it, where it may follow; every other record leaves them, after any log
   pub commits : (system : ℕ) (log : List Record) (next : Record) → MayFollow rules system log next → is_commit next ≡ true
       → IsPrefix (rules.committed system log) (rules.committed system (log ++ next ∷ []))
   pub commits_nothing : (system : ℕ) (log : List Record) (next : Record) → is_commit next ≡ false

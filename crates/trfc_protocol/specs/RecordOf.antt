@@ -1,5 +1,6 @@
 -- Which record an event appends, and at which system. An event that is not possible appends none, and so does one that makes
--- or drops a claim alone. A fall and an opening are not told here: what an opening finds was written by the event that fell.
+-- or drops a claim alone. What an opening finds is not told here: it was written by the system as it fell, and is possible
+-- only where the system is down, so no system falls in the midst of it.
 use Rattle.std.specs.Prelude.{ℕ, Bool, not, ◌&&◌, ◌||◌, Option, Some, None, if◌then◌else◌}
 use Rattle.std.specs.Option.{option_and_then}
 use Rattle.ale_base.specs.Tid.{TidOf}

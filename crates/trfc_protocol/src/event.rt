@@ -81,7 +81,7 @@ pub enum ReplyTo {
 pub enum CoreAnswer {
     /// The receiver has the unit.
     Done,
-    /// The receiver does not offer the unit's function.
+    /// The unit has no inbound queue, and the receiver does not offer its function.
     SysFail,
     /// A direct run of the unit is under way.
     Busy,

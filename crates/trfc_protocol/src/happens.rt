@@ -75,8 +75,8 @@ impl<R: Rules> World<R> {
         }
     }
 
-    /// All claims go.
-    fn revoke(&mut self, alloc: Global)
+    /// All claims go. It takes no memory.
+    pub fn revoke(&mut self, alloc: Global)
         ensures { self.new ≡ record self.old { claims = [] } }
     {
         self.claims = Items::new(alloc);

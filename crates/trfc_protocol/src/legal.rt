@@ -14,7 +14,8 @@ use unit_core::{
     is_among, is_listed, is_marked, received, unit_named,
 };
 
-/// Whether the log of a system is legal: each of its records may follow those before it.
+/// Whether the log of a system is legal: each of its records may follow those before it. The moments of a journal's entries
+/// are no part of a log, so their order is judged elsewhere.
 pub fn is_legal<R: Rules>(
     alloc: Global,
     rules: &R,

@@ -4,8 +4,8 @@
 //! Contract: from a world that is safe every list of events gives a world that is safe, so each unit is taken and
 //! executed at most once, and in the order of its queues, whatever is lost or repeated and whichever systems fall and are
 //! opened; and each step is exactly that of the definition. The definitions are in `specs/`: `Meaning` and `Legal` (the
-//! rules of a landscape, and which record may follow a log), `Worlds`, `Offered`, `RecordOf`, `Keeping` and `Happens` (the
-//! events), `Safe`.
+//! rules of a landscape, and which record may follow a log), `Worlds`, `Offered`, `SameUnit`, `RecordOf`, `Keeping` and
+//! `Happens` (the events), `Safe`, `Start` (a world that begins with given logs), `ListedRules` (rules to try it).
 #![tactic(auto)]
 
 mod answer;

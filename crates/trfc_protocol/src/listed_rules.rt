@@ -88,8 +88,7 @@ impl Rules for ListedRules {
         next: &Record,
     ) -> Result<bool, OutOfMemory> {
         let _ = alloc;
-        Ok(is_model(next)
-            || (is_commit_record(next) && commits_of(log) < self.list(system).len()))
+        Ok(is_model(next) || (is_commit_record(next) && commits_of(log) < self.list(system).len()))
     }
 
     fn offers(

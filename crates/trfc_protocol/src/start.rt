@@ -14,7 +14,8 @@ impl<R: Rules> World<R> {
     ghost use Rattle.trfc_protocol.specs.Safe.{Sound, IsSafe};
 
     /// The world that begins with these logs, that of system 1 first: all systems are up, and there is no claim. Claims are
-    /// numbered from 1.
+    /// numbered from 1. That a log is legal is decided by `is_legal`; that logs together keep the law is to be known from where
+    /// they come, as from the journals of an earlier run.
     pub fn of_logs(
         alloc: Global,
         rules: R,

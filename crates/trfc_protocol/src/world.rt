@@ -96,7 +96,7 @@ pub struct World<R> {
 }
 
 impl<R> World<R> {
-    ghost use Rattle.std.specs.Prelude.{◌≡◌, is_some, OnOk, OnErr};
+    ghost use Rattle.std.specs.Prelude.{◌≡◌, ◌-◌, ◌^◌, is_some, IsErr, OnOk, OnErr};
     ghost use Rattle.std.specs.Option.{option_copied};
     ghost use Rattle.trfc_protocol.specs.Worlds.{state_of, log_of, rest_of, is_up, is_claimed, is_claimed_at, claim_of, last_of, state_without_last, state_down, state_open, with_state, with_record, with_claim, without_claim, with_fall};
 
@@ -158,7 +158,7 @@ impl<R> World<R> {
         self.claims.iter().find(|held| held.number == number)
     }
 
-    /// The record that a system which is down may find at its opening. None where it is up or not known.
+    /// The record that a system may find at its opening. In a safe world one that is up has none.
     pub fn rest(&self, system: SystemNo) -> Option<&Record>
         ensures { option_copied result ≡ rest_of self.now system }
     {
@@ -193,7 +193,8 @@ impl<R> World<R> {
         }
     }
 
-    /// A system falls that was up, with the record that it may find at its opening: all claims go. It takes no memory.
+    /// A system that is up falls, with the record that it may find at its opening: all claims go, and one fall more is counted.
+    /// It takes no memory. For a system that is down already there is `fall_empty`.
     pub fn fall(&mut self, alloc: Global, system: SystemNo, rest: Option<Record>)
         ensures { self.new ≡ with_fall self.old system rest }
     {
@@ -224,10 +225,11 @@ impl<R> World<R> {
         Ok(())
     }
 
-    /// Makes a claim, under the next number. There is no number left where that is the greatest. After an `Err` nothing
-    /// changed.
+    /// Makes a claim, under the next number. There is no number left where that is the greatest, so the answer is an `Err`
+    /// then. After an `Err` nothing changed.
     pub fn claim(&mut self, tid: Tid, system: SystemNo, kind: HeldKind) -> Result<(), OutOfMemory>
         ensures ok { OnOk result (self.new ≡ with_claim self.old tid system kind) }
+        ensures none_left { self.old.next_number ≡ 2 ^ 64 - 1 → IsErr result }
         ensures err { OnErr result (self.new ≡ self.old) }
     {
         let number = self.next_number;

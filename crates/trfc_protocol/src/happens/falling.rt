@@ -30,8 +30,9 @@ impl<R: Rules> World<R> {
         }
     }
 
-    /// A system falls and leaves nothing to be found. Where it was down already, what it might have found is gone.
-    fn fall_empty(&mut self, alloc: Global, system: SystemNo)
+    /// A system falls and leaves nothing to be found. Where it was up, all claims go and one fall more is counted; where it was
+    /// down already, what it might have found is gone, and nothing else. It takes no memory.
+    pub fn fall_empty(&mut self, alloc: Global, system: SystemNo)
         ensures { self.new ≡ falls_empty self.old system }
     {
         if self.is_up(system) {
