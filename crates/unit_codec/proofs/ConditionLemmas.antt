@@ -1,9 +1,8 @@
 -- What has a spelling meets the condition on writing, so what was read can be written.
 use Rattle.std.specs.Prelude.{IfSome}
-use Rattle.std.specs.List.{AllByRecursion, list_any}
+use Rattle.std.specs.List.{AllByRecursion}
 use Rattle.std.specs.Cmp.Lexicographic.{pointwise}
-use Rattle.std.specs.Int.{w8, w32}
-use Rattle.std.proofs.Common.{◌≡◌, ◌≢◌, ℕ, ◌<◌, ◌≤◌, Bool, true, false, not, ◌&&◌, ◌||◌, nat_eq, ◌==◌, Option, Some, None, List, [], ◌∷◌, ◌++◌, length, refl, sym, ap, ◌∙◌, arith}
+use Rattle.std.proofs.Common.{◌≡◌, ℕ, Bool, true, false, not, nat_eq, ◌==◌, Option, Some, None, List, [], ◌∷◌, ◌++◌, length, refl, sym, ◌∙◌}
 use Rattle.std.proofs.lemmas.Bool.{leb-true, eqb-true, eq-eqb}
 use Rattle.std.proofs.lemmas.List.Folds.{list_any-append}
 use Rattle.ale_base.proofs.ListLemmas.{AllByRecursion-weaker}
@@ -15,8 +14,8 @@ use Rattle.unit_core.specs.declared.ale_unit.AleUnit.{AleUnit}
 use Rattle.unit_core.specs.declared.raw_unit_doc.RawUnitDoc.{RawUnitDoc}
 use Rattle.unit_core.specs.declared.records.Record.{Record}
 use Rattle.unit_core.specs.declared.records.Record.TheVariants.{Genesis, Commit, Dispatch, Mark, Done, Ended, Accept, Execute, Direct, Fail, Forget, Stop, Start, Retry, Put, App, Repost, Model}
-use Rattle.unit_codec.specs.Kind.{Kind, number, sized, listed, optional, AllFollow}
-use Rattle.unit_codec.specs.Fields.{is_name, is_function, is_other, name, text, destination, document, documents, segments, sender, receiver, function, queues, a_unit, field_value, field_values}
+use Rattle.unit_codec.specs.Kind.{number, sized, listed, optional, AllFollow}
+use Rattle.unit_codec.specs.Fields.{is_name, is_other, name, text, destination, document, documents, segments, sender, receiver, function, queues, a_unit, field_value, field_values}
 use Rattle.unit_codec.specs.Records.{genesis, commit, stop, put, a_record}
 use Rattle.unit_codec.specs.declared.entry.Entry.{Entry}
 use Rattle.unit_codec.specs.Entries.{an_entry}

@@ -4,6 +4,7 @@ ghost use Rattle.std.specs.Prelude.{◌≡◌};
 ghost use Rattle.unit_codec.specs.declared.fault.FieldFault.TheVariants.{OutOfMemory as NoMemory};
 
 use ale_base::OutOfMemory;
+use std::alloc::AllocError;
 use thiserror::Error;
 
 /// Why bytes are not read as a record or an entry.
@@ -31,6 +32,14 @@ impl From<OutOfMemory> for FieldFault {
     ghost from_gives = { λ _ fault. fault ≡ NoMemory };
 
     fn from(_: OutOfMemory) -> FieldFault {
+        FieldFault::OutOfMemory
+    }
+}
+
+impl From<AllocError> for FieldFault {
+    ghost from_gives = { λ _ fault. fault ≡ NoMemory };
+
+    fn from(_: AllocError) -> FieldFault {
         FieldFault::OutOfMemory
     }
 }

@@ -48,7 +48,8 @@ pub(crate) fn take_listed<T: Listed>(
 ) -> Result<Items<T>, FieldFault>
     ensures { Takes (λ xs. xs) result from.new (listed_at T.kind T.follows count [] from.old) }
 {
-    let mut taken = Items::new(alloc);
+    // Most lists have one value, which takes the room for one.
+    let mut taken = Items::from_vec(Vec::with_capacity(alloc, count.min(1) as usize)?);
     for _ in 0..count {
         let left = from.left();
         let next = T::take(alloc, from)?;
