@@ -154,7 +154,7 @@ fn walk(
     Ok(())
 }
 
-/// The world after one more event, at which the law and the claims are looked at.
+/// The world after one more event.
 fn go_on(
     alloc: Global,
     lists: &Lists,
@@ -165,17 +165,30 @@ fn go_on(
     requires { IsSafeWorld world }
     ensures { IfOk result IsSafeWorld }
 {
-    match event(alloc, lists, dice, world.next_number)? {
-        Some(event) => {
-            let falls = world.falls;
-            let after = world_after(alloc, world, &event)?;
-            count_kept(&event, falls, &after, seen);
-            look(alloc, lists, &after, seen)?;
-            look_at_found(alloc, lists, &after, dice, seen)?;
-            Ok(after)
-        }
+    match event(alloc, lists, dice, world.next_number) {
+        Some(event) => happen(alloc, lists, world, &event, dice, seen),
         None => Ok(world),
     }
+}
+
+/// The world after an event, at which the law and the claims are looked at.
+fn happen(
+    alloc: Global,
+    lists: &Lists,
+    world: World<ListedRules>,
+    event: &Event,
+    dice: &mut Dice,
+    seen: &mut Seen,
+) -> Result<World<ListedRules>, OutOfMemory>
+    requires { IsSafeWorld world }
+    ensures { IfOk result IsSafeWorld }
+{
+    let falls = world.falls;
+    let after = world_after(alloc, world, event)?;
+    count_kept(event, falls, &after, seen);
+    look(alloc, lists, &after, seen)?;
+    look_at_found(alloc, lists, &after, dice, seen)?;
+    Ok(after)
 }
 
 /// Counts a fall that left a record.
@@ -235,20 +248,14 @@ fn count_executed(world: &World<ListedRules>) -> u64 {
     count
 }
 
-/// An event, possible or not, of one of the units.
-fn event(
-    alloc: Global,
-    lists: &Lists,
-    dice: &mut Dice,
-    next_number: u64,
-) -> Result<Option<Event>, OutOfMemory> {
-    let Some(unit) = pick(lists, dice) else {
-        return Ok(None);
-    };
+/// An event, possible or not, of one of the units. None where there is none to choose, or no memory for the copy of a unit: the
+/// walk goes on without it.
+fn event(alloc: Global, lists: &Lists, dice: &mut Dice, next_number: u64) -> Option<Event> {
+    let unit = pick(lists, dice)?;
     let number = next_number.saturating_sub(1 + dice.below(3));
     match dice.below(28) {
-        kind @ 0..=21 => Ok(event_of(alloc, unit, kind, number, dice)),
-        _ => Ok(Some(fall_or_open(alloc, unit, dice)?)),
+        kind @ 0..=21 => event_of(alloc, unit, kind, number, dice),
+        _ => fall_or_open(alloc, unit, dice).ok(),
     }
 }
 
