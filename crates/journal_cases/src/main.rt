@@ -13,6 +13,7 @@ mod logs;
 mod records;
 mod rules;
 mod side_by_side;
+mod spellings;
 mod suite;
 mod text;
 mod told;

@@ -1,19 +1,23 @@
 //! Items that read records and entries, and write them again.
 
 use crate::answer::Answer;
+use crate::spellings::random;
 use crate::text::{plain, put_shown, shown};
 use crate::told::told;
 use case_form::LineEnd;
 use std::alloc::{AllocError, Global};
 use unit_codec::{Entry, read_entry, read_record, write_entry, write_record};
 
-/// Answers `record` and `entry`.
+/// Answers `record`, `entry` and `random`.
 pub(crate) fn answer(alloc: Global, word: &[u8], rest: &[u8]) -> Result<Answer, LineEnd> {
     if word == b"record".as_slice() {
         return Ok(Answer::Text(record(alloc, rest)?));
     }
     if word == b"entry".as_slice() {
         return Ok(Answer::Text(entry(alloc, rest)?));
+    }
+    if word == b"random".as_slice() {
+        return Ok(Answer::Text(random(alloc, rest)?));
     }
     Ok(Answer::Foreign)
 }
