@@ -12,6 +12,8 @@ pub mod MemberLemmas
 pub mod SnocLemmas
 -- one list begins another
 pub mod PrefixLemmas
+-- lines that end, and the last one
+pub mod LinesLemmas
 -- Lemmas on this crate's types.
 
 -- digits and the numbers that they spell

@@ -1,6 +1,7 @@
 -- Transaction ids.
-use Rattle.std.specs.Prelude.{ℕ, ◌≤◌, ◌==◌, ◌&&◌, Bool, ◌++◌, List, codes}
-use Rattle.ale_base.specs.Hexadecimal.{digits_of}
+use Rattle.std.specs.Prelude.{ℕ, ◌≤◌, ◌==◌, ◌&&◌, nat_le, Bool, ◌++◌, List, take, drop, codes, Option, Some, None, if◌then◌else◌}
+use Rattle.ale_base.specs.Hexadecimal.{digits_of, number_of}
+use Rattle.ale_base.specs.Text.{is_text}
 
 -- a unit of work of a system
 pub record TidOf : Type 0 where
@@ -21,3 +22,13 @@ pub record IsTid (tid : TidOf) : Type 0 where
 -- whether two ids are the same
 abbrev pub is_tid : TidOf → TidOf → Bool
 is_tid a b = (a.system == b.system) && (a.unit == b.unit)
+
+-- the numbers of an id are in their ranges
+abbrev pub has_range : TidOf → Bool
+has_range tid = (nat_le 1 tid.system && nat_le tid.system 16) && (nat_le 1 tid.unit && nat_le tid.unit 65536)
+
+-- the id that these bytes spell, if they spell one
+unfoldable pub tid_of : List ℕ → Option TidOf
+tid_of bytes =
+    let tid : TidOf = record { system = number_of (take 8 bytes); unit = number_of (drop 4 (drop 8 bytes)) } in
+    if has_range tid && is_text (spelling tid) bytes then Some tid else None

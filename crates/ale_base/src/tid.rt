@@ -28,7 +28,7 @@ impl Model for Tid {
 
 impl Tid {
     ghost use Rattle.std.specs.Prelude.{◌≡◌, ◌≤◌, length, Some, IfSome};
-    ghost use Rattle.ale_base.specs.Tid.{TidOf, IsTid, spelling};
+    ghost use Rattle.ale_base.specs.Tid.{TidOf, IsTid, spelling, tid_of};
 
     /// The most units of a system.
     pub const MAX_UNIT: u32 = 65_536;
@@ -77,6 +77,15 @@ impl Tid {
 
     /// The id that these bytes spell. None exactly where they spell none.
     pub fn read(bytes: &[u8]) -> Option<Tid>
+        ensures found { (tid : TidOf) → result ≡ Some tid → IsTid tid × (bytes.now ≡ spelling tid) }
+        ensures spelled { (tid : TidOf) → IsTid tid → bytes.now ≡ spelling tid → result ≡ Some tid }
+        ensures computed { result ≡ tid_of bytes.now }
+    {
+        Tid::spelled_by(bytes)
+    }
+
+    /// The id whose spelling these bytes are.
+    fn spelled_by(bytes: &[u8]) -> Option<Tid>
         ensures found { (tid : TidOf) → result ≡ Some tid → IsTid tid × (bytes.now ≡ spelling tid) }
         ensures spelled { (tid : TidOf) → IsTid tid → bytes.now ≡ spelling tid → result ≡ Some tid }
     {

@@ -1,5 +1,3 @@
--- lines that end, and the last one
-pub mod LinesLemmas
 -- a line is one record at most, and a record has no fault
 pub mod RecordLemmas
 -- documents by their last line

@@ -5,11 +5,11 @@ use Rattle.std.proofs.lemmas.Bool.{false≢true}
 use Rattle.idoc_file.specs.declared.raw_doc.RawDoc.{RawDoc}
 use Rattle.idoc_file.specs.declared.file_fault.FileFault.{FileFault}
 use Rattle.idoc_file.specs.declared.lines_read.LinesRead.{LinesRead}
-use Rattle.idoc_file.specs.Lines.{lines_of, without_return, IsNoEnd}
+use Rattle.ale_base.specs.Lines.{lines_of, without_return, IsNoEnd}
 use Rattle.idoc_file.specs.DocumentFile.{AreDocuments, IsFirstBad, first_fault}
 use Rattle.idoc_file.specs.Reading.{AreReadWith, AreRead, IsReading}
 use Rattle.ale_base.proofs.ListLemmas.{AllByRecursion-append}
-use Rattle.idoc_file.proofs.LinesLemmas.{lines_of-ended, lines_of-unended, length-lines_of}
+use Rattle.ale_base.proofs.LinesLemmas.{lines_of-ended, lines_of-unended, length-lines_of}
 
 -- a line with a fault is the first bad one
 pub IsFirstBad-here : (lines : List (List ℕ)) (line : List ℕ) (read : List RawDoc) (number : ℕ) (fault : FileFault) → AreDocuments lines read → number ≡ length lines + 1

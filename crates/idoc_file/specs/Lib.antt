@@ -1,4 +1,3 @@
--- the lines of a file, the documents that they hold, and what a reader stands for
-pub mod Lines
+-- the documents that the lines of a file hold, and what a reader stands for
 pub mod DocumentFile
 pub mod Reading

@@ -6,7 +6,7 @@ use Rattle.idoc_file.specs.declared.file_fault.FileFault.TheVariants.{OutOfMemor
 use Rattle.idoc_file.specs.declared.lines_read.LinesRead.{LinesRead}
 use Rattle.idoc_file.specs.declared.reader.TheConstants.Reader.{MOST_BYTES}
 use Rattle.idoc_file.specs.declared.reader.Reader.{Reader}
-use Rattle.idoc_file.specs.Lines.{lines_of, IsNoEnd}
+use Rattle.ale_base.specs.Lines.{lines_of, IsNoEnd}
 use Rattle.idoc_file.specs.DocumentFile.{AreDocuments, IsFirstBad}
 
 -- with no fault the lines are those of the documents, and else one of them is the first bad line, with this fault

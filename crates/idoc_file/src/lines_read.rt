@@ -19,7 +19,7 @@ impl LinesRead {
     ghost use Rattle.idoc_file.specs.declared.reader.TheConstants.Reader.{MOST_BYTES};
     ghost use Rattle.idoc_file.specs.DocumentFile.{AreDocuments, IsFirstBad};
     ghost use Rattle.idoc_file.specs.Reading.{AreRead, IsReading};
-    ghost use Rattle.idoc_file.specs.Lines.{lines_of};
+    ghost use Rattle.ale_base.specs.Lines.{lines_of};
 
     /// No line was read.
     pub(crate) fn new(alloc: Global) -> LinesRead

@@ -1,9 +1,8 @@
 //! The reader of a document file, which is fed in pieces.
 
-use crate::line_ends::{split_line, without_return};
 use crate::lines_read::LinesRead;
 use crate::{FileFault, RawDoc};
-use ale_base::{Items, OutOfMemory};
+use ale_base::{Items, OutOfMemory, split_line, without_return};
 use std::alloc::Global;
 use std::mem;
 
@@ -22,7 +21,7 @@ impl Reader {
     ghost use Rattle.std.specs.List.{AllByRecursion};
     ghost use Rattle.idoc_file.specs.declared.file_fault.FileFault.{FileFault};
     ghost use Rattle.idoc_file.specs.declared.reader.TheConstants.Reader.{MOST_BYTES};
-    ghost use Rattle.idoc_file.specs.Lines.{lines_of, IsNoEnd};
+    ghost use Rattle.ale_base.specs.Lines.{lines_of, IsNoEnd};
     ghost use Rattle.idoc_file.specs.DocumentFile.{AreDocuments, IsFirstBad, IsAnswer};
     ghost use Rattle.idoc_file.specs.declared.raw_doc.RawDoc.{RawDoc};
     ghost use Rattle.idoc_file.specs.Reading.{IsReading, Stands, IsGone, fed_of};

@@ -2,15 +2,15 @@
 use Rattle.std.specs.Int.{w8, w16, w32, w64}
 use Rattle.std.proofs.Common.{◌≡◌, ℕ, Some, None, refl, sym, ap, ◌∙◌, inl, inr, arith}
 use Rattle.std.proofs.lemmas.Bool.Decides.{eqb_tells}
-use Rattle.ale_base.specs.Tid.{TidOf, IsTid, spelling}
+use Rattle.ale_base.specs.Tid.{TidOf, IsTid, spelling, tid_of}
 use Rattle.ale_base.specs.declared.mark.Mark.{Mark as Cause}
 use Rattle.ale_base.specs.declared.mark.Mark.TheVariants.{Cpicerr, Sysfail}
 use Rattle.ale_base.specs.declared.way.Way.{Way}
 use Rattle.ale_base.specs.declared.way.Way.TheVariants.{Outgoing, Incoming}
 use Rattle.ale_base.proofs.TidLemmas.{length-spelling}
 use Rattle.unit_codec.specs.Kind.{plain, number, byte, sized, ◌then◌}
-use Rattle.unit_codec.specs.Fields.{is_name, name, text, way_of, way_byte, way, cause_of, cause_byte, cause, tid_of, tid, is_queue, queue, is_destination, destination, doc_number, any, count, is_segment, segment_name, is_segment_data, segment_data, segment, is_control, control, segments, document, documents, sender, receiver, is_function, function, is_other, queues, unit_of, unit_fields, a_unit, field_value, field_values}
-use Rattle.unit_codec.proofs.RuleLemmas.{tid_of-spelled, tid_of-read}
+use Rattle.unit_codec.specs.Fields.{is_name, name, text, way_of, way_byte, way, cause_of, cause_byte, cause, tid, is_queue, queue, is_destination, destination, doc_number, any, count, is_segment, segment_name, is_segment_data, segment_data, segment, is_control, control, segments, document, documents, sender, receiver, is_function, function, is_other, queues, unit_of, unit_fields, a_unit, field_value, field_values}
+use Rattle.ale_base.proofs.TidLemmas.{tid_of-spelled, tid_of-read}
 use Rattle.unit_codec.proofs.KindLemmas.{IsExact, wide8, wide16, wide32, wide64, plain-fits, plain-exact, number-exact, number-fits, byte-exact, sized-exact, such_that-exact, decoded-exact, shaped-exact, then-exact, listed-exact}
 
 pub name-exact : IsExact name

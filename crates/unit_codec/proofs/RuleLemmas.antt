@@ -11,16 +11,13 @@ use Rattle.std.proofs.lemmas.Option.{cond_some}
 use Rattle.ale_base.specs.Blanks.{trimmed}
 use Rattle.ale_base.specs.TrimmedLemmas.{padded-trimmed_at, length-trimmed}
 use Rattle.ale_base.specs.Text.{is_text}
-use Rattle.ale_base.specs.Hexadecimal.{number_of}
-use Rattle.ale_base.specs.Tid.{TidOf, IsTid, spelling}
 use Rattle.ale_base.specs.QueueName.{IsQueueName, IsNameByte}
 use Rattle.ale_base.specs.declared.queue_name.NameFault.{NameFault}
-use Rattle.ale_base.proofs.TidLemmas.{number_of-system, number_of-unit}
 use Rattle.idoc_record.specs.declared.fault.RecordFault.{RecordFault}
 use Rattle.idoc_record.specs.declared.control_field.ControlField.TheVariants.{Tabnam, Docnum}
 use Rattle.idoc_record.specs.Control.{IsControl, IsControlLine, field_of, is_control_table, is_number}
 use Rattle.idoc_record.specs.Data.{IsDataRecord, is_no_segment}
-use Rattle.unit_codec.specs.Fields.{is_between, ends_in_no_blank, is_name, is_function, is_segment, is_segment_data, tid_of, is_queue, is_queue_byte, is_control}
+use Rattle.unit_codec.specs.Fields.{is_between, ends_in_no_blank, is_name, is_function, is_segment, is_segment_data, is_queue, is_queue_byte, is_control}
 
 -- ---- tests
 
@@ -40,40 +37,6 @@ between least most n low high = both _ _ (le-leb least n low) (le-leb n most hig
 
 pub is_between-parts : (least most n : ℕ) → is_between least most n ≡ true → (least ≤ n) × (n ≤ most)
 is_between-parts least most n is = let p = parts (nat_le least n) (nat_le n most) is in (leb-true least n p.0, leb-true n most p.1)
-
--- ---- transaction ids
-
--- the bytes of an id are read as it
-pub tid_of-spelled : (bytes : List ℕ) (id : TidOf) → IsTid id → bytes ≡ spelling id → tid_of bytes ≡ Some id
-unfolding tid_of
-tid_of-spelled bytes id is same =
-    let system : number_of (take 8 bytes) ≡ id.system = sym (number_of-system bytes id is same) in
-    let unit : number_of (drop 4 (drop 8 bytes)) ≡ id.unit = sym (number_of-unit bytes id is same) in
-    let test : (is_between 1 16 id.system && (is_between 1 65536 id.unit && is_text (spelling id) bytes)) ≡ true =
-    both _ _ (between 1 16 id.system is.system_least is.system_most) (both _ _ (between 1 65536 id.unit is.unit_least is.unit_most) ((bytes_decides (spelling id) bytes).1 (sym same))) in
-    rw (system, unit, test) refl
-
--- what is read as an id is its bytes
-pub tid_of-read : (bytes : List ℕ) (id : TidOf) → tid_of bytes ≡ Some id → IsTid id × (spelling id ≡ bytes)
-unfolding tid_of
-tid_of-read bytes id read =
-    let here : TidOf = record { system = number_of (take 8 bytes); unit = number_of (drop 4 (drop 8 bytes)) } in
-    let found = cond_some (is_between 1 16 here.system && (is_between 1 65536 here.unit && is_text (spelling here) bytes)) here id read in
-    let one = parts (is_between 1 16 here.system) _ found.0 in
-    let two = parts (is_between 1 65536 here.unit) _ one.1 in
-    let system = is_between-parts 1 16 here.system one.0 in
-    let unit = is_between-parts 1 65536 here.unit two.0 in
-    subst (λ (t : TidOf). IsTid t × (spelling t ≡ bytes)) found.1
-    (record { system_least = system.0; system_most = system.1; unit_least = unit.0; unit_most = unit.1 }, (bytes_decides (spelling here) bytes).0 two.1)
-
--- a reading of ids that is exact in both directions is this one
-pub same_tid : (bytes : List ℕ) (r : Option TidOf) → ((id : TidOf) → r ≡ Some id → IsTid id × (bytes ≡ spelling id)) → ((id : TidOf) → IsTid id → bytes ≡ spelling id → r ≡ Some id) → r ≡ tid_of bytes
-same_tid bytes (Some id) reads spelled = let is = reads id refl in sym (tid_of-spelled bytes id is.0 is.1)
-same_tid bytes None reads spelled = sym (no_tid (tid_of bytes) (λ id is. let p = tid_of-read bytes id is in let some = spelled id p.0 (sym p.1) in absurd cc))
-  where
-    no_tid : (o : Option TidOf) → ((id : TidOf) → o ≡ Some id → ⊥) → o ≡ None
-    no_tid (Some id) never = absurd (never id refl)
-    no_tid None never = refl
 
 -- ---- names of queues
 

@@ -4,10 +4,8 @@ use Rattle.std.specs.List.{list_all}
 use Rattle.std.specs.Int.{w8, w16, w32, w64}
 use Rattle.ale_base.specs.Blanks.{trimmed}
 use Rattle.ale_base.specs.Text.{is_text}
-use Rattle.ale_base.specs.Hexadecimal.{number_of}
-use Rattle.ale_base.specs.Tid.{TidOf, IsTid, spelling}
+use Rattle.ale_base.specs.Tid.{TidOf, IsTid, spelling, tid_of}
 use Rattle.ale_base.specs.declared.system_no.TheConstants.SystemNo.{MAX}
-use Rattle.ale_base.specs.declared.tid.TheConstants.Tid.{MAX_UNIT}
 use Rattle.ale_base.specs.declared.queue_name.TheConstants.QueueName.{MAX_LEN}
 use Rattle.ale_base.specs.declared.mark.Mark.{Mark as Cause}
 use Rattle.ale_base.specs.declared.mark.Mark.TheVariants.{Cpicerr, Sysfail}
@@ -93,12 +91,6 @@ cause_byte Sysfail = 2
 
 unfoldable pub cause : Kind Cause
 cause = decoded byte cause_of cause_byte (λ _. Unit {0})
-
--- the transaction id that 24 bytes spell
-unfoldable pub tid_of : List ℕ → Option TidOf
-tid_of bytes =
-    let tid : TidOf = record { system = number_of (take 8 bytes); unit = number_of (drop 4 (drop 8 bytes)) } in
-    if is_between 1 MAX tid.system && (is_between 1 MAX_UNIT tid.unit && is_text (spelling tid) bytes) then Some tid else None
 
 unfoldable pub tid : Kind TidOf
 tid = decoded (plain 24) tid_of spelling IsTid

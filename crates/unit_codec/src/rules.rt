@@ -2,7 +2,8 @@
 
 ghost use Rattle.std.specs.Prelude.{◌≡◌, ◌≤◌, false, MatchOption, IsTrue, length};
 ghost use Rattle.unit_core.specs.Queues.{has_name};
-ghost use Rattle.unit_codec.specs.Fields.{is_name, is_function, is_segment, is_segment_data, ends_in_no_blank, tid_of, is_queue, is_control};
+ghost use Rattle.unit_codec.specs.Fields.{is_name, is_function, is_segment, is_segment_data, ends_in_no_blank, is_queue, is_control};
+ghost use Rattle.ale_base.specs.Tid.{tid_of};
 
 use crate::limits::{MOST_DATA, MOST_NAME};
 use ale_base::{Fixed, QueueName, Tid, trimmed};

@@ -2,7 +2,7 @@ use Rattle.std.proofs.Common.{◌≡◌, ℕ, List, [], ◌∷◌, ◌++◌, len
 use Rattle.std.proofs.lemmas.List.{nil_from_length}
 use Rattle.ale_base.proofs.OnOkLemmas.{on_ok}
 use Rattle.idoc_file.specs.declared.lines_read.LinesRead.{LinesRead}
-use Rattle.idoc_file.specs.Lines.{without_return}
+use Rattle.ale_base.specs.Lines.{without_return}
 use Rattle.idoc_file.specs.Reading.{AreRead}
 use Rattle.idoc_file.proofs.ReadingLemmas.{IsReading-ended, IsReading-few, IsReading-same}
 use Rattle.idoc_file.proofs.reader.Reader.end_line.Goals as goal

@@ -5,7 +5,7 @@ use Rattle.std.proofs.lemmas.Bool.Decides.{eqb_tells}
 use Rattle.std.proofs.lemmas.Bool.{cases_Bool, false≢true}
 use Rattle.std.proofs.lemmas.List.{take_all}
 use Rattle.memchr.specs.Find.{Nowhere, Passes, is_byte}
-use Rattle.idoc_file.specs.Lines.{onto_first, ends_here, lines_of, without_return, IsNoEnd}
+use Rattle.ale_base.specs.Lines.{onto_first, ends_here, lines_of, without_return, IsNoEnd}
 
 no_end_next : (r : Bool) → (r && false) ≡ false
 no_end_next r = elim r as (λ b. (b && false) ≡ false) [ true ↦ refl | false ↦ refl ]

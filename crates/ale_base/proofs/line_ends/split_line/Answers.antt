@@ -1,7 +1,7 @@
 use Rattle.std.proofs.Common.{◌≡◌, ◌+◌, suc, ◌∷◌, ◌++◌, get_or, take, drop, sym, ap, ◌∙◌, arith, add-one, drop-cons, eqb-true}
 use Rattle.std.proofs.lemmas.List.{length-drop, take_rest, take-append-drop}
-use Rattle.idoc_file.proofs.LinesLemmas.{IsNoEnd-before, IsNoEnd-all}
-use Rattle.idoc_file.proofs.line_ends.split_line.Goals as goal
+use Rattle.ale_base.proofs.LinesLemmas.{IsNoEnd-before, IsNoEnd-all}
+use Rattle.ale_base.proofs.line_ends.split_line.Goals as goal
 
 pub returns-in-Some-clause-found : goal.returns-in-Some-clause-found
 returns-in-Some-clause-found c =

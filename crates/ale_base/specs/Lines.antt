@@ -1,4 +1,4 @@
--- The lines of a document file.
+-- The lines of a file.
 use Rattle.std.specs.Prelude.{◌≡◌, ℕ, ◌==◌, ◌&&◌, Bool, false, List, [], ◌∷◌, if◌then◌else◌}
 
 -- the byte at the front of the first line; where there is none, it is a line of its own

@@ -5,9 +5,9 @@ use Rattle.std.proofs.lemmas.List.{take-append-drop}
 use Rattle.std.proofs.lemmas.Bool.Decides.{eqb_tells}
 use Rattle.std.proofs.Math.Seq.{drop-append_seam}
 use Rattle.ale_base.proofs.SnocLemmas.{Snoc, none, some, snoc}
-use Rattle.idoc_file.specs.Lines.{without_return}
-use Rattle.idoc_file.proofs.LinesLemmas.{without_return-return, without_return-other}
-use Rattle.idoc_file.proofs.line_ends.without_return.Goals as goal
+use Rattle.ale_base.specs.Lines.{without_return}
+use Rattle.ale_base.proofs.LinesLemmas.{without_return-return, without_return-other}
+use Rattle.ale_base.proofs.line_ends.without_return.Goals as goal
 
 -- the last byte of a list
 last_byte : (front : List ℕ) (last : ℕ) → drop (length (front ++ last ∷ []) - 1) (front ++ last ∷ []) ≡ last ∷ []
