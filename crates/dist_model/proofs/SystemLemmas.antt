@@ -5,11 +5,11 @@ use Rattle.std.proofs.Common.{◌≡◌, ℕ, suc, ◌+◌, ◌<◌, List, Optio
 use Rattle.ale_base.specs.Text.{is_text}
 use Rattle.ale_base.proofs.OptionLemmas.{option_map-Some}
 use Rattle.segment_defs.proofs.NameLemmas.{position-map, position-name, position-none, position-only}
-use Rattle.dist_model.specs.declared.model.Model.{Model}
+use Rattle.dist_model.specs.declared.lists.Lists.{Lists}
 use Rattle.dist_model.specs.Model.{IsModel, HasSystem, system_names, system_named}
 
 -- the number that is found is that of a system of the name, and there is no other
-system_named-HasSystem : (model : Model) (name : List ℕ) (number : ℕ) → IsModel model → (system_named name model ≡ Some number) ↔ HasSystem model name number
+system_named-HasSystem : (model : Lists) (name : List ℕ) (number : ℕ) → IsModel model → (system_named name model ≡ Some number) ↔ HasSystem model name number
 system_named-HasSystem model name number is = let names = system_names model.systems in (
   λ found. let at = option_map-Some suc (position (is_text name) names) number found in record {
     place = at.0;
@@ -24,14 +24,14 @@ map-none None = (λ none. refl, λ none. refl)
 map-none (Some place) = (λ none. cc, λ none. cc)
 
 -- no number is found exactly where no system has the name
-system_named-none : (model : Model) (name : List ℕ) → (system_named name model ≡ None) ↔ (Contains (system_names model.systems) name → ⊥)
+system_named-none : (model : Lists) (name : List ℕ) → (system_named name model ≡ None) ↔ (Contains (system_names model.systems) name → ⊥)
 system_named-none model name =
     let names = system_names model.systems in
     let map = map-none (position (is_text name) names) in
     let none = position-none name names in
     (λ is. none.0 (map.0 is), λ absent. map.1 (none.1 absent))
 
-module _ (model : Model) (name : List ℕ) (found : Option ℕ) (sought : found ≡ position (λ system. is_text name system.name) model.systems) where
+module _ (model : Lists) (name : List ℕ) (found : Option ℕ) (sought : found ≡ position (λ system. is_text name system.name) model.systems) where
   seen : found ≡ position (is_text name) (system_names model.systems)
   seen = sought ∙ position-map (λ system. system.name) (is_text name) model.systems
 
@@ -45,10 +45,10 @@ module _ (model : Model) (name : List ℕ) (found : Option ℕ) (sought : found 
   number-none absent = ap (option_map suc) (sym absent ∙ seen)
 
 -- the same of a number that was found
-pub found-named : (model : Model) (name : List ℕ) (r : Option ℕ) → r ≡ system_named name model → IsModel model → (number : ℕ) → (r ≡ Some number) ↔ HasSystem model name number
+pub found-named : (model : Lists) (name : List ℕ) (r : Option ℕ) → r ≡ system_named name model → IsModel model → (number : ℕ) → (r ≡ Some number) ↔ HasSystem model name number
 found-named model name r found is number =
     subst (λ r. (r ≡ Some number) ↔ HasSystem model name number) (sym found) (system_named-HasSystem model name number is)
 
-pub found-none : (model : Model) (name : List ℕ) (r : Option ℕ) → r ≡ system_named name model → (r ≡ None) ↔ (Contains (system_names model.systems) name → ⊥)
+pub found-none : (model : Lists) (name : List ℕ) (r : Option ℕ) → r ≡ system_named name model → (r ≡ None) ↔ (Contains (system_names model.systems) name → ⊥)
 found-none model name r found =
     subst (λ r. (r ≡ None) ↔ (Contains (system_names model.systems) name → ⊥)) (sym found) (system_named-none model name)

@@ -1,27 +1,35 @@
 //! The distribution model of a landscape: its releases and systems, segment types and IDoc types, and what is sent from
 //! which system to which.
 //!
-//! Contract: `Model::system` finds the system of a name exactly. What all models keep, so far of releases, systems,
-//! segment types and IDoc types, is `IsModel`. The definitions are in `specs/`: `System`, `Model`.
+//! Contract: what all models keep is `IsModel`, by the type `Model`. `Model::system`, `message`, `receivers`, `outbound` and
+//! `inbound` find exactly what a name, a sender, a row or a way stands for. The definitions are in `specs/`, a module a
+//! section of the model; `Model` has those over all.
 #![tactic(auto)]
 
+mod fields;
 mod filter;
 mod inbound;
+mod index;
 mod kind;
 mod limits;
+mod lists;
 mod message;
 mod model;
 mod outbound;
 mod row;
 mod system;
 
+pub use fields::{all_fields, entries_at, field_named, has_entry, message_entries};
 pub use filter::{FieldPlace, Filter};
 pub use inbound::{Inbound, InboundMode};
 pub use kind::Kind;
 pub use limits::{
-    LONGEST_RELEASE, LONGEST_SYSTEM, MOST_ENTRIES, MOST_FUNCTIONS, MOST_IDOC_TYPES, MOST_RELEASES,
-    MOST_SYSTEMS,
+    LONGEST_PORT, LONGEST_RELEASE, LONGEST_SYSTEM, MOST_CONVERSIONS, MOST_ENTRIES, MOST_FILTERS,
+    MOST_FUNCTIONS, MOST_GROUPS, MOST_IDOC_TYPES, MOST_INBOUND, MOST_KEPT, MOST_KINDS,
+    MOST_MESSAGES, MOST_OUTBOUND, MOST_PACKET, MOST_REDUCED, MOST_RELEASES, MOST_ROWS, MOST_RULES,
+    MOST_SYSTEMS, MOST_VALUES,
 };
+pub use lists::Lists;
 pub use message::{Message, MessageNo, PostingMode, Reduced};
 pub use model::Model;
 pub use outbound::{Convert, Outbound, QueueRule};

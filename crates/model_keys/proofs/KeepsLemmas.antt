@@ -1,14 +1,12 @@
 -- What is known of a value that a reading gave.
-use Rattle.std.specs.Prelude.{IsTrue, slice_get}
-use Rattle.std.specs.List.{AllByRecursion, IsDistinct, list_any}
-use Rattle.std.specs.Cmp.Lexicographic.{bytes_decides}
-use Rattle.std.proofs.Common.{◌≡◌, ℕ, ℤ, pos, negsuc, suc, ◌+◌, ◌≤◌, ◌&&◌, ◌||◌, nat_le, nat_eq, Bool, true, false, cond, Option, Some, None, Result, Ok, Err, List, [], ◌∷◌, ◌++◌, length, position, refl, sym, ap, subst, ◌∙◌, inl, inr, arith}
-use Rattle.std.proofs.lemmas.Bool.{and_parts, cases_Bool, false≢true}
+use Rattle.std.specs.Prelude.{IsTrue}
+use Rattle.std.specs.List.{list_any}
+use Rattle.std.proofs.Common.{◌≡◌, ℕ, ℤ, pos, negsuc, suc, ◌+◌, ◌≤◌, ◌&&◌, nat_le, Bool, true, false, cond, Option, Some, None, Result, Ok, Err, List, [], ◌∷◌, ◌++◌, length, position, refl, sym, ap, subst, ◌∙◌, arith}
+use Rattle.std.proofs.lemmas.Bool.{and_parts}
 use Rattle.std.proofs.lemmas.Bool.Decides.{nat_tests}
 use Rattle.std.proofs.lemmas.List.{length-append}
 use Rattle.toml.specs.Data.{Data, Items, no_items, item, Members, get_member, as_str, as_array, as_integer}
 use Rattle.ale_base.specs.Text.{is_text}
-use Rattle.ale_base.proofs.ListLemmas.{IsDistinct-append}
 use Rattle.segment_defs.specs.Name.{is_name_within, is_segment_name}
 use Rattle.segment_defs.proofs.NameLemmas.{position-name}
 use Rattle.model_keys.specs.declared.finding.Cause.{Cause}
@@ -16,6 +14,7 @@ use Rattle.model_keys.specs.declared.finding.Cause.TheVariants.{Missing, Unknown
 use Rattle.model_keys.specs.declared.finding.Finding.{Finding}
 use Rattle.model_keys.specs.Finding.{◌>>=◌, at, check, required, within}
 use Rattle.model_keys.specs.Each.{each}
+use Rattle.model_keys.specs.Says.{HasList, HasText, SaysPlace}
 use Rattle.model_keys.specs.Keys.{items_len, list_of, list_or_none_at, name_at, name_of, new_name, new_name_at, new_name_of, new_segment_name_at, number_in, number_of, or_else, reference_at, segment_name_at, segment_name_of, segment_type_at, some_list_at, some_list_of, value_at}
 
 -- a reading that went on gave a value
@@ -23,7 +22,7 @@ pub from_bind : {A B : Type 0} (r : Result A Finding) (f : A → Result B Findin
 from_bind (Ok x) f y h = (x, refl, h)
 from_bind (Err e) f y h = absurd (cc)
 
-within-ok : {A : Type 0} (key : List ℕ) (place : ℕ) (r : Result A Finding) (a : A) → within key place r ≡ Ok a → r ≡ Ok a
+pub within-ok : {A : Type 0} (key : List ℕ) (place : ℕ) (r : Result A Finding) (a : A) → within key place r ≡ Ok a → r ≡ Ok a
 within-ok key place (Ok x) a h = h
 within-ok key place (Err e) a h = absurd (cc)
 
@@ -62,34 +61,6 @@ module _ {A : Type 0} (key : List ℕ) (read : List A → Data → Result A Find
       let (a, is, rest) = from_bind (within key place (read done d)) (λ a. each key read (suc place) (done ++ a ∷ []) ds) all h in
       each-length (suc place) (done ++ a ∷ []) ds all rest ∙ omega (arith, length-append done (a ∷ []))
 
--- a test that tells two apart tells them apart the other way round
-abbrev pub Symmetric : {K : Type 0} → (K → K → Bool) → Type 0
-Symmetric {K} same = (a b : K) → same a b ≡ false → same b a ≡ false
-
-pub is_text-symmetric : Symmetric is_text
-is_text-symmetric a b differs = elim (cases_Bool (is_text b a)) [
-  | inl same ↦ absurd (false≢true (sym differs ∙ (bytes_decides a b).1 (sym ((bytes_decides b a).0 same))))
-  | inr other ↦ other
-]
-
-pub nat_eq-symmetric : Symmetric nat_eq
-nat_eq-symmetric a b differs = grind (arith, nat_tests)
-
-or_false_parts : (a b : Bool) → (a || b) ≡ false → (a ≡ false) × (b ≡ false)
-or_false_parts false b none = (refl, none)
-or_false_parts true b none = absurd (false≢true (sym none))
-
-apart_from : {K : Type 0} (same : K → K → Bool) → Symmetric same → (k : K) (ks : List K) → list_any (same k) ks ≡ false → AllByRecursion (λ other. AllByRecursion (λ y. same other y ≡ false) (k ∷ [])) ks
-apart_from same symmetric k [] none = tt
-apart_from same symmetric k (other ∷ ks) none =
-    let parts = or_false_parts (same k other) (list_any (same k) ks) none in
-    ((symmetric k other parts.0, tt), apart_from same symmetric k ks parts.1)
-
--- keys that differ, and one more that none of them is
-pub IsDistinct-push : {K : Type 0} (same : K → K → Bool) → Symmetric same → (ks : List K) (k : K) → IsDistinct same ks → list_any (same k) ks ≡ false → IsDistinct same (ks ++ k ∷ [])
-unfolding IsDistinct
-IsDistinct-push same symmetric ks k apart new = IsDistinct-append same ks (k ∷ []) apart (apart_from same symmetric k ks new) (tt, tt)
-
 -- names of a form
 pub name_of-keeps : (longest : ℕ) (path : List ℕ) (d : Data) (name : List ℕ) → name_of longest path d ≡ Ok name → (as_str d ≡ Some name) × IsTrue (is_name_within longest name)
 unfolding name_of
@@ -104,10 +75,6 @@ segment_name_of-keeps path d name h =
     let (text, t, g) = from_bind (required Wrong path (as_str d)) (λ text. cond (is_segment_name text) (Ok text) (Err (at Wrong path))) name h in
     let (passes, e) = tested (is_segment_name text) text name (at Wrong path) g in
     (required-ok Wrong path (as_str d) text t ∙ ap Some e, subst (λ n. IsTrue (is_segment_name n)) e passes)
-
--- the text at a key
-abbrev pub HasText : List ℕ → Members → List ℕ → Type 0
-HasText key table text = (d : Data) × (get_member key table ≡ Some d) × (as_str d ≡ Some text)
 
 pub value_at-keeps : (key : List ℕ) (table : Members) (d : Data) → value_at key table ≡ Ok d → get_member key table ≡ Some d
 unfolding value_at
@@ -167,22 +134,18 @@ new_segment_name_at-keeps key names table name h =
 
 -- what a name refers to
 pub reference_at-keeps : (longest : ℕ) (key : List ℕ) (names : List (List ℕ)) (table : Members) (place : ℕ) → reference_at longest key names table ≡ Ok place
-    → (name : List ℕ) × HasText key table name × (slice_get names place ≡ Some name)
+    → SaysPlace names key table place
 unfolding reference_at
 reference_at-keeps longest key names table place h =
     let (name, t, g) = from_bind (name_at longest key table) (λ name. required Unknown key (position (is_text name) names)) place h in
     (name, (name_at-keeps longest key table name t).0, position-name name names place (required-ok Unknown key (position (is_text name) names) place g))
 
 pub segment_type_at-keeps : (key : List ℕ) (types : List (List ℕ)) (table : Members) (place : ℕ) → segment_type_at key types table ≡ Ok place
-    → (name : List ℕ) × HasText key table name × (slice_get types place ≡ Some name)
+    → SaysPlace types key table place
 unfolding segment_type_at
 segment_type_at-keeps key types table place h =
     let (name, t, g) = from_bind (segment_name_at key table) (λ name. required Unknown key (position (is_text name) types)) place h in
     (name, (segment_name_at-keeps key table name t).0, position-name name types place (required-ok Unknown key (position (is_text name) types) place g))
-
--- the list of a key
-abbrev pub HasList : List ℕ → Members → Items → Type 0
-HasList key table ds = (d : Data) × (get_member key table ≡ Some d) × (as_array d ≡ Some ds)
 
 pub list_of-keeps : (most : ℕ) (key : List ℕ) (d : Data) (ds : Items) → list_of most key d ≡ Ok ds → (as_array d ≡ Some ds) × (items_len ds ≤ most)
 unfolding list_of

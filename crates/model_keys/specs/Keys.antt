@@ -57,6 +57,10 @@ any_list_at key table = do
   d ← value_at key table
   required Wrong key (as_array d)
 
+-- the same of a list whose key may be absent: no elements then
+unfoldable pub any_list_or_none_at : List ℕ → Members → Result Items Finding
+any_list_or_none_at key table = or_else no_items (λ d. required Wrong key (as_array d)) (get_member key table)
+
 -- the same of the list at a key that has to be there
 unfoldable pub list_at : ℕ → List ℕ → Members → Result Items Finding
 list_at most key table = do

@@ -4,3 +4,5 @@ pub mod Finding
 pub mod Each
 -- the kinds of keys
 pub mod Keys
+-- what stands at a key, and no order of checks
+pub mod Says

@@ -22,6 +22,10 @@ pub enum Cause {
     Twice,
     /// There is more than is allowed.
     Limit,
+    /// Something that has to be sent is removed.
+    MandatoryRemoved,
+    /// Something that has to be sent has no definition by a release.
+    NoVersion,
 }
 
 /// What is wrong, and the path to it: keys joined by `.`, with the places of elements in brackets, counted from 0.
@@ -77,7 +81,7 @@ pub fn at(alloc: Global, cause: Cause, path: &str) -> Result<Finding, OutOfMemor
 }
 
 /// The finding of a key that is not known, with a text before it in its path.
-pub(crate) fn unknown(alloc: Global, before: &str, key: &str) -> Result<Finding, OutOfMemory>
+pub fn unknown(alloc: Global, before: &str, key: &str) -> Result<Finding, OutOfMemory>
     ensures { IfOk result (λ finding. finding ≡ at Unknown (before.now ++ key.now)) }
 {
     let mut path = Vec::from_slice(alloc, before.as_bytes())?;

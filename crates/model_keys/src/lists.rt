@@ -3,7 +3,7 @@
 ghost use Rattle.std.specs.Prelude.{◌≤◌, length, IfOk};
 ghost use Rattle.toml.specs.View.{view, table_view, items_view};
 ghost use Rattle.model_keys.specs.Finding.{Gives};
-ghost use Rattle.model_keys.specs.Keys.{any_list_at, list_at, list_of, list_or_none_at, some_list_at, some_list_of};
+ghost use Rattle.model_keys.specs.Keys.{any_list_at, any_list_or_none_at, list_at, list_of, list_or_none_at, some_list_at, some_list_of};
 
 use crate::finding::{Cause, ReadError, at};
 use crate::tables::{get, value_at};
@@ -57,6 +57,22 @@ pub fn any_list_at<'t>(alloc: Global, key: &str, table: &'t Table) -> Result<&'t
     match value_at(alloc, table, key)? {
         Value::Array(array) => Ok(array.as_slice()),
         _ => Err(ReadError::Found(at(alloc, Cause::Wrong, key)?)),
+    }
+}
+
+/// The same of a list whose key may be absent: no elements where it is. Wrong where there is something else.
+#[tactic(auto, unfolding(crate::specs::Keys::any_list_or_none_at))]
+pub fn any_list_or_none_at<'t>(
+    alloc: Global,
+    key: &str,
+    table: &'t Table,
+) -> Result<&'t [Value], ReadError>
+    ensures { Gives (λ values. items_view values.now) result (any_list_or_none_at key.now (table_view table.now)) }
+{
+    match get(table, key) {
+        None => Ok(&[]),
+        Some(Value::Array(array)) => Ok(array.as_slice()),
+        Some(_) => Err(ReadError::Found(at(alloc, Cause::Wrong, key)?)),
     }
 }
 

@@ -7,9 +7,9 @@ ghost use Rattle.model_keys.specs.Finding.{Gives};
 ghost use Rattle.model_keys.specs.Keys.{name_at, name_of, new_name, new_name_at, new_name_of, new_segment_name_at, reference_at, segment_name_at, segment_name_of, segment_type_at};
 
 use crate::finding::{Cause, ReadError, at};
-use crate::name_table::Names;
 use crate::tables::value_at;
 use ale_base::Items;
+use name_tables::Names;
 use segment_defs::{is_name_within, is_segment_name};
 use std::alloc::Global;
 use toml::{Table, Value};
@@ -47,7 +47,11 @@ pub fn name_at<'t>(
 
 /// A name of a segment type or of a definition: Wrong, at the path, where the value is none.
 #[tactic(auto, unfolding(crate::specs::Keys::segment_name_of))]
-fn segment_name_of<'t>(alloc: Global, path: &str, value: &'t Value) -> Result<&'t str, ReadError>
+pub fn segment_name_of<'t>(
+    alloc: Global,
+    path: &str,
+    value: &'t Value,
+) -> Result<&'t str, ReadError>
     ensures { Gives (λ name. name.now) result (segment_name_of path.now (view value.now)) }
 {
     match value {

@@ -44,8 +44,9 @@ pub fn only_known(
     Ok(())
 }
 
+/// The table that an entry has to be: Wrong, at the entry, where it is none.
 #[tactic(auto, unfolding(crate::specs::Keys::table_of))]
-fn table_of(alloc: Global, value: &Value) -> Result<&Table, ReadError>
+pub fn table_of(alloc: Global, value: &Value) -> Result<&Table, ReadError>
     ensures { Gives (λ table. table_view table.now) result (table_of (view value.now)) }
 {
     match value {

@@ -1,15 +1,13 @@
 -- A model that was read is what its text says, section by section.
-use Rattle.std.specs.Prelude.{codes, slice_get, MatchOption}
+use Rattle.std.specs.Prelude.{slice_get, MatchOption}
 use Rattle.std.specs.List.{flat_map, list_any}
-use Rattle.std.specs.Option.{option_and_then}
 use Rattle.std.specs.Cmp.Lexicographic.{bytes_decides}
-use Rattle.std.proofs.Common.{◌≡◌, ℕ, pos, suc, ◌+◌, ◌-◌, ◌^◌, ◌==◌, ◌&&◌, nat_eq, nat_le, nat_lt, Bool, true, false, cond, Option, Some, None, Result, Ok, Err, List, [], ◌∷◌, ◌++◌, length, map, take, drop, get_or, position, decimal, refl, sym, ap, subst, ◌∙◌, append_assoc, append-nil, drop-cons, arith}
+use Rattle.std.proofs.Common.{◌≡◌, ℕ, pos, suc, ◌+◌, ◌-◌, ◌^◌, ◌==◌, ◌&&◌, nat_eq, nat_le, nat_lt, Bool, true, false, cond, Option, Some, None, Ok, Err, List, [], ◌∷◌, ◌++◌, length, map, take, drop, get_or, position, decimal, sym, ap, subst, ◌∙◌, drop-cons, arith}
 use Rattle.std.proofs.lemmas.Bool.{and_parts}
 use Rattle.std.proofs.lemmas.Bool.Decides.{nat_tests}
 use Rattle.std.proofs.lemmas.List.{take-append-drop}
 use Rattle.std.proofs.lemmas.List.Quantifiers.{position-Some}
-use Rattle.std.proofs.lemmas.Option.{slice_get-get_or}
-use Rattle.toml.specs.Data.{Data, Items, no_items, item, Members, get_member, as_str, as_integer, as_bool, as_array, as_table}
+use Rattle.toml.specs.Data.{Data, Items, no_items, Members, get_member, as_str, as_integer, as_bool}
 use Rattle.ale_base.specs.Text.{is_text}
 use Rattle.segment_defs.specs.declared.limits.TheConstants.{LONGEST_NAME, MOST_BYTES, MOST_FIELDS, MOST_LEVELS, MOST_TIMES, MOST_TYPES, MOST_VERSIONS}
 use Rattle.segment_defs.specs.declared.field.Field.{Field}
@@ -23,50 +21,51 @@ use Rattle.segment_defs.specs.Version.{width_of}
 use Rattle.segment_defs.proofs.NameLemmas.{position-name}
 use Rattle.dist_model.specs.declared.limits.TheConstants.{LONGEST_RELEASE, LONGEST_SYSTEM, MOST_ENTRIES, MOST_FUNCTIONS, MOST_IDOC_TYPES, MOST_RELEASES, MOST_SYSTEMS}
 use Rattle.dist_model.specs.declared.system.System.{System}
-use Rattle.dist_model.specs.declared.model.Model.{Model}
+use Rattle.dist_model.specs.declared.lists.Lists.{Lists}
+use Rattle.dist_model.specs.Message.{message_names}
 use Rattle.dist_model.specs.Model.{idoc_type_names, system_names}
 use Rattle.model_keys.specs.declared.finding.Cause.TheVariants.{Limit, Twice, Wrong}
-use Rattle.model_keys.specs.declared.finding.Finding.{Finding}
-use Rattle.model_keys.specs.Finding.{◌>>=◌, at, check, required, within}
+use Rattle.model_keys.specs.Finding.{◌>>=◌, at, check, required}
 use Rattle.model_keys.specs.Each.{each}
-use Rattle.model_keys.specs.Keys.{any_list_at, bool_of, bool_or_at, entry_of, list_of, list_or_none_at, new_name, new_name_at, new_name_of, new_segment_name_at, number_of, only_known, or_else, reference_at, segment_type_at, some_list_at, table_of, value_at}
-use Rattle.model_keys.proofs.KeepsLemmas.{from_bind, list_of-keeps, name_of-keeps, new_name-keeps, new_name_at-keeps, new_name_of-keeps, new_segment_name_at-keeps, number_of-keeps, reference_at-keeps, required-ok, segment_type_at-keeps, some_list_at-keeps, tested, untested, value_at-keeps}
-use Rattle.model_text.specs.declared.keys.TheConstants.{ADDS, CLIENT, ENTRY_KEYS, FUNCTIONS, IDOCTYPE, IDOCTYPE_KEYS, MANDATORY, MAX, MIN, NAME, PARENT, RELEASE, RELEASES, SEGMENT, SEGMENT_KEYS, STANDARD_CLIENT, STANDARD_FUNCTION, SYSTEM, SYSTEM_KEYS, TOP_KEYS, TYPE, VERSION, VERSION_KEYS}
+use Rattle.model_keys.specs.Keys.{any_list_at, bool_of, bool_or_at, entry_of, list_of, list_or_none_at, new_name, new_name_at, new_name_of, new_segment_name_at, number_of, only_known, or_else, reference_at, segment_type_at, some_list_at}
+use Rattle.model_keys.proofs.KeepsLemmas.{from_bind, list_of-keeps, name_of-keeps, new_name-keeps, new_name_at-keeps, new_name_of-keeps, new_segment_name_at-keeps, number_of-keeps, reference_at-keeps, required-ok, segment_type_at-keeps, some_list_at-keeps, tested, untested}
+use Rattle.model_text.specs.declared.keys.TheConstants.{ADDS, CLIENT, ENTRY_KEYS, FILTER, FUNCTIONS, IDOCTYPE, IDOCTYPE_KEYS, INBOUND, KIND, MANDATORY, MAX, MESSAGE, MIN, NAME, OUTBOUND, PARENT, REDUCED, RELEASE, RELEASES, ROW, SEGMENT, SEGMENT_KEYS, STANDARD_CLIENT, STANDARD_FUNCTION, SYSTEM, SYSTEM_KEYS, TOP_KEYS, TYPE, VERSION, VERSION_KEYS}
 use Rattle.model_text.specs.Releases.{releases_at}
 use Rattle.model_text.specs.Systems.{client_at, client_in, client_of, function_list, function_of, functions_at, system_of, systems_at}
 use Rattle.model_text.specs.Fields.{field_names, field_of, fields_of, parts_of}
-use Rattle.model_text.specs.Segments.{is_later, last_fields, release_at, segment_of, segments_at, type_names, version_names, version_of, versions_of}
+use Rattle.dist_model.specs.Field.{last_fields}
+use Rattle.dist_model.specs.Model.{type_names}
+use Rattle.model_text.specs.Segments.{is_later, release_at, segment_of, segments_at, version_names, version_of, versions_of}
 use Rattle.model_text.specs.Entries.{entries_of, entry_types, greatest_at, max_at, min_at, min_of, new_type_at, open_place, parent_at, parent_of, parent_place, root_of, some_parent, times_at, type_place_of}
 use Rattle.model_text.specs.IdocTypes.{idoc_type_of, idoc_types_at}
-use Rattle.model_text.specs.Model.{model_of}
-use Rattle.model_text.specs.Says.{HasList, HasText, OneForOne, SaysEntry, SaysField, SaysIdocType, SaysModel, SaysName, SaysNames, SaysParent, SaysSegment, SaysSystem, SaysVersion}
+use Rattle.model_messages.specs.Kinds.{kinds_at}
+use Rattle.model_messages.specs.Messages.{messages_at}
+use Rattle.model_messages.specs.Reduced.{reduced_at}
+use Rattle.model_messages.specs.Filters.{filters_at}
+use Rattle.model_messages.specs.Says.{SaysFilter, SaysKind, SaysMessage, SaysReduced}
+use Rattle.model_messages.proofs.KindRules.{kinds_at-says}
+use Rattle.model_messages.proofs.MessageRules.{messages_at-says}
+use Rattle.model_messages.proofs.ReducedRules.{reduced_at-says}
+use Rattle.model_messages.proofs.FilterRules.{filters_at-says}
+use Rattle.model_profiles.specs.Rows.{rows_at}
+use Rattle.model_profiles.specs.Outbound.{outbound_at}
+use Rattle.model_profiles.specs.Inbound.{inbound_at}
+use Rattle.model_profiles.specs.Says.{SaysInbound, SaysOutbound, SaysRow}
+use Rattle.model_profiles.proofs.RowRules.{rows_at-says}
+use Rattle.model_profiles.proofs.OutboundRules.{outbound_at-says}
+use Rattle.model_profiles.proofs.InboundRules.{inbound_at-says}
+use Rattle.model_checks.specs.Profiled.{all_profiled}
+use Rattle.model_checks.specs.Whole.{all_whole}
+use Rattle.model_text.specs.declared.basics.Basics.{Basics}
+use Rattle.model_text.specs.declared.subjects.Subjects.{Subjects}
+use Rattle.model_text.specs.declared.traffic.Traffic.{Traffic}
+use Rattle.model_text.specs.Rules.{AreSubjects, IsBasics}
+use Rattle.model_text.specs.Model.{basics, basics_of, lists, model_of, subjects, subjects_of, traffic_of}
+use Rattle.model_text.proofs.ModelRules.{basics_of-keeps, subjects_of-keeps}
+use Rattle.model_keys.specs.Says.{HasText, OneForOne, SaysList, SaysListOrNone, SaysName, SaysNames}
+use Rattle.model_keys.proofs.SaysLemmas.{all-says, and_then-found, any_list_at-says, bool_found-says, each-says, entry_of-table, list_or_none-says, position-number}
+use Rattle.model_text.specs.Says.{SaysEntry, SaysField, SaysIdocType, SaysModel, SaysParent, SaysSegment, SaysSystem, SaysVersion}
 use Rattle.model_text.proofs.FieldRules.{HaveParts, parts_of-keeps}
-
-within-read : {A : Type 0} (key : List ℕ) (place : ℕ) (r : Result A Finding) (a : A) → within key place r ≡ Ok a → r ≡ Ok a
-within-read key place (Ok x) a h = h
-within-read key place (Err e) a h = absurd (cc)
-
--- the elements of a list that was read say its values one for one
-module _ {A : Type 0} (key : List ℕ) (read : List A → Data → Result A Finding) (says : List A → Data → A → Type 0) (one : (done : List A) (d : Data) (a : A) → read done d ≡ Ok a → says done d a) where
-  pub each-says : (place : ℕ) (done : List A) (ds : Items) (all : List A) → each key read place done ds ≡ Ok all → (more : List A) × (all ≡ done ++ more) × OneForOne says done ds more
-  unfolding each
-  each-says place done no_items all h = let e : done ≡ all = cc in ([], sym e ∙ sym (append-nil done), tt)
-  each-says place done (item d ds) all h =
-      let (a, is, rest) = from_bind (within key place (read done d)) (λ a. each key read (suc place) (done ++ a ∷ []) ds) all h in
-      let (more, e, says_more) = each-says (suc place) (done ++ a ∷ []) ds all rest in
-      (a ∷ more, e ∙ append_assoc done (a ∷ []) more, (one done d a (within-read key place (read done d) a is), says_more))
-
-  pub all-says : (ds : Items) (all : List A) → each key read 0 [] ds ≡ Ok all → OneForOne says [] ds all
-  all-says ds all h = let (more, e, says_more) = each-says 0 [] ds all h in subst (OneForOne says [] ds) (sym e) says_more
-
--- an entry is a table
-entry_of-table : (known : List (List ℕ)) (d : Data) (table : Members) → entry_of known d ≡ Ok table → as_table d ≡ Some table
-unfolding entry_of table_of
-entry_of-table known d table h =
-    let (found, t, g) = from_bind (required Wrong [] (as_table d)) (λ found. only_known (codes ".") known found >>= (λ all. Ok found)) table h in
-    let (all, k, e) = from_bind (only_known (codes ".") known found) (λ all. Ok found) table g in
-    let same : found ≡ table = cc in
-    required-ok Wrong [] (as_table d) found t ∙ ap Some same
 
 -- a client is its text
 client_in-text : (text client : List ℕ) → client_in text ≡ Some client → text ≡ client
@@ -158,12 +157,6 @@ release_at-says releases versions table release h =
     let (name, text, here) = reference_at-keeps LONGEST_RELEASE RELEASE.now releases table place r in
     (name, text, subst (λ k. slice_get releases k ≡ Some name) e here)
 
-any_list_at-says : (key : List ℕ) (table : Members) (ds : Items) → any_list_at key table ≡ Ok ds → HasList key table ds
-unfolding any_list_at
-any_list_at-says key table ds h =
-    let (d, t, g) = from_bind (value_at key table) (λ d. required Wrong key (as_array d)) ds h in
-    (d, value_at-keeps key table d t, required-ok Wrong key (as_array d) ds g)
-
 version_of-says : (releases names : List (List ℕ)) (before : List Version) (d : Data) (version : Version) → version_of releases names before d ≡ Ok version → SaysVersion releases before d version
 unfolding version_of
 version_of-says releases names before d version h =
@@ -209,19 +202,6 @@ segment_of-says releases names before d type h =
       );
     })
 
--- the place of a number among some
-position-number : (number : ℕ) (numbers : List ℕ) (place : ℕ) → position (nat_eq number) numbers ≡ Some place → slice_get numbers place ≡ Some number
-position-number number numbers place found =
-    let at = position-Some (nat_eq number) numbers place number found in
-    slice_get-get_or numbers place number at.0 ∙ ap Some (sym (same number (get_or numbers place number) at.1))
-  where
-    same : (a b : ℕ) → nat_eq a b ≡ true → a ≡ b
-    same a b is = grind (arith, nat_tests)
-
-and_then-found : {A B : Type 0} (f : A → Option B) (o : Option A) (y : B) → option_and_then f o ≡ Some y → (x : A) × (o ≡ Some x) × (f x ≡ Some y)
-and_then-found f (Some x) y h = (x, refl, h)
-and_then-found f None y h = absurd (cc)
-
 open_place-same : (entries : List TypePlace) (place at : ℕ) → open_place entries place ≡ Ok at → place ≡ at
 open_place-same entries place here h = (let first = open_level place entries == 0 in let second = nat_le MOST_LEVELS (open_level place entries) in both first second place here h)
   where
@@ -248,11 +228,6 @@ parent_found-says types segments entries (Some d) parent h =
       here = subst (λ p. slice_get segments p ≡ Some segment) same (position-number segment segments found k);
       named = position-name text types segment s;
     }
-
-bool_found-says : (key : List ℕ) (found : Option Data) (is : Bool) → or_else false (bool_of key) found ≡ Ok is → MatchOption found (is ≡ false) (λ d. as_bool d ≡ Some is)
-unfolding bool_of
-bool_found-says key None is h = cc
-bool_found-says key (Some d) is h = required-ok Wrong key (as_bool d) is h
 
 min_found-says : (mandatory : Bool) (found : Option Data) (min : ℕ) → or_else 1 (min_of mandatory) found ≡ Ok min → MatchOption found (min ≡ 1) (λ d. as_integer d ≡ Some (pos min))
 unfolding min_of
@@ -343,37 +318,26 @@ idoc_type_of-says types names before d type h =
       );
     })
 
-list_or_none-says : (most : ℕ) (key : List ℕ) (found : Option Data) (ds : Items) → or_else no_items (list_of most key) found ≡ Ok ds → MatchOption found (ds ≡ no_items) (λ d. as_array d ≡ Some ds)
-list_or_none-says most key None ds h = cc
-list_or_none-says most key (Some d) ds h = (list_of-keeps most key d ds h).0
+-- what is said of the parts that a model stands on
+record SaysBasics (table : Members) (on : Basics) : Type 0 where
+  releases : SaysList SaysName RELEASES.now table on.releases
+  systems : SaysList SaysSystem SYSTEM.now table on.systems
+  segments : SaysListOrNone (SaysSegment on.releases) SEGMENT.now table on.definitions.types
+  types : SaysListOrNone (SaysIdocType (type_names on.definitions.types)) IDOCTYPE.now table on.types
 
--- the sections
-pub model_of-says : (table : Members) (model : Model) → model_of table ≡ Ok model → SaysModel table model
-unfolding model_of releases_at systems_at segments_at idoc_types_at list_or_none_at
-model_of-says table model h =
-    let (known, k, h1) = from_bind (only_known [] (map (λ key. key.now) TOP_KEYS) table) _ model h in
-    let (releases, r, h2) = from_bind (some_list_at MOST_RELEASES RELEASES.now table >>= (λ ds. each RELEASES.now (λ done d. new_name_of LONGEST_RELEASE [] done d) 0 [] ds)) _ model h1 in
-    let (systems, s, h3) = from_bind (some_list_at MOST_SYSTEMS SYSTEM.now table >>= (λ ds. each SYSTEM.now (λ done d. system_of (system_names done) d) 0 [] ds)) _ model h2 in
-    let (segments, g, h4) = from_bind (or_else no_items (list_of MOST_TYPES SEGMENT.now) (get_member SEGMENT.now table) >>= (λ ds. each SEGMENT.now (λ done d. segment_of releases (flat_map names_of done) d) 0 [] ds)) _ model h3 in
-    let (types, t, h5) = from_bind (or_else no_items (list_of MOST_IDOC_TYPES IDOCTYPE.now) (get_member IDOCTYPE.now table) >>= (λ ds. each IDOCTYPE.now (λ done d. idoc_type_of (type_names segments) (idoc_type_names done) d) 0 [] ds)) _ model h4 in
-    let e : ◌≡◌ {A = Model} (record {
-      releases = releases;
-      systems = systems;
-      definitions = record { types = segments };
-      types = types;
-      kinds = [];
-      messages = [];
-      reduced = [];
-      filters = [];
-      rows = [];
-      outbound = [];
-      inbound = [];
-    }) model = cc in
+basics_of-says : (table : Members) (on : Basics) → basics_of table ≡ Ok on → SaysBasics table on
+unfolding basics_of releases_at systems_at segments_at idoc_types_at list_or_none_at
+basics_of-says table on h =
+    let (releases, r, h2) = from_bind (some_list_at MOST_RELEASES RELEASES.now table >>= (λ ds. each RELEASES.now (λ done d. new_name_of LONGEST_RELEASE [] done d) 0 [] ds)) _ on h in
+    let (systems, s, h3) = from_bind (some_list_at MOST_SYSTEMS SYSTEM.now table >>= (λ ds. each SYSTEM.now (λ done d. system_of (system_names done) d) 0 [] ds)) _ on h2 in
+    let (segments, g, h4) = from_bind (or_else no_items (list_of MOST_TYPES SEGMENT.now) (get_member SEGMENT.now table) >>= (λ ds. each SEGMENT.now (λ done d. segment_of releases (flat_map names_of done) d) 0 [] ds)) _ on h3 in
+    let (types, t, h5) = from_bind (or_else no_items (list_of MOST_IDOC_TYPES IDOCTYPE.now) (get_member IDOCTYPE.now table) >>= (λ ds. each IDOCTYPE.now (λ done d. idoc_type_of (type_names segments) (idoc_type_names done) d) 0 [] ds)) _ on h4 in
+    let e : basics releases systems segments types ≡ on = cc in
     let (rs, rl, rg) = from_bind (some_list_at MOST_RELEASES RELEASES.now table) _ releases r in
     let (ss, sl, sg) = from_bind (some_list_at MOST_SYSTEMS SYSTEM.now table) _ systems s in
     let (gs, gl, gg) = from_bind (or_else no_items (list_of MOST_TYPES SEGMENT.now) (get_member SEGMENT.now table)) _ segments g in
     let (ts, tl, tg) = from_bind (or_else no_items (list_of MOST_IDOC_TYPES IDOCTYPE.now) (get_member IDOCTYPE.now table)) _ types t in
-    subst (SaysModel table) e (record {
+    subst (SaysBasics table) e (record {
       releases = (
         rs,
         (some_list_at-keeps MOST_RELEASES RELEASES.now table rs rl).0,
@@ -392,6 +356,80 @@ model_of-says table model h =
       types = (
         ts,
         list_or_none-says MOST_IDOC_TYPES IDOCTYPE.now (get_member IDOCTYPE.now table) ts tl,
-        all-says IDOCTYPE.now (λ (done : List IdocType) (d : Data). idoc_type_of (type_names segments) (idoc_type_names done) d) (SaysIdocType (type_names segments)) (λ done d type is. idoc_type_of-says (type_names segments) (idoc_type_names done) done d type is) ts types tg,
+        all-says IDOCTYPE.now (λ (done : List IdocType) (d : Data). idoc_type_of (type_names segments) (idoc_type_names done) d) (SaysIdocType (type_names segments))
+            (λ done d type is. idoc_type_of-says (type_names segments) (idoc_type_names done) done d type is) ts types tg,
       );
+    })
+
+-- what is said of what is sent
+record SaysSubjects (table : Members) (on : Basics) (of : Subjects) : Type 0 where
+  kinds : SaysListOrNone (SaysKind on.definitions) KIND.now table of.kinds
+  messages : SaysListOrNone (SaysMessage on.definitions on.types of.kinds) MESSAGE.now table of.messages
+  reduced : SaysListOrNone (SaysReduced on.definitions of.messages) REDUCED.now table of.reduced
+  filters : SaysListOrNone (SaysFilter on.definitions of.messages) FILTER.now table of.filters
+
+subjects_of-says : (on : Basics) (table : Members) (of : Subjects) → subjects_of on table ≡ Ok of → SaysSubjects table on of
+unfolding subjects_of
+subjects_of-says on table of h =
+    let (kinds, k, h1) = from_bind (kinds_at on.definitions table) _ of h in
+    let (messages, m, h2) = from_bind (messages_at on.definitions on.types kinds table) _ of h1 in
+    let (reduced, r, h3) = from_bind (reduced_at on.definitions on.types messages table) _ of h2 in
+    let (filters, f, h4) = from_bind (filters_at on.definitions on.types messages table) _ of h3 in
+    let e : subjects kinds messages reduced filters ≡ of = cc in
+    subst (SaysSubjects table on) e (record {
+      kinds = kinds_at-says on.definitions table kinds k;
+      messages = messages_at-says on.definitions on.types kinds table messages m;
+      reduced = reduced_at-says on.definitions on.types messages table reduced r;
+      filters = filters_at-says on.definitions on.types messages table filters f;
+    })
+
+-- what is said of what goes where
+record SaysTraffic (table : Members) (on : Basics) (of : Subjects) (by : Traffic) : Type 0 where
+  rows : SaysListOrNone (SaysRow (system_names on.systems) (message_names of.messages) of.filters) ROW.now table by.rows
+  outbound : SaysListOrNone (SaysOutbound on.releases (system_names on.systems) (type_names on.definitions.types) on.definitions of.messages of.reduced) OUTBOUND.now table by.outbound
+  inbound : SaysListOrNone (SaysInbound (system_names on.systems)) INBOUND.now table by.inbound
+
+traffic_of-says : (on : Basics) (of : Subjects) (table : Members) (by : Traffic) → IsBasics on → AreSubjects on of → traffic_of on of table ≡ Ok by → SaysTraffic table on of by
+unfolding traffic_of
+traffic_of-says on of table by is are h =
+    let (rows, r, h1) = from_bind (rows_at on.system_names on.definitions of.message_names of.filters table) _ by h in
+    let (outbound, o, h2) = from_bind (outbound_at on.release_names on.system_names on.segment_names on.definitions on.types of.messages of.reduced table) _ by h1 in
+    let (inbound, i, h3) = from_bind (inbound_at on.system_names of.all_names table) _ by h2 in
+    let (profiled, p, h4) = from_bind (all_profiled outbound rows) _ by h3 in
+    let (whole, w, h5) = from_bind (all_whole on.definitions on.types of.messages outbound) _ by h4 in
+    let e : ◌≡◌ {A = Traffic} (record { rows = rows; outbound = outbound; inbound = inbound }) by = cc in
+    subst (SaysTraffic table on of) e (record {
+      rows = rows_at-says (system_names on.systems) (message_names of.messages) on.definitions on.types of.messages of.filters table rows are.filters (ap (λ (m : List (List ℕ)). rows_at (system_names on.systems) on.definitions m of.filters table) (sym are.named)
+          ∙ ap (λ (s : List (List ℕ)). rows_at s on.definitions of.message_names of.filters table) (sym is.system_names) ∙ r);
+      outbound = outbound_at-says on.releases (system_names on.systems) on.definitions on.types of.messages of.reduced table outbound is.releases.some
+          (ap (λ (t : List (List ℕ)). outbound_at on.releases (system_names on.systems) t on.definitions on.types of.messages of.reduced table) (sym is.segment_names)
+          ∙ ap (λ (s : List (List ℕ)). outbound_at on.releases s on.segment_names on.definitions on.types of.messages of.reduced table) (sym is.system_names)
+          ∙ ap (λ (l : List (List ℕ)). outbound_at l on.system_names on.segment_names on.definitions on.types of.messages of.reduced table) (sym is.release_names) ∙ o);
+      inbound = inbound_at-says (system_names on.systems) of.all_names table inbound (ap (λ (s : List (List ℕ)). inbound_at s of.all_names table) (sym is.system_names) ∙ i);
+    })
+
+-- the sections
+pub model_of-says : (table : Members) (model : Lists) → model_of table ≡ Ok model → SaysModel table model
+unfolding model_of
+model_of-says table model h =
+    let (known, k, h1) = from_bind (only_known [] (map (λ key. key.now) TOP_KEYS) table) _ model h in
+    let (on, g, h2) = from_bind (basics_of table) _ model h1 in
+    let (of, s, h3) = from_bind (subjects_of on table) _ model h2 in
+    let (by, t, h4) = from_bind (traffic_of on of table) _ model h3 in
+    let e : lists on of by ≡ model = cc in
+    let base = basics_of-says table on g in
+    let sent = subjects_of-says on table of s in
+    let goes = traffic_of-says on of table by (basics_of-keeps table on g) (subjects_of-keeps on table of s) t in
+    subst (SaysModel table) e (record {
+      releases = base.releases;
+      systems = base.systems;
+      segments = base.segments;
+      types = base.types;
+      kinds = sent.kinds;
+      messages = sent.messages;
+      reduced = sent.reduced;
+      filters = sent.filters;
+      rows = goes.rows;
+      outbound = goes.outbound;
+      inbound = goes.inbound;
     })

@@ -18,7 +18,9 @@ use Rattle.segment_defs.specs.declared.limits.TheConstants.{MOST_VERSIONS}
 use Rattle.segment_defs.specs.declared.version.Version.{Version}
 use Rattle.segment_defs.specs.declared.segment_type.SegmentType.{SegmentType}
 use Rattle.segment_defs.specs.Definitions.{names_of}
-use Rattle.model_text.specs.Segments.{last_fields, segment_of, type_names, version_names, versions_of}
+use Rattle.dist_model.specs.Field.{last_fields}
+use Rattle.dist_model.specs.Model.{type_names}
+use Rattle.model_text.specs.Segments.{segment_of, version_names, versions_of}
 
 or_false_parts : (a b : Bool) → (a || b) ≡ false → (a ≡ false) × (b ≡ false)
 or_false_parts false b none = (refl, none)

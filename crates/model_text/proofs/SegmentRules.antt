@@ -27,10 +27,12 @@ use Rattle.model_keys.specs.declared.finding.Cause.TheVariants.{Wrong}
 use Rattle.model_keys.specs.Finding.{at}
 use Rattle.model_keys.specs.Each.{each}
 use Rattle.model_keys.specs.Keys.{any_list_at, entry_of, list_or_none_at, new_segment_name_at, reference_at, some_list_at}
-use Rattle.model_keys.proofs.KeepsLemmas.{each-invariant, each-length, from_bind, is_text-symmetric, IsDistinct-push, list_or_none_at-keeps, new_segment_name_at-keeps, reference_at-keeps, some_list_at-keeps, tested}
+use Rattle.name_tables.proofs.DistinctLemmas.{is_text-symmetric, IsDistinct-push}
+use Rattle.model_keys.proofs.KeepsLemmas.{each-invariant, each-length, from_bind, list_or_none_at-keeps, new_segment_name_at-keeps, reference_at-keeps, some_list_at-keeps, tested}
 use Rattle.model_text.specs.declared.keys.TheConstants.{ADDS, NAME, RELEASE, SEGMENT, SEGMENT_KEYS, TYPE, VERSION, VERSION_KEYS}
 use Rattle.model_text.specs.Fields.{fields_of}
-use Rattle.model_text.specs.Segments.{is_later, last_fields, release_at, segment_of, segments_at, version_names, version_of, versions_of}
+use Rattle.dist_model.specs.Field.{last_fields}
+use Rattle.model_text.specs.Segments.{is_later, release_at, segment_of, segments_at, version_names, version_of, versions_of}
 use Rattle.model_text.proofs.FieldRules.{AreFields-none, fields_of-keeps}
 use Rattle.model_text.proofs.SegmentLemmas.{all_names-push}
 

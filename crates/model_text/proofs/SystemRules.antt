@@ -19,7 +19,8 @@ use Rattle.model_keys.specs.declared.finding.Cause.TheVariants.{Wrong}
 use Rattle.model_keys.specs.Finding.{required}
 use Rattle.model_keys.specs.Each.{each}
 use Rattle.model_keys.specs.Keys.{entry_of, list_of, new_name_at, new_name_of, or_else, some_list_at}
-use Rattle.model_keys.proofs.KeepsLemmas.{each-invariant, each-length, from_bind, is_text-symmetric, IsDistinct-push, list_of-keeps, name_of-keeps, new_name_at-keeps, new_name_of-keeps, required-ok, some_list_at-keeps}
+use Rattle.name_tables.proofs.DistinctLemmas.{is_text-symmetric, IsDistinct-push}
+use Rattle.model_keys.proofs.KeepsLemmas.{each-invariant, each-length, from_bind, list_of-keeps, name_of-keeps, new_name_at-keeps, new_name_of-keeps, required-ok, some_list_at-keeps}
 use Rattle.model_text.specs.declared.keys.TheConstants.{CLIENT, FUNCTIONS, NAME, RELEASES, STANDARD_CLIENT, STANDARD_FUNCTION, SYSTEM, SYSTEM_KEYS}
 use Rattle.model_text.specs.Releases.{releases_at}
 use Rattle.model_text.specs.Systems.{client_at, client_in, client_of, function_list, function_of, functions_at, system_of, systems_at}

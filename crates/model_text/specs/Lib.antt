@@ -7,6 +7,7 @@ pub mod Entries
 pub mod IdocTypes
 -- the whole table, and the bytes of a text
 pub mod Model
+pub mod Rules
 pub mod Text
 -- what a text says, and no order of checks
 pub mod Says

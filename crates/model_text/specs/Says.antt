@@ -2,52 +2,22 @@
 -- model's, and what it names is what stands there.
 use Rattle.std.specs.Prelude.{◌≡◌, ℕ, pos, false, List, [], ◌∷◌, ◌++◌, Option, Some, None, slice_get, decimal, MatchOption}
 use Rattle.toml.specs.Parse.{parse_document}
-use Rattle.toml.specs.Data.{Data, Items, no_items, item, Members, get_member, as_str, as_integer, as_bool, as_array, as_table}
+use Rattle.toml.specs.Data.{Data, Items, Members, get_member, as_str, as_integer, as_bool, as_table}
 use Rattle.segment_defs.specs.declared.field.Field.{Field}
 use Rattle.segment_defs.specs.declared.version.Version.{Version}
 use Rattle.segment_defs.specs.declared.segment_type.SegmentType.{SegmentType}
 use Rattle.segment_defs.specs.declared.idoc_type.TypePlace.{TypePlace}
 use Rattle.segment_defs.specs.declared.idoc_type.IdocType.{IdocType}
 use Rattle.dist_model.specs.declared.system.System.{System}
-use Rattle.dist_model.specs.declared.model.Model.{Model}
-use Rattle.model_text.specs.declared.keys.TheConstants.{ADDS, CLIENT, FUNCTIONS, IDOCTYPE, MANDATORY, MAX, MIN, NAME, PARENT, RELEASE, RELEASES, SEGMENT, STANDARD_CLIENT, STANDARD_FUNCTION, SYSTEM, TYPE, VERSION}
-use Rattle.model_text.specs.Segments.{last_fields, type_names}
+use Rattle.dist_model.specs.declared.lists.Lists.{Lists}
+use Rattle.dist_model.specs.Field.{last_fields}
+use Rattle.dist_model.specs.Message.{message_names}
+use Rattle.dist_model.specs.Model.{system_names, type_names}
+use Rattle.model_keys.specs.Says.{HasList, HasText, OneForOne, SaysList, SaysListOrNone, SaysName, SaysNames}
+use Rattle.model_text.specs.declared.keys.TheConstants.{ADDS, CLIENT, FILTER, FUNCTIONS, IDOCTYPE, INBOUND, KIND, MANDATORY, MAX, MESSAGE, MIN, NAME, OUTBOUND, PARENT, REDUCED, RELEASE, RELEASES, ROW, SEGMENT, STANDARD_CLIENT, STANDARD_FUNCTION, SYSTEM, TYPE, VERSION}
+use Rattle.model_messages.specs.Says.{SaysFilter, SaysKind, SaysMessage, SaysReduced}
+use Rattle.model_profiles.specs.Says.{SaysInbound, SaysOutbound, SaysRow}
 use Rattle.model_text.specs.Entries.{entry_types}
-
--- this text stands at a key
-abbrev pub HasText : List ℕ → Members → List ℕ → Type 0
-HasText key table text = (d : Data) × (get_member key table ≡ Some d) × (as_str d ≡ Some text)
-
--- this list stands at a key
-abbrev pub HasList : List ℕ → Members → Items → Type 0
-HasList key table ds = (d : Data) × (get_member key table ≡ Some d) × (as_array d ≡ Some ds)
-
--- the same, or the key is absent and the list has no elements
-abbrev pub HasListOrNone : List ℕ → Members → Items → Type 0
-HasListOrNone key table ds = MatchOption (get_member key table) (ds ≡ no_items) (λ d. as_array d ≡ Some ds)
-
--- the elements of a list say some values one for one, each behind those before it
-abbrev pub OneForOne : {A : Type 0} → (List A → Data → A → Type 0) → List A → Items → List A → Type 0
-OneForOne says before no_items [] = Unit {0}
-OneForOne says before (item d ds) (value ∷ values) = says before d value × OneForOne says (before ++ value ∷ []) ds values
-OneForOne says before no_items (value ∷ values) = ⊥
-OneForOne says before (item d ds) [] = ⊥
-
--- the list at a key says these values one for one
-abbrev pub SaysList : {A : Type 0} → (List A → Data → A → Type 0) → List ℕ → Members → List A → Type 0
-SaysList says key table values = (ds : Items) × HasList key table ds × OneForOne says [] ds values
-
--- the same, or the key is absent and there are none
-abbrev pub SaysListOrNone : {A : Type 0} → (List A → Data → A → Type 0) → List ℕ → Members → List A → Type 0
-SaysListOrNone says key table values = (ds : Items) × HasListOrNone key table ds × OneForOne says [] ds values
-
--- a name
-abbrev pub SaysName : List (List ℕ) → Data → List ℕ → Type 0
-SaysName before d name = as_str d ≡ Some name
-
--- a list of names
-abbrev pub SaysNames : List (List ℕ) → Data → Type 0
-SaysNames names d = (ds : Items) × (as_array d ≡ Some ds) × OneForOne SaysName [] ds names
 
 -- a system: the client is 000, and one function is offered, where the entry says nothing of them
 pub record SaysSystem (before : List System) (d : Data) (system : System) : Type 0 where
@@ -113,12 +83,19 @@ pub record SaysIdocType (types : List (List ℕ)) (before : List IdocType) (d : 
   pub entries : SaysList (SaysEntry types) SEGMENT.now table type.segments
 
 -- the sections of a text
-pub record SaysModel (table : Members) (model : Model) : Type 0 where
+pub record SaysModel (table : Members) (model : Lists) : Type 0 where
   pub releases : SaysList SaysName RELEASES.now table model.releases
   pub systems : SaysList SaysSystem SYSTEM.now table model.systems
   pub segments : SaysListOrNone (SaysSegment model.releases) SEGMENT.now table model.definitions.types
   pub types : SaysListOrNone (SaysIdocType (type_names model.definitions.types)) IDOCTYPE.now table model.types
+  pub kinds : SaysListOrNone (SaysKind model.definitions) KIND.now table model.kinds
+  pub messages : SaysListOrNone (SaysMessage model.definitions model.types model.kinds) MESSAGE.now table model.messages
+  pub reduced : SaysListOrNone (SaysReduced model.definitions model.messages) REDUCED.now table model.reduced
+  pub filters : SaysListOrNone (SaysFilter model.definitions model.messages) FILTER.now table model.filters
+  pub rows : SaysListOrNone (SaysRow (system_names model.systems) (message_names model.messages) model.filters) ROW.now table model.rows
+  pub outbound : SaysListOrNone (SaysOutbound model.releases (system_names model.systems) (type_names model.definitions.types) model.definitions model.messages model.reduced) OUTBOUND.now table model.outbound
+  pub inbound : SaysListOrNone (SaysInbound (system_names model.systems)) INBOUND.now table model.inbound
 
 -- these bytes say this model
-abbrev pub SaysText : List ℕ → Model → Type 0
+abbrev pub SaysText : List ℕ → Lists → Type 0
 SaysText bytes model = (table : Members) × (parse_document bytes ≡ Some table) × SaysModel table model

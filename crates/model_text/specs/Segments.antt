@@ -4,11 +4,11 @@ use Rattle.std.specs.List.{flat_map}
 use Rattle.std.specs.Option.{option_map_or}
 use Rattle.toml.specs.Data.{Data, Items, Members}
 use Rattle.segment_defs.specs.declared.limits.TheConstants.{MOST_TYPES, MOST_VERSIONS}
-use Rattle.segment_defs.specs.declared.field.Field.{Field}
 use Rattle.segment_defs.specs.declared.version.Version.{Version}
 use Rattle.segment_defs.specs.declared.segment_type.SegmentType.{SegmentType}
 use Rattle.segment_defs.specs.Definitions.{names_of}
 use Rattle.dist_model.specs.declared.limits.TheConstants.{LONGEST_RELEASE}
+use Rattle.dist_model.specs.Field.{last_fields}
 use Rattle.model_keys.specs.declared.finding.Finding.{Finding}
 use Rattle.model_keys.specs.declared.finding.Cause.TheVariants.{Wrong}
 use Rattle.model_keys.specs.Finding.{◌>>=◌, at}
@@ -16,10 +16,6 @@ use Rattle.model_keys.specs.Each.{each}
 use Rattle.model_keys.specs.Keys.{any_list_at, entry_of, list_or_none_at, new_segment_name_at, reference_at, some_list_at}
 use Rattle.model_text.specs.declared.keys.TheConstants.{ADDS, NAME, RELEASE, SEGMENT, SEGMENT_KEYS, TYPE, VERSION, VERSION_KEYS}
 use Rattle.model_text.specs.Fields.{fields_of}
-
--- the fields of the last of some definitions
-abbrev pub last_fields : List Version → List Field
-last_fields versions = option_map_or (λ last. last.fields) (slice_get versions (length versions - 1)) []
 
 -- whether a release is later than that of the last of some definitions
 abbrev pub is_later : ℕ → List Version → Bool
@@ -58,10 +54,6 @@ segment_of releases names d = do
   ds ← some_list_at MOST_VERSIONS VERSION.now table
   versions ← versions_of releases (names ++ name ∷ []) ds
   Ok (record { name = name; versions = versions })
-
--- the names of some segment types, in order
-abbrev pub type_names : List SegmentType → List (List ℕ)
-type_names types = map (λ type. type.name) types
 
 -- the segment types of a list, each behind those before it
 abbrev pub segments_of : List (List ℕ) → Items → Result (List SegmentType) Finding

@@ -30,8 +30,24 @@ pub(crate) const MIN: &str = "min";
 
 pub(crate) const MAX: &str = "max";
 
+pub(crate) const KIND: &str = "kind";
+
+pub(crate) const MESSAGE: &str = "message";
+
+pub(crate) const REDUCED: &str = "reduced";
+
+pub(crate) const FILTER: &str = "filter";
+
+pub(crate) const ROW: &str = "row";
+
+pub(crate) const OUTBOUND: &str = "outbound";
+
+pub(crate) const INBOUND: &str = "inbound";
+
 /// The keys of the whole text.
-pub(crate) const TOP_KEYS: [&str; 4] = [RELEASES, SYSTEM, SEGMENT, IDOCTYPE];
+pub(crate) const TOP_KEYS: [&str; 11] = [
+    RELEASES, SYSTEM, SEGMENT, IDOCTYPE, KIND, MESSAGE, REDUCED, FILTER, ROW, OUTBOUND, INBOUND,
+];
 
 /// The keys of a system.
 pub(crate) const SYSTEM_KEYS: [&str; 3] = [NAME, CLIENT, FUNCTIONS];

@@ -4,6 +4,7 @@
 //! the path to it. The definitions are in `specs/`.
 #![tactic(auto)]
 
+mod basics;
 mod entries;
 mod fault;
 mod fields;
@@ -13,7 +14,9 @@ mod model;
 mod reading;
 mod releases;
 mod segments;
+mod subjects;
 mod systems;
+mod traffic;
 
 pub use fault::ModelFault;
-pub use reading::read;
+pub use reading::{MAX_BYTES, read};

@@ -1,16 +1,20 @@
 //! The text of a model, read as a whole.
 
-ghost use Rattle.std.specs.Prelude.{◌≡◌, IfOk};
+ghost use Rattle.std.specs.Prelude.{◌≡◌, IfOk, MatchResult};
 ghost use Rattle.dist_model.specs.Model.{IsModel};
 ghost use Rattle.model_text.specs.Says.{SaysText};
+ghost use Rattle.model_text.specs.declared.fault.ModelFault.TheVariants.{OutOfMemory};
 ghost use Rattle.model_text.specs.Text.{Reads, fault_of};
 
 use crate::fault::ModelFault;
 use crate::model::model_of;
-use dist_model::Model;
+use dist_model::{Lists, Model};
 use model_keys::{Cause, ReadError};
 use std::alloc::Global;
 use std::str;
+
+/// The most bytes of a model's text that the program reads.
+pub const MAX_BYTES: usize = 1_048_576;
 
 fn fault_of(error: ReadError) -> ModelFault
     ensures { result ≡ fault_of error }
@@ -23,7 +27,19 @@ fn fault_of(error: ReadError) -> ModelFault
             Cause::Wrong => ModelFault::Wrong(finding.path),
             Cause::Twice => ModelFault::Twice(finding.path),
             Cause::Limit => ModelFault::Limit(finding.path),
+            Cause::MandatoryRemoved => ModelFault::MandatoryRemoved(finding.path),
+            Cause::NoVersion => ModelFault::NoVersion(finding.path),
         },
+    }
+}
+
+fn indexed(alloc: Global, lists: Lists) -> Result<Model, ModelFault>
+    requires { IsModel lists }
+    ensures { MatchResult result (λ model. model ≡ lists) (λ fault. fault ≡ OutOfMemory) }
+{
+    match Model::new(alloc, lists) {
+        Ok(model) => Ok(model),
+        Err(_) => Err(ModelFault::OutOfMemory),
     }
 }
 
@@ -41,7 +57,7 @@ pub fn read(alloc: Global, bytes: &[u8]) -> Result<Model, ModelFault>
         Err(error) if error.is_memory() => Err(ModelFault::OutOfMemory),
         Err(_) => Err(ModelFault::Toml),
         Ok(table) => match model_of(alloc, &table) {
-            Ok(model) => Ok(model),
+            Ok(lists) => indexed(alloc, lists),
             Err(error) => Err(fault_of(error)),
         },
     }

@@ -9,16 +9,19 @@ ghost use Rattle.segment_defs.specs.Definitions.{names_of};
 ghost use Rattle.segment_defs.specs.Version.{width_of};
 ghost use Rattle.model_keys.specs.Finding.{Gives};
 ghost use Rattle.model_text.specs.Fields.{field_names};
-ghost use Rattle.model_text.specs.Segments.{is_later, last_fields, release_at, segment_of, segments_at, segments_of, type_names, version_names, version_of, versions_of};
+ghost use Rattle.dist_model.specs.Field.{last_fields};
+ghost use Rattle.dist_model.specs.Model.{type_names};
+ghost use Rattle.model_text.specs.Segments.{is_later, release_at, segment_of, segments_at, segments_of, version_names, version_of, versions_of};
 
 use crate::fields::fields_of;
 use crate::keys::{ADDS, NAME, RELEASE, SEGMENT, SEGMENT_KEYS, TYPE, VERSION, VERSION_KEYS};
 use ale_base::{Items, OutOfMemory};
 use dist_model::LONGEST_RELEASE;
 use model_keys::{
-    Cause, Names, ReadError, any_list_at, at, entry_of, list_or_none_at, new_segment_name_at,
+    Cause, ReadError, any_list_at, at, entry_of, list_or_none_at, new_segment_name_at,
     reference_at, some_list_at, within,
 };
+use name_tables::Names;
 use segment_defs::{Field, MOST_TYPES, MOST_VERSIONS, SegmentType, Version};
 use std::alloc::Global;
 use toml::{Table, Value};

@@ -1,8 +1,7 @@
 //! What the items of a case work on.
 
 use crate::answer::Answer;
-use crate::models::ModelText;
-use crate::{definitions, document_files, ground, hierarchy, models, outside, records, trees};
+use crate::{definitions, document_files, ground, hierarchy, outside, records, trees};
 use ale_base::{Items, OutOfMemory};
 use ale_io::{Calls, MapFiles, VecSink};
 use case_form::{Item, LineEnd};
@@ -23,7 +22,6 @@ pub(crate) struct Bench {
     pub(crate) ty: IdocType,
     /// The data records of a document.
     pub(crate) records: Vec<Data>,
-    pub(crate) model: ModelText,
 }
 
 impl Bench {
@@ -48,7 +46,6 @@ impl Bench {
                 segments: Items::new(alloc),
             },
             records: Vec::new(alloc),
-            model: ModelText::new(alloc),
         })
     }
 
@@ -72,10 +69,6 @@ impl Bench {
     /// The same of the items on definitions, IDoc types and documents.
     fn answer_on_documents(&mut self, alloc: Global, item: &Item) -> Result<Answer, LineEnd> {
         let answer = document_files::answer(alloc, &mut self.files, item)?;
-        if !answer.is_foreign() {
-            return Ok(answer);
-        }
-        let answer = models::answer(alloc, &mut self.model, item)?;
         if !answer.is_foreign() {
             return Ok(answer);
         }

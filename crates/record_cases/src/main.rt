@@ -12,7 +12,6 @@ mod document_files;
 mod ground;
 mod hierarchy;
 mod lists;
-mod models;
 mod outside;
 mod records;
 mod rules;

@@ -6,7 +6,8 @@ use Rattle.segment_defs.specs.declared.segment_type.SegmentType.{SegmentType}
 use Rattle.segment_defs.specs.Definitions.{names_of}
 use Rattle.model_keys.specs.Each.{each}
 use Rattle.model_text.specs.declared.keys.TheConstants.{SEGMENT}
-use Rattle.model_text.specs.Segments.{segment_of, type_names}
+use Rattle.dist_model.specs.Model.{type_names}
+use Rattle.model_text.specs.Segments.{segment_of}
 use Rattle.model_text.proofs.segments.segments_of.Given as goal
 
 abbrev pub invariant-loop-place : goal.invariant-loop-place

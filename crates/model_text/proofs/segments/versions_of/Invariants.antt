@@ -7,7 +7,8 @@ use Rattle.segment_defs.specs.Version.{width_of}
 use Rattle.model_keys.specs.Each.{each}
 use Rattle.model_text.specs.declared.keys.TheConstants.{VERSION}
 use Rattle.model_text.specs.Fields.{field_names}
-use Rattle.model_text.specs.Segments.{last_fields, version_names, version_of}
+use Rattle.dist_model.specs.Field.{last_fields}
+use Rattle.model_text.specs.Segments.{version_names, version_of}
 use Rattle.model_text.proofs.segments.versions_of.Given as goal
 
 -- what the tables hold behind some definitions

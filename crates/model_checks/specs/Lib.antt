@@ -1,0 +1,5 @@
+-- the elements of a list, each checked
+pub mod Checked
+-- what is checked
+pub mod Profiled
+pub mod Whole

@@ -1,0 +1,10 @@
+-- what a name refers to, and fields by their names
+pub mod Things
+pub mod Fields
+-- the sections, in the order of the text
+pub mod Kinds
+pub mod Messages
+pub mod Reduced
+pub mod Filters
+-- what a text says, and no order of checks
+pub mod Says

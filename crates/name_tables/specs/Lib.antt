@@ -1,0 +1,2 @@
+-- triples of numbers
+pub mod Triple
