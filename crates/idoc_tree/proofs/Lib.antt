@@ -2,6 +2,12 @@
 pub mod ForestLemmas
 -- the nodes of a document as a forest
 pub mod NodeLemmas
+-- what a part of a forest keeps of the whole
+pub mod PartLemmas
+-- sets of segments, one within another and put together
+pub mod SetLemmas
+-- where the segments of some types go
+pub mod WithoutLemmas
 -- segments side by side: in order, and how many of a type
 pub mod FamilyLemmas
 -- hanging together, and a segment that is hung below an open one

@@ -1,12 +1,13 @@
 -- Nodes as forests.
 use Rattle.std.specs.Prelude.{slice_get, slice_set, Some}
-use Rattle.std.proofs.Common.{◌≡◌, ℕ, suc, ◌+◌, ◌<◌, get_or, drop, drop-cons, arith, List, [], ◌∷◌, ◌++◌, length, take, refl, ap, sym, ◌∙◌}
+use Rattle.std.proofs.Common.{◌≡◌, ℕ, suc, ◌+◌, ◌<◌, ◌≤◌, get_or, drop, drop-cons, arith, zero, List, [], ◌∷◌, ◌++◌, length, take, refl, ap, sym, ◌∙◌}
 use Rattle.ale_base.proofs.SnocLemmas.{set-last}
 use Rattle.idoc_tree.specs.declared.node.Node.{Node}
 use Rattle.idoc_tree.specs.declared.node.Node.TheOpen.{Node-F}
 use Rattle.idoc_tree.specs.declared.node.Node.TheViews.{out-Node, roll-Node}
 use Rattle.idoc_tree.specs.declared.node.Node.TheFolds.{fold-roll-Node, fold_out-Node}
-use Rattle.idoc_tree.specs.Forest.{Segment, no_trees, tree, joined}
+use Rattle.idoc_tree.specs.Forest.{Segment, Forest, no_trees, tree, joined}
+use Rattle.idoc_tree.proofs.ForestLemmas.{joined_assoc}
 use Rattle.idoc_tree.specs.Nodes.{Tree, tree_step, tree_of, forest_of}
 
 -- the root of a node that is opened
@@ -54,3 +55,38 @@ forest_of-drop nodes at node within here =
   where
     one_more : (n : ℕ) → suc n ≡ n + 1
     one_more n = omega arith
+
+-- the elements from one on begin with it
+pub drop-here : {A : Type 0} (xs : List A) (at : ℕ) (x : A) → at < length xs → x ≡ get_or xs at x → drop at xs ≡ x ∷ drop (at + 1) xs
+drop-here xs at x within here = drop-cons xs at x within ∙ ap (λ n. n ∷ drop (suc at) xs) (sym here) ∙ ap (λ k. x ∷ drop k xs) (one_more at)
+  where
+    one_more : (n : ℕ) → suc n ≡ n + 1
+    one_more n = omega arith
+
+-- past the last one there is none
+pub drop-past : {A : Type 0} (xs : List A) (at : ℕ) → length xs ≤ at → drop at xs ≡ []
+drop-past [] zero past = refl
+drop-past [] (suc at) past = refl
+drop-past (x ∷ xs) zero past = absurd (omega arith)
+drop-past (x ∷ xs) (suc at) past = drop-past xs at (omega arith)
+
+-- the nodes from one on, with that one as a tree
+pub trees_of-drop : (nodes : List Node) (at : ℕ) (node : Node) → at < length nodes → node ≡ get_or nodes at node → forest_of (drop at nodes) ≡ tree (tree_of node).root (tree_of node).below (forest_of (drop (at + 1) nodes))
+trees_of-drop nodes at node within here = ap forest_of (drop-here nodes at node within here)
+
+-- the forest below a node is that of its children
+pub below-out : (node : Node) → (tree_of node).below ≡ forest_of (out-Node node).children.items
+below-out node = ap (λ (t : Tree). t.below) (tree_of-out node)
+
+-- one more node behind those before, and what is to follow
+pub forest_of-push : (nodes : List Node) (last : Node) (others : Forest) → joined (forest_of (nodes ++ last ∷ [])) others ≡ joined (forest_of nodes) (tree (tree_of last).root (tree_of last).below others)
+forest_of-push nodes last others =
+    ap (λ (f : Forest). joined f others) (forest_of-snoc nodes last)
+    ∙ joined_assoc (forest_of nodes) (tree (tree_of last).root (tree_of last).below no_trees) others
+
+-- trees with the same root and the same below it are the same
+pub trees_are_same : (one two : Tree) → one.root ≡ two.root → one.below ≡ two.below → one ≡ two
+trees_are_same one two root below =
+    let with : Segment → Tree = λ r. record { root = r; below = one.below } in
+    let over : Forest → Tree = λ b. record { root = two.root; below = b } in
+    ap with root ∙ ap over below

@@ -1,6 +1,8 @@
 -- trees as data, and the nodes of a document as such
 pub mod Forest
 pub mod Nodes
+-- parts of a forest
+pub mod Parts
 -- what data records spell
 pub mod Spells
 -- what an IDoc type asks of the segments below one segment

@@ -1,0 +1,17 @@
+//! The rules of this program's items, beside those of all case files.
+
+use case_form::Rule;
+
+pub(crate) const NO_SUCH_ITEM: Rule = Rule("an item is one that the program has");
+
+pub(crate) const NO_SUCH_NUMBER: Rule = Rule("a number is one that its item may have");
+
+pub(crate) const NO_SUCH_NAME: Rule = Rule("a name is one of those defined");
+
+pub(crate) const NO_VALUE: Rule = Rule("a field has a length, and a filter has values");
+
+pub(crate) const NO_RECORD: Rule = Rule("a record has a name that a data record may have");
+
+pub(crate) const NO_DOCUMENT: Rule = Rule("records make a document");
+
+pub(crate) const NOT_VALID: Rule = Rule("definitions and IDoc types keep their rules");
