@@ -1,0 +1,10 @@
+-- Lemmas on units in queues. Each file stands on those before it.
+
+-- units by their ids, and one of them changed
+pub mod UnitLemmas
+-- a unit is offered exactly where nothing speaks against it
+pub mod OfferedLemmas
+-- what each record of a log does to its queues
+pub mod LogQueuesLemmas
+-- the bound of a finish, by an example
+pub mod LooksExample

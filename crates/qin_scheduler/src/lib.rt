@@ -1,0 +1,8 @@
+//! Which inbound unit goes next: the unit that is to be executed.
+//!
+//! Contract: `next` claims the offered unit that was added first. The definitions are those of `plain_queues`.
+#![tactic(auto)]
+
+mod scheduling;
+
+pub use scheduling::next;
