@@ -1,0 +1,10 @@
+-- words by their ends
+pub mod WordsLemmas
+-- digits and the numbers that they spell
+pub mod NumberLemmas
+-- fields and their values
+pub mod FieldLemmas
+-- words and their kinds, one for one
+pub mod FormLemmas
+-- lines one behind another
+pub mod ScriptLemmas

@@ -1,0 +1,2 @@
+-- the numbers of refusals
+pub mod Refusal

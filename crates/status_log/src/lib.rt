@@ -1,0 +1,19 @@
+//! What commands answer and list: statuses of documents, refusals, causes, and the lines of listings.
+//!
+//! Contract: each refusal has the number by which an operator knows it (`Refusal::number`), exactly where it is one of the
+//! numbered ones. The definition is in `specs/Refusal.antt`.
+#![tactic(auto)]
+
+mod cause;
+mod line;
+mod listing;
+mod refusal;
+mod show;
+mod status;
+
+pub use cause::Cause;
+pub use line::{DocLine, ObjectLine, QueueLine, SegmentLine, UnitLine, UnitState};
+pub use listing::Listing;
+pub use refusal::Refusal;
+pub use show::Show;
+pub use status::Status;

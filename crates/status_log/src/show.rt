@@ -1,0 +1,18 @@
+//! What an operator asks to see.
+
+use ale_base::{DocNum, SystemNo};
+
+/// A listing that is asked for, of a system.
+#[derive(Clone, Copy, Debug, PartialEq, Eq)]
+pub enum Show {
+    /// Its documents and their statuses.
+    Docs(SystemNo),
+    /// One of its outbound documents.
+    Doc(SystemNo, DocNum),
+    /// Its units and their states.
+    Units(SystemNo),
+    /// Its queues that are not empty.
+    Queues(SystemNo),
+    /// Its objects.
+    Objects(SystemNo),
+}

@@ -1,0 +1,10 @@
+//! What came of an item.
+
+/// What came of an item.
+#[derive(Debug, Drop)]
+pub(crate) enum Answer {
+    /// This text was found, to be compared with the item's block.
+    Text(Vec<u8>),
+    /// The item set something up for those behind it.
+    Taken,
+}
