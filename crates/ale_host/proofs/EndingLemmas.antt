@@ -1,27 +1,57 @@
 -- The ending of `pass` is one of the run.
-use Rattle.std.proofs.Common.{◌≡◌, ◌≢◌, ℕ, Some, Result, Ok, Err, List, refl}
+use Rattle.std.proofs.Common.{◌≡◌, ◌≢◌, ℕ, Some, Result, Ok, Err, List, refl, subst, inl, inr}
 use Rattle.std.specs.Prelude.{IfOk}
 use Rattle.ale_io.specs.Told.{Told}
-use Rattle.ale_host.specs.declared.words.Form.TheVariants.{Pass}
+use Rattle.ale_host.specs.declared.words.Form.TheVariants.{Pass, Run}
 use Rattle.ale_host.specs.declared.ending.Ending.{Ending}
 use Rattle.ale_host.specs.declared.ending.Ending.TheVariants as ending
-use Rattle.ale_host.specs.Words.{form_of, document_file}
+use Rattle.ale_host.specs.Inputs.{EndsBehindDocuments, EndsBehindModel, EndsRun, SaysDocuments, SaysScript, StopsAtDocuments, StopsAtScript}
+use Rattle.ale_host.specs.Words.{form_of, document_file, documents_file, model_file, script_file}
 use Rattle.ale_host.specs.Ending.{IsFile, EndsFile, EndsPass, Ends, IsQuiet, status_of}
 
 pub Ends-pass : (words : List (List ℕ)) (told : List ℕ → Told) (faults : Type 0) (end : Ending) → form_of words ≡ Some Pass
     → EndsPass (document_file words) (told (document_file words)) faults end → Ends words told faults end
-Ends-pass words told faults (ending.Passed documents) is_pass ends = (is_pass, ends)
-Ends-pass words told faults (ending.Refused fault) is_pass ends = (is_pass, ends)
-Ends-pass words told faults (ending.Unread name why) is_pass ends = (is_pass, ends)
+Ends-pass words told faults (ending.Passed documents) is_pass ends = inl (is_pass, ends)
+Ends-pass words told faults (ending.ModelRefused fault) is_pass ends = inl (is_pass, ends)
+Ends-pass words told faults (ending.Refused fault) is_pass ends = inl (is_pass, ends)
+Ends-pass words told faults (ending.ScriptRefused fault) is_pass ends = inl (is_pass, ends)
+Ends-pass words told faults (ending.Unread name why) is_pass ends = inl (is_pass, ends)
+Ends-pass words told faults ending.RunNotBuilt is_pass ends = inl (is_pass, ends)
 Ends-pass words told faults ending.OutOfMemory is_pass ends = tt
 Ends-pass words told faults ending.Usage is_pass ends = absurd ends.2
-Ends-pass words told faults ending.RunNotBuilt is_pass ends = absurd ends.2
 Ends-pass words told faults ending.LoadNotBuilt is_pass ends = absurd ends.2
+
+-- a run of files whose names are these words ends so
+pub Ends-run : (words : List (List ℕ)) (told : List ℕ → Told) (faults : Type 0) (end : Ending) → form_of words ≡ Some Run
+    → EndsRun told faults (model_file words) (documents_file words) (script_file words) end → Ends words told faults end
+Ends-run words told faults (ending.Passed documents) is_run ends = inr (is_run, ends)
+Ends-run words told faults (ending.ModelRefused fault) is_run ends = inr (is_run, ends)
+Ends-run words told faults (ending.Refused fault) is_run ends = inr (is_run, ends)
+Ends-run words told faults (ending.ScriptRefused fault) is_run ends = inr (is_run, ends)
+Ends-run words told faults (ending.Unread name why) is_run ends = inr (is_run, ends)
+Ends-run words told faults ending.RunNotBuilt is_run ends = inr (is_run, ends)
+Ends-run words told faults ending.OutOfMemory is_run ends = tt
+Ends-run words told faults ending.Usage is_run ends = elim ends [
+  | inl stops ↦ absurd stops
+  | inr (lists, says, behind) ↦ elim behind [
+    | inl stops ↦ absurd stops
+    | inr (all, documents, last) ↦ elim last [ inl stops ↦ absurd stops | inr (commands, script, end) ↦ absurd (cc) ]
+  ]
+]
+Ends-run words told faults ending.LoadNotBuilt is_run ends = elim ends [
+  | inl stops ↦ absurd stops
+  | inr (lists, says, behind) ↦ elim behind [
+    | inl stops ↦ absurd stops
+    | inr (all, documents, last) ↦ elim last [ inl stops ↦ absurd stops | inr (commands, script, end) ↦ absurd (cc) ]
+  ]
+]
 
 -- a status other than those of a file that is not read, and of memory, comes with no fault of the files
 pub quiet_by_status : (end : Ending) (before after : ℕ) → IsQuiet end before after → status_of end ≢ 5 → status_of end ≢ 9 → after ≡ before
 quiet_by_status (ending.Passed documents) before after quiet not_5 not_9 = quiet
+quiet_by_status (ending.ModelRefused fault) before after quiet not_5 not_9 = quiet
 quiet_by_status (ending.Refused fault) before after quiet not_5 not_9 = quiet
+quiet_by_status (ending.ScriptRefused fault) before after quiet not_5 not_9 = quiet
 quiet_by_status (ending.Unread name why) before after quiet not_5 not_9 = absurd (not_5 refl)
 quiet_by_status ending.OutOfMemory before after quiet not_5 not_9 = absurd (not_9 refl)
 quiet_by_status ending.Usage before after quiet not_5 not_9 = quiet
@@ -44,3 +74,21 @@ pub IsQuiet-same : (end : Ending) (before after : ℕ) → after ≡ before → 
 IsQuiet-same (ending.Unread name why) before after same = tt
 IsQuiet-same ending.OutOfMemory before after same = tt
 IsQuiet-same _ before after same = same
+
+-- what a call leaves of the files, by the name: what was told of one before is told of it afterwards
+same_told : (before after : List ℕ → Told) → ((name : List ℕ) → after name ≡ before name) → (P : Told → Type 0) (name : List ℕ) → P (after name) → P (before name)
+same_told before after kept P name here = subst P (kept name) here
+
+-- a call that let the count of faults be, and then one that ended the run at a later file
+pub EndsBehindDocuments-later : (before after : List ℕ → Told) (one two : Type 0) (script : List ℕ) (end : Ending) → ((name : List ℕ) → after name ≡ before name) → one ≡ two
+    → EndsBehindDocuments after one script end → EndsBehindDocuments before two script end
+EndsBehindDocuments-later before after one two script end kept same (inl stops) =
+    inl (subst (λ (faults : Type 0). StopsAtScript script (before script) faults end) same (same_told before after kept (λ told. StopsAtScript script told one end) script stops))
+EndsBehindDocuments-later before after one two script end kept same (inr (commands, says, is)) = inr (commands, same_told before after kept (λ told. SaysScript told commands) script says, is)
+
+pub EndsBehindModel-later : (before after : List ℕ → Told) (one two : Type 0) (documents script : List ℕ) (end : Ending) → ((name : List ℕ) → after name ≡ before name) → one ≡ two
+    → EndsBehindModel after one documents script end → EndsBehindModel before two documents script end
+EndsBehindModel-later before after one two documents script end kept same (inl stops) =
+    inl (subst (λ (faults : Type 0). StopsAtDocuments documents (before documents) faults end) same (same_told before after kept (λ told. StopsAtDocuments documents told one end) documents stops))
+EndsBehindModel-later before after one two documents script end kept same (inr (all, says, behind)) =
+    inr (all, same_told before after kept (λ told. SaysDocuments told all) documents says, EndsBehindDocuments-later before after one two script end kept same behind)

@@ -2,7 +2,7 @@
 use Rattle.std.proofs.Common.{◌≡◌, ℕ, List, ap}
 use Rattle.ale_host.specs.declared.ending.Ending.{Ending}
 use Rattle.ale_host.specs.declared.ending.Ending.TheVariants as ending
-use Rattle.idoc_file.specs.Lines.{lines_of}
+use Rattle.ale_base.specs.Lines.{lines_of}
 use Rattle.idoc_file.proofs.DocumentLemmas.{same_documents}
 use Rattle.idoc_file.proofs.AnswerLemmas.{not_documents, fault_once}
 use Rattle.ale_host.specs.Ending.{EndsFile}

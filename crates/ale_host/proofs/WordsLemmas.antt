@@ -1,6 +1,8 @@
 -- Words of a command line, by their count.
-use Rattle.std.proofs.Common.{◌≡◌, ℕ, ◌<◌, ◌≤◌, Some, None, List, [], ◌∷◌, length, map, get_or, refl, sym, ap, arith}
-use Rattle.ale_host.specs.declared.words.Form.TheVariants.{Pass}
+use Rattle.std.specs.Prelude.{codes}
+use Rattle.ale_base.specs.Text.{is_text}
+use Rattle.std.proofs.Common.{◌≡◌, ℕ, zero, suc, Bool, true, false, cond, ◌<◌, ◌≤◌, Some, None, List, [], ◌∷◌, length, map, get_or, refl, sym, ap, arith}
+use Rattle.ale_host.specs.declared.words.Form.TheVariants.{Load, Pass, Run}
 use Rattle.ale_host.specs.Words.{form_of, pass_form, document_file}
 
 -- two words
@@ -26,3 +28,26 @@ pub document_file-second : {A : Type 0} (f : A → List ℕ) (words : List A) (w
 document_file-second f [] word is_pass here = absurd (cc)
 document_file-second f (a ∷ []) word is_pass here = absurd (cc)
 document_file-second f (a ∷ b ∷ more) word is_pass here = ap f (sym here)
+
+-- a word of the command line, as it is named by its place
+pub word-at : {A : Type 0} (f : A → List ℕ) (words : List A) (place : ℕ) (word : A) → place < length words → word ≡ get_or words place word → get_or (map f words) place [] ≡ f word
+word-at f [] place word within here = absurd (omega (arith, within))
+word-at f (first ∷ words) zero word within here = ap f (sym here)
+word-at f (first ∷ words) (suc place) word within here = word-at f words place word (omega (arith, within)) here
+
+-- `run` has five words
+pub run-five : {A : Type 0} (f : A → List ℕ) (words : List A) → form_of (map f words) ≡ Some Run → 5 ≤ length words
+run-five f [] is_run = absurd (cc)
+run-five f (a ∷ []) is_run = absurd (cc)
+run-five f (a ∷ b ∷ []) is_run = absurd (no_pass (is_text (f a) (codes "pass")) is_run)
+  where
+    no_pass : (b : Bool) → cond b (Some Pass) None ≡ Some Run → ⊥
+    no_pass true h = cc
+    no_pass false h = cc
+run-five f (a ∷ b ∷ c ∷ []) is_run = absurd (no_load _ is_run)
+  where
+    no_load : (b : Bool) → cond b (Some Load) None ≡ Some Run → ⊥
+    no_load true h = cc
+    no_load false h = cc
+run-five f (a ∷ b ∷ c ∷ d ∷ []) is_run = absurd (cc)
+run-five f (a ∷ b ∷ c ∷ d ∷ e ∷ more) is_run = omega arith

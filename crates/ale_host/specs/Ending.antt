@@ -1,8 +1,12 @@
 -- How a run ends: why it ends so, with which status, and what it prints.
-use Rattle.std.specs.Prelude.{◌≡◌, ℕ, ◌<◌, ◌≤◌, List, ◌++◌, length, codes, Some, None, ⊤}
+use Rattle.std.specs.Prelude.{◌≡◌, ℕ, ◌≤◌, ◌⊎◌, List, [], ◌++◌, length, codes, Some, None, ⊤}
 use Rattle.std.specs.Fmt.{decimal}
-use Rattle.ale_io.specs.Told.{Told, MayHold, MayLack}
+use Rattle.ale_io.specs.Told.{Told}
 use Rattle.ale_host.specs.declared.words.Form.TheVariants.{Pass, Run, Load}
+use Rattle.model_text.specs.declared.fault.ModelFault.{ModelFault}
+use Rattle.model_text.specs.declared.fault.ModelFault.TheVariants as model_fault
+use Rattle.script_text.specs.declared.fault.ScriptFault.{ScriptFault}
+use Rattle.script_text.specs.declared.fault.ScriptFault.TheVariants as script_fault
 use Rattle.ale_host.specs.declared.ending.NotRead.{NotRead}
 use Rattle.ale_host.specs.declared.ending.NotRead.TheVariants.{Missing, TooLong, Failed}
 use Rattle.ale_host.specs.declared.ending.Ending.{Ending}
@@ -16,20 +20,15 @@ use Rattle.idoc_file.specs.declared.file_fault.Quantity.{Quantity}
 use Rattle.idoc_file.specs.declared.file_fault.Quantity.TheVariants.{Documents, Records, Segments}
 use Rattle.idoc_file.specs.declared.reader.TheConstants.Reader.{MOST_BYTES}
 use Rattle.idoc_file.specs.declared.documents.TheConstants.{MAX_DOCUMENTS}
-use Rattle.idoc_file.specs.Lines.{lines_of}
+use Rattle.ale_base.specs.Lines.{lines_of}
 use Rattle.idoc_file.specs.DocumentFile.{AreDocuments, IsFirstBad}
-use Rattle.ale_host.specs.Words.{form_of, document_file}
+use Rattle.ale_host.specs.Inputs.{EndsRun, IsFileWithin, IsUnread}
+use Rattle.ale_host.specs.Words.{form_of, document_file, documents_file, model_file, script_file}
 use Rattle.ale_host.specs.PassText.{pass_text}
 
 -- as far as it is told, the document file has these bytes, within the limit
 abbrev pub IsFile : Told → List ℕ → Type 0
-IsFile told bytes = MayHold told bytes × (length bytes ≤ MOST_BYTES)
-
--- why a file is not read; faults is that a fault of the files came in this call
-abbrev pub EndsUnread : Told → Type 0 → NotRead → Type 0
-EndsUnread told faults Missing = MayLack told
-EndsUnread told faults TooLong = (bytes : List ℕ) × MayHold told bytes × (MOST_BYTES < length bytes)
-EndsUnread told faults Failed = faults
+IsFile told bytes = IsFileWithin MOST_BYTES told bytes
 
 -- why `pass` over a file of these bytes ends so
 abbrev pub EndsFile : List ℕ → Ending → Type 0
@@ -39,16 +38,17 @@ EndsFile bytes _ = ⊥
 
 -- why `pass` over the file of this name ends so
 abbrev pub EndsPass : List ℕ → Told → Type 0 → Ending → Type 0
-EndsPass name told faults (ending.Unread its_name why) = (its_name ≡ name) × EndsUnread told faults why
+EndsPass name told faults (ending.Unread its_name why) = IsUnread MOST_BYTES name told faults its_name why
 EndsPass name told faults end = (bytes : List ℕ) × IsFile told bytes × EndsFile bytes end
 
 -- why a run of these words ends so
 abbrev pub Ends : List (List ℕ) → (List ℕ → Told) → Type 0 → Ending → Type 0
 Ends words told faults ending.Usage = form_of words ≡ None
-Ends words told faults ending.RunNotBuilt = form_of words ≡ Some Run
 Ends words told faults ending.LoadNotBuilt = form_of words ≡ Some Load
 Ends words told faults ending.OutOfMemory = ⊤
-Ends words told faults end = (form_of words ≡ Some Pass) × EndsPass (document_file words) (told (document_file words)) faults end
+Ends words told faults end =
+    ((form_of words ≡ Some Pass) × EndsPass (document_file words) (told (document_file words)) faults end)
+    ⊎ ((form_of words ≡ Some Run) × EndsRun told faults (model_file words) (documents_file words) (script_file words) end)
 
 -- the exit status where a document file has this fault: that of a limit, or that of a bad line. No file has want of memory
 -- for a fault
@@ -57,11 +57,20 @@ fault_status (file_fault.TooMany line quantity) = 10
 fault_status file_fault.OutOfMemory = 9
 fault_status _ = 3
 
+-- the exit status where a script has this fault: that of a limit, or that of a line that is no command. No script has want
+-- of memory for a fault
+abbrev pub script_status : ScriptFault → ℕ
+script_status (script_fault.Line line) = 4
+script_status (script_fault.TooMany line) = 10
+script_status script_fault.OutOfMemory = 9
+
 -- the exit status of an ending, where no write failed
 abbrev pub status_of : Ending → ℕ
 status_of (ending.Passed documents) = 0
 status_of ending.Usage = 1
+status_of (ending.ModelRefused fault) = 2
 status_of (ending.Refused fault) = fault_status fault
+status_of (ending.ScriptRefused fault) = script_status fault
 status_of (ending.Unread name why) = 5
 status_of ending.OutOfMemory = 9
 status_of ending.RunNotBuilt = 13
@@ -98,11 +107,47 @@ fault_text (file_fault.Record line fault) = shown_fault line (shown_record_fault
 fault_text (file_fault.TooMany line quantity) = shown_quantity quantity
 fault_text file_fault.OutOfMemory = codes "out of memory\n"
 
+-- what is wrong with a model's text, as it is printed, with a blank where a path follows
+abbrev pub model_cause : ModelFault → List ℕ
+model_cause model_fault.Toml = codes "Toml"
+model_cause (model_fault.Missing path) = codes "Missing "
+model_cause (model_fault.Unknown path) = codes "Unknown "
+model_cause (model_fault.Wrong path) = codes "Wrong "
+model_cause (model_fault.Twice path) = codes "Twice "
+model_cause (model_fault.Limit path) = codes "Limit "
+model_cause (model_fault.MandatoryRemoved path) = codes "MandatoryRemoved "
+model_cause (model_fault.NoVersion path) = codes "NoVersion "
+model_cause model_fault.OutOfMemory = codes "OutOfMemory"
+
+-- the path to it
+abbrev pub model_path : ModelFault → List ℕ
+model_path model_fault.Toml = []
+model_path (model_fault.Missing path) = path
+model_path (model_fault.Unknown path) = path
+model_path (model_fault.Wrong path) = path
+model_path (model_fault.Twice path) = path
+model_path (model_fault.Limit path) = path
+model_path (model_fault.MandatoryRemoved path) = path
+model_path (model_fault.NoVersion path) = path
+model_path model_fault.OutOfMemory = []
+
+-- the line of a model that is refused
+abbrev pub model_text : ModelFault → List ℕ
+model_text fault = codes "model refused: " ++ (model_cause fault ++ (model_path fault ++ codes "\n"))
+
+-- the line of a script that is refused, or of its limit
+abbrev pub script_text : ScriptFault → List ℕ
+script_text (script_fault.Line line) = codes "script refused: " ++ (decimal line ++ codes "\n")
+script_text (script_fault.TooMany line) = codes "limit: lines 100001\n"
+script_text script_fault.OutOfMemory = codes "out of memory\n"
+
 -- what is printed at an ending
 abbrev pub text_of : Ending → List ℕ
 text_of (ending.Passed documents) = pass_text documents
 text_of ending.Usage = codes "usage: aleflow run MODEL DOCS SCRIPT WORKERS, pass DOCS, load N WORKERS\n"
+text_of (ending.ModelRefused fault) = model_text fault
 text_of (ending.Refused fault) = fault_text fault
+text_of (ending.ScriptRefused fault) = script_text fault
 text_of (ending.Unread name why) = codes "cannot read " ++ (name ++ (codes ": " ++ shown_reason why))
 text_of ending.OutOfMemory = codes "out of memory\n"
 text_of ending.RunNotBuilt = codes "not built: run\n"

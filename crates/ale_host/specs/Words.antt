@@ -1,15 +1,12 @@
 -- The words of a command line.
-use Rattle.std.specs.Prelude.{ℕ, ◌+◌, ◌-◌, ◌*◌, List, [], ◌∷◌, length, fold, Bool, false, not, ◌&&◌, ◌==◌, nat_le, codes, Option, Some, None, if◌then◌else◌}
+use Rattle.std.specs.Prelude.{ℕ, List, [], ◌∷◌, length, get_or, Bool, false, not, ◌&&◌, ◌==◌, nat_le, codes, Option, Some, None, if◌then◌else◌}
 use Rattle.std.specs.Char.{is_ascii_digit}
 use Rattle.std.specs.List.{list_all}
+use Rattle.ale_base.specs.Decimal.{decimal_value}
 use Rattle.ale_base.specs.Text.{is_text}
 use Rattle.ale_host.specs.declared.words.TheConstants.{MAX_MASTERS, MAX_WORKERS}
 use Rattle.ale_host.specs.declared.words.Form.{Form}
 use Rattle.ale_host.specs.declared.words.Form.TheVariants.{Pass, Run, Load}
-
--- the number that decimal digits spell
-abbrev pub decimal_value : List ℕ → ℕ
-decimal_value digits = fold (λ number digit. number * 10 + (digit - 48)) 0 digits
 
 -- at most four digits, of which the first is no zero, that spell a number of at most this size
 abbrev pub is_count : ℕ → List ℕ → Bool
@@ -39,3 +36,13 @@ form_of _ = None
 abbrev pub document_file : List (List ℕ) → List ℕ
 document_file (command ∷ docs ∷ others) = docs
 document_file _ = []
+
+-- the names of the files that `run` reads: its second, third and fourth word
+abbrev pub model_file : List (List ℕ) → List ℕ
+model_file words = get_or words 1 []
+
+abbrev pub documents_file : List (List ℕ) → List ℕ
+documents_file words = get_or words 2 []
+
+abbrev pub script_file : List (List ℕ) → List ℕ
+script_file words = get_or words 3 []

@@ -1,12 +1,15 @@
 //! How a run ends: its status and its text.
 
 ghost use Rattle.std.specs.Prelude.{◌≡◌, ◌≢◌, ◌++◌, codes, IfOk};
-ghost use Rattle.ale_host.specs.Ending.{IsPrintable, status_of, text_of, shown_reason, shown_fault, shown_record_fault, shown_quantity, fault_status, fault_text};
+ghost use Rattle.std.specs.Fmt.{decimal};
+ghost use Rattle.ale_host.specs.Ending.{IsPrintable, status_of, text_of, shown_reason, shown_fault, shown_record_fault, shown_quantity, fault_status, fault_text, model_cause, model_path, model_text, script_status, script_text};
 
 use crate::pass_text::{pass_text, put};
 use ale_base::{Items, OutOfMemory};
 use idoc_file::{FileFault, Quantity, RawDoc};
 use idoc_record::RecordFault;
+use model_text::ModelFault;
+use script_text::ScriptFault;
 use std::alloc::Global;
 
 /// Why a file was not read.
@@ -14,7 +17,7 @@ use std::alloc::Global;
 pub enum NotRead {
     /// No file has the name.
     Missing,
-    /// The file is over the limit of 67,108,864 bytes.
+    /// The file is over its limit.
     TooLong,
     /// The read failed.
     Failed,
@@ -27,13 +30,17 @@ pub enum Ending {
     Passed(Items<RawDoc>),
     /// The words have none of the three forms.
     Usage,
+    /// The text of the model has this fault.
+    ModelRefused(ModelFault),
     /// The document file has a bad line, and this is the fault of the first one.
     Refused(FileFault),
+    /// The script has a line that is not read, and this is the fault of the first one.
+    ScriptRefused(ScriptFault),
     /// The file of this name was not read.
     Unread(Items<u8>, NotRead),
     /// Memory ran out.
     OutOfMemory,
-    /// The command `run` is not built yet.
+    /// The files of the command `run` were read; no more of it is built yet.
     RunNotBuilt,
     /// The command `load` is not built yet.
     LoadNotBuilt,
@@ -48,7 +55,9 @@ impl Ending {
         match self {
             Ending::Passed(_) => 0,
             Ending::Usage => 1,
+            Ending::ModelRefused(_) => 2,
             Ending::Refused(fault) => fault_status(*fault),
+            Ending::ScriptRefused(fault) => script_status(*fault),
             Ending::Unread(..) => 5,
             Ending::OutOfMemory => 9,
             Ending::RunNotBuilt | Ending::LoadNotBuilt => 13,
@@ -63,7 +72,9 @@ impl Ending {
         match self {
             Ending::Passed(documents) => pass_text(alloc, documents.as_slice()),
             Ending::Usage => text_from(alloc, USAGE),
+            Ending::ModelRefused(fault) => model_text(alloc, fault),
             Ending::Refused(fault) => fault_text(alloc, *fault),
+            Ending::ScriptRefused(fault) => script_text(alloc, *fault),
             Ending::Unread(name, why) => unread_text(alloc, name.as_slice(), *why),
             Ending::OutOfMemory => text_from(alloc, OUT_OF_MEMORY),
             Ending::RunNotBuilt => text_from(alloc, b"not built: run\n"),
@@ -128,6 +139,81 @@ fn fault_text(alloc: Global, fault: FileFault) -> Result<Vec<u8>, OutOfMemory>
         FileFault::TooMany(_, quantity) => text_from(alloc, limit_text(quantity)),
         FileFault::OutOfMemory => text_from(alloc, OUT_OF_MEMORY),
     }
+}
+
+/// The status where a script has this fault.
+fn script_status(fault: ScriptFault) -> u8
+    ensures { result ≡ script_status fault }
+{
+    match fault {
+        ScriptFault::Line(_) => 4,
+        ScriptFault::TooMany(_) => 10,
+        ScriptFault::OutOfMemory => 9,
+    }
+}
+
+/// What is printed where a script has this fault.
+fn script_text(alloc: Global, fault: ScriptFault) -> Result<Vec<u8>, OutOfMemory>
+    ensures { IfOk result (λ text. text.items ≡ script_text fault) }
+{
+    match fault {
+        ScriptFault::Line(line) => line_text(alloc, line),
+        ScriptFault::TooMany(_) => text_from(alloc, b"limit: lines 100001\n"),
+        ScriptFault::OutOfMemory => text_from(alloc, OUT_OF_MEMORY),
+    }
+}
+
+fn line_text(alloc: Global, line: u32) -> Result<Vec<u8>, OutOfMemory>
+    ensures { IfOk result (λ text. text.items ≡ codes "script refused: " ++ (decimal line ++ codes "\n")) }
+{
+    let mut text = text_from(alloc, b"script refused: ")?;
+    put(&mut text, line.to_string(alloc)?.as_bytes())?;
+    put(&mut text, b"\n")?;
+    Ok(text)
+}
+
+/// The name of a model's fault, and a blank where a path follows.
+fn model_cause(fault: &ModelFault) -> &'static [u8]
+    ensures { result.now ≡ model_cause fault.now }
+{
+    match fault {
+        ModelFault::Toml => b"Toml",
+        ModelFault::Missing(_) => b"Missing ",
+        ModelFault::Unknown(_) => b"Unknown ",
+        ModelFault::Wrong(_) => b"Wrong ",
+        ModelFault::Twice(_) => b"Twice ",
+        ModelFault::Limit(_) => b"Limit ",
+        ModelFault::MandatoryRemoved(_) => b"MandatoryRemoved ",
+        ModelFault::NoVersion(_) => b"NoVersion ",
+        ModelFault::OutOfMemory => b"OutOfMemory",
+    }
+}
+
+/// The path of a model's fault; no bytes where it has none.
+fn model_path(fault: &ModelFault) -> &[u8]
+    ensures { result.now ≡ model_path fault.now }
+{
+    match fault {
+        ModelFault::Toml | ModelFault::OutOfMemory => &[],
+        ModelFault::Missing(path)
+        | ModelFault::Unknown(path)
+        | ModelFault::Wrong(path)
+        | ModelFault::Twice(path)
+        | ModelFault::Limit(path)
+        | ModelFault::MandatoryRemoved(path)
+        | ModelFault::NoVersion(path) => path.as_slice(),
+    }
+}
+
+/// What is printed where the text of a model has this fault.
+fn model_text(alloc: Global, fault: &ModelFault) -> Result<Vec<u8>, OutOfMemory>
+    ensures { IfOk result (λ text. text.items ≡ model_text fault.now) }
+{
+    let mut text = text_from(alloc, b"model refused: ")?;
+    put(&mut text, model_cause(fault))?;
+    put(&mut text, model_path(fault))?;
+    put(&mut text, b"\n")?;
+    Ok(text)
 }
 
 fn refused_text(alloc: Global, line: u32, fault: &[u8]) -> Result<Vec<u8>, OutOfMemory>

@@ -1,20 +1,21 @@
 //! The top call. Nothing else reads a file or puts a text.
 
-ghost use Rattle.std.specs.Prelude.{◌≡◌, ◌≢◌, ℕ, List, ◌≤◌, map, string_bytes, OnOk, IfOk};
+ghost use Rattle.std.specs.Prelude.{◌≡◌, ◌≢◌, ℕ, List, ◌≤◌, map, string_bytes, IfOk};
 ghost use Rattle.std.specs.Io.KnownBytes.{Appends};
 ghost use Rattle.ale_base.specs.Faults.{Rose};
 ghost use Rattle.ale_io.specs.Written.{AppendsFront};
-ghost use Rattle.idoc_file.specs.declared.file_fault.FileFault.{FileFault};
 ghost use Rattle.idoc_file.specs.Reading.{Stands};
 ghost use Rattle.ale_host.specs.declared.ending.Ending.{Ending};
+ghost use Rattle.ale_host.specs.Inputs.{EndsBehindDocuments, EndsBehindModel, EndsRun};
 ghost use Rattle.ale_host.specs.Ending.{Ends, EndsPass, EndsFile, IsPrintable, IsQuiet, status_of, text_of};
 
 use crate::document_file::read_document_file;
 use crate::ending::{Ending, NotRead, OUT_OF_MEMORY};
+use crate::inputs::{read_documents, read_model, read_script, refused};
 use crate::words::{Form, form_of};
 use ale_base::{Items, OutOfMemory};
 use ale_io::{FileEnd, Files, Sink};
-use idoc_file::{FileFault, Reader};
+use idoc_file::Reader;
 use std::alloc::Global;
 
 /// The status where the sink did not take all of the text.
@@ -22,10 +23,11 @@ const WRITE_FAULT: u8 = 6;
 
 /// Does what the words ask for, prints its text to `out`, and gives the exit status.
 ///
-/// The status is 0 where the command was carried out, 1 where the words have none of the three forms, 3 where a line of
-/// the document file is bad, 5 where that file was not read, 6 where the sink did not take all of the text, 9 where
-/// memory ran out, 10 where a line passes a limit of the document file, and 13 where something is asked for that is not
-/// built yet. With each but 6 the text that was put is exactly that of the ending, and with 6 it is a part of it that
+/// The status is 0 where the command was carried out, 1 where the words have none of the three forms, 2 where the text of
+/// a model is refused, 3 where a line of a document file is bad, 4 where a line of a script is no command, 5 where a file
+/// was not read, 6 where the sink did not take all of the text, 9 where memory ran out, 10 where a line passes a limit of
+/// its file, and 13 where something is asked for that is not built yet. The files of `run` are read in order, and the
+/// first one that is not read or is refused ends it. With each but 6 the text that was put is exactly that of the ending, and with 6 it is a part of it that
 /// begins at its front. The bytes of a document file have one ending.
 pub fn aleflow<F: Files, K: Sink>(alloc: Global, words: &[String], files: &mut F, out: &mut K) -> u8
     ensures ended { result ≢ 6 → (ending : Ending)
@@ -89,12 +91,60 @@ fn ending_of<F: Files>(alloc: Global, words: &[String], files: &mut F) -> Ending
 {
     match form_of(words) {
         None => Ending::Usage,
-        Some(Form::Run) => Ending::RunNotBuilt,
+        Some(Form::Run) => run(
+            alloc,
+            words[1].as_str(),
+            words[2].as_str(),
+            words[3].as_str(),
+            files,
+        ),
         Some(Form::Load) => Ending::LoadNotBuilt,
         Some(Form::Pass) => match pass(alloc, words[1].as_str(), files) {
             Ok(ending) => ending,
             Err(OutOfMemory) => Ending::OutOfMemory,
         },
+    }
+}
+
+/// How `run` of the files of these names ends, of which each is read before the next.
+fn run<F: Files>(alloc: Global, model: &str, documents: &str, script: &str, files: &mut F) -> Ending
+    ensures ends { EndsRun (F.told files.old) (Rose (F.faults files.old) (F.faults files.new)) model.now documents.now script.now result }
+    ensures printable { IsPrintable result }
+    ensures kept { (name : List ℕ) → F.told files.new name ≡ F.told files.old name }
+    ensures counted { F.faults files.old ≤ F.faults files.new }
+    ensures quiet { IsQuiet result (F.faults files.old) (F.faults files.new) }
+{
+    match read_model(alloc, model, files) {
+        Ok(_) => run_behind_model(alloc, documents, script, files),
+        Err(ending) => ending,
+    }
+}
+
+/// How a run ends whose model was read.
+fn run_behind_model<F: Files>(alloc: Global, documents: &str, script: &str, files: &mut F) -> Ending
+    ensures ends { EndsBehindModel (F.told files.old) (Rose (F.faults files.old) (F.faults files.new)) documents.now script.now result }
+    ensures printable { IsPrintable result }
+    ensures kept { (name : List ℕ) → F.told files.new name ≡ F.told files.old name }
+    ensures counted { F.faults files.old ≤ F.faults files.new }
+    ensures quiet { IsQuiet result (F.faults files.old) (F.faults files.new) }
+{
+    match read_documents(alloc, documents, files) {
+        Ok(_) => run_behind_documents(alloc, script, files),
+        Err(ending) => ending,
+    }
+}
+
+/// How a run ends whose model and documents were read.
+fn run_behind_documents<F: Files>(alloc: Global, script: &str, files: &mut F) -> Ending
+    ensures ends { EndsBehindDocuments (F.told files.old) (Rose (F.faults files.old) (F.faults files.new)) script.now result }
+    ensures printable { IsPrintable result }
+    ensures kept { (name : List ℕ) → F.told files.new name ≡ F.told files.old name }
+    ensures counted { F.faults files.old ≤ F.faults files.new }
+    ensures quiet { IsQuiet result (F.faults files.old) (F.faults files.new) }
+{
+    match read_script(alloc, script, files) {
+        Ok(_) => Ending::RunNotBuilt,
+        Err(ending) => ending,
     }
 }
 
@@ -123,17 +173,6 @@ fn file_ending(reader: Reader) -> Result<Ending, OutOfMemory>
     match reader.end() {
         Ok(documents) => Ok(Ending::Passed(documents)),
         Err(fault) => refused(fault),
-    }
-}
-
-/// The ending where a file has this fault.
-fn refused(fault: FileFault) -> Result<Ending, OutOfMemory>
-    ensures ending { IfOk result (λ ending. ending ≡ Ending.Refused fault) }
-    ensures bad { OnOk result (fault ≢ FileFault.OutOfMemory) }
-{
-    match fault {
-        FileFault::OutOfMemory => Err(OutOfMemory),
-        _ => Ok(Ending::Refused(fault)),
     }
 }
 

@@ -2,12 +2,13 @@
 //!
 //! Contract: a run has an ending whose cause stands in its words and files, or is a fault or want of memory, and it
 //! puts exactly the text of that ending; the bytes of a file have one. The definitions are in `specs/`: `Words`,
-//! `Feeding` (how far a file was read), `PassText`, `Ending`.
+//! `Feeding` (how far a file was read), `Inputs` (what `run` reads), `PassText`, `Ending`.
 #![tactic(auto)]
 
 mod document_file;
 mod ending;
 mod host;
+mod inputs;
 mod pass_text;
 mod words;
 

@@ -1,2 +1,4 @@
 -- the steps of one part after another
 mod PartLemmas
+-- what a run ensures is what it may give
+pub mod GivenLemmas

@@ -1,0 +1,140 @@
+//! What `run` reads: a model, documents and a script, each from a file of its own.
+
+ghost use Rattle.std.specs.Prelude.{◌≡◌, ◌≢◌, ℕ, ◌<◌, ◌≤◌, List, length, IsOk, OnOk, IfOk, IfErr};
+ghost use Rattle.ale_base.specs.Faults.{Rose};
+ghost use Rattle.idoc_file.specs.declared.file_fault.FileFault.{FileFault};
+ghost use Rattle.ale_host.specs.declared.ending.Ending.{Ending};
+ghost use Rattle.ale_host.specs.Ending.{IsPrintable, IsQuiet};
+ghost use Rattle.ale_host.specs.Inputs.{IsFileWithin, IsUnreadBecause, IsUnreadEnd, IsUnreadSo, SaysDocuments, SaysModelFile, SaysScript, StopsAtDocuments, StopsAtModel, StopsAtScript};
+
+use crate::document_file::read_document_file;
+use crate::ending::{Ending, NotRead};
+use ale_base::{Items, OutOfMemory};
+use ale_io::{FileEnd, Files};
+use dist_model::Model;
+use idoc_file::{FileFault, RawDoc};
+use model_text::ModelFault;
+use script_text::{Command, ScriptFault};
+use std::alloc::Global;
+
+/// The model that the file of this name says, or the ending of the run at this file.
+pub(crate) fn read_model<F: Files>(
+    alloc: Global,
+    name: &str,
+    files: &mut F,
+) -> Result<Model, Ending>
+    ensures says { IfOk result (SaysModelFile (F.told files.old name.now)) }
+    ensures stops { IfErr result (StopsAtModel name.now (F.told files.old name.now) (Rose (F.faults files.old) (F.faults files.new))) }
+    ensures printable { IfErr result IsPrintable }
+    ensures kept { (other : List ℕ) → F.told files.new other ≡ F.told files.old other }
+    ensures counted { F.faults files.old ≤ F.faults files.new }
+    ensures still { OnOk result (F.faults files.new ≡ F.faults files.old) }
+    ensures quiet { IfErr result (λ end. IsQuiet end (F.faults files.old) (F.faults files.new)) }
+{
+    let bytes = read_whole(alloc, name, model_text::MAX_BYTES, files)?;
+    match model_text::read(alloc, bytes.as_slice()) {
+        Ok(model) => Ok(model),
+        Err(ModelFault::OutOfMemory) => Err(Ending::OutOfMemory),
+        Err(fault) => Err(Ending::ModelRefused(fault)),
+    }
+}
+
+/// The documents that the file of this name says, or the ending of the run at this file.
+pub(crate) fn read_documents<F: Files>(
+    alloc: Global,
+    name: &str,
+    files: &mut F,
+) -> Result<Items<RawDoc>, Ending>
+    ensures says { IfOk result (SaysDocuments (F.told files.old name.now)) }
+    ensures stops { IfErr result (StopsAtDocuments name.now (F.told files.old name.now) (Rose (F.faults files.old) (F.faults files.new))) }
+    ensures printable { IfErr result IsPrintable }
+    ensures kept { (other : List ℕ) → F.told files.new other ≡ F.told files.old other }
+    ensures counted { F.faults files.old ≤ F.faults files.new }
+    ensures still { OnOk result (F.faults files.new ≡ F.faults files.old) }
+    ensures quiet { IfErr result (λ end. IsQuiet end (F.faults files.old) (F.faults files.new)) }
+{
+    match read_document_file(alloc, name, files) {
+        Err(end) => Err(unread(alloc, name, end)),
+        Ok(reader) => match reader.end() {
+            Ok(documents) => Ok(documents),
+            Err(fault) => match refused(fault) {
+                Ok(ending) => Err(ending),
+                Err(OutOfMemory) => Err(Ending::OutOfMemory),
+            },
+        },
+    }
+}
+
+/// The ending where a file has this fault.
+pub(crate) fn refused(fault: FileFault) -> Result<Ending, OutOfMemory>
+    ensures ending { IfOk result (λ ending. ending ≡ Ending.Refused fault) }
+    ensures bad { OnOk result (fault ≢ FileFault.OutOfMemory) }
+{
+    match fault {
+        FileFault::OutOfMemory => Err(OutOfMemory),
+        _ => Ok(Ending::Refused(fault)),
+    }
+}
+
+/// The commands that the file of this name says, or the ending of the run at this file.
+pub(crate) fn read_script<F: Files>(
+    alloc: Global,
+    name: &str,
+    files: &mut F,
+) -> Result<Items<Command>, Ending>
+    ensures says { IfOk result (SaysScript (F.told files.old name.now)) }
+    ensures stops { IfErr result (StopsAtScript name.now (F.told files.old name.now) (Rose (F.faults files.old) (F.faults files.new))) }
+    ensures printable { IfErr result IsPrintable }
+    ensures kept { (other : List ℕ) → F.told files.new other ≡ F.told files.old other }
+    ensures counted { F.faults files.old ≤ F.faults files.new }
+    ensures still { OnOk result (F.faults files.new ≡ F.faults files.old) }
+    ensures quiet { IfErr result (λ end. IsQuiet end (F.faults files.old) (F.faults files.new)) }
+{
+    let bytes = read_whole(alloc, name, script_text::MAX_BYTES, files)?;
+    match script_text::read(alloc, bytes.as_slice()) {
+        Ok(commands) => Ok(commands),
+        Err(ScriptFault::OutOfMemory) => Err(Ending::OutOfMemory),
+        Err(fault) => Err(Ending::ScriptRefused(fault)),
+    }
+}
+
+/// The bytes of the file of this name, which are not more than the limit, or the ending where it is not read.
+fn read_whole<F: Files>(
+    alloc: Global,
+    name: &str,
+    most: usize,
+    files: &mut F,
+) -> Result<Vec<u8>, Ending>
+    ensures says { IfOk result (λ bytes. IsFileWithin most (F.told files.old name.now) bytes.items) }
+    ensures stops { IfErr result (IsUnreadEnd most name.now (F.told files.old name.now) (Rose (F.faults files.old) (F.faults files.new))) }
+    ensures kept { (other : List ℕ) → F.told files.new other ≡ F.told files.old other }
+    ensures counted { F.faults files.old ≤ F.faults files.new }
+    ensures still { OnOk result (F.faults files.new ≡ F.faults files.old) }
+{
+    let mut bytes = Vec::new(alloc);
+    match files.read_file(name, most, &mut bytes) {
+        Ok(()) => Ok(bytes),
+        Err(end) => Err(unread(alloc, name, end)),
+    }
+}
+
+/// The ending where the file of this name is not read so.
+fn unread(alloc: Global, name: &str, end: FileEnd) -> Ending
+    ensures { IsUnreadSo name.now end result }
+{
+    match end {
+        FileEnd::Missing => unread_because(alloc, name, NotRead::Missing),
+        FileEnd::TooLong => unread_because(alloc, name, NotRead::TooLong),
+        FileEnd::Failed => unread_because(alloc, name, NotRead::Failed),
+        FileEnd::OutOfMemory => Ending::OutOfMemory,
+    }
+}
+
+fn unread_because(alloc: Global, name: &str, why: NotRead) -> Ending
+    ensures { IsUnreadBecause name.now why result }
+{
+    match Items::from_slice(alloc, name.as_bytes()) {
+        Ok(name) => Ending::Unread(name, why),
+        Err(_) => Ending::OutOfMemory,
+    }
+}
