@@ -1,8 +1,8 @@
 -- Lists: what holds of each element, keys that stand once, and elements by their places.
-use Rattle.std.specs.Prelude.{not, slice_get, slice_index_or, Contains}
+use Rattle.std.specs.Prelude.{not, slice_get, slice_set, slice_index_or, Contains}
 use Rattle.std.specs.Bool.{MatchBool}
 use Rattle.std.specs.List.{AllByRecursion, AllWithin, HoldsAt, IsDistinct, list_all, flat_map}
-use Rattle.std.proofs.Common.{◌≡◌, ◌↔◌, ◌⊎◌, inl, inr, ℕ, zero, suc, ◌<◌, Bool, true, false, Some, List, [], ◌∷◌, ◌++◌, length, drop, map, refl, subst, arith}
+use Rattle.std.proofs.Common.{◌≡◌, ◌↔◌, ◌⊎◌, inl, inr, ℕ, zero, suc, ◌<◌, Bool, true, false, Some, List, [], ◌∷◌, ◌++◌, length, drop, map, refl, subst, arith, ◌≢◌, ap}
 use Rattle.std.proofs.lemmas.Bool.{false≢true, and_parts, not-true}
 use Rattle.std.proofs.lemmas.Option.{same_Some, slice_get_within, get_or_from_slice_get}
 use Rattle.std.proofs.lemmas.List.Concat.{flat_map-cons}
@@ -126,3 +126,17 @@ drop-first zero [] ys x cut = absurd (cc)
 drop-first zero (y ∷ xs) ys x cut = (cc, cc)
 drop-first (suc n) [] ys x cut = absurd (cc)
 drop-first (suc n) (y ∷ xs) ys x cut = drop-first n xs ys x cut
+
+-- what was written at a place stands there
+pub slice_get-set : {A : Type 0} (xs : List A) (k : ℕ) (x y : A) → slice_get xs k ≡ Some x → slice_get (slice_set xs k y) k ≡ Some y
+slice_get-set [] k x y here = cc
+slice_get-set (z ∷ zs) zero x y here = refl
+slice_get-set (z ∷ zs) (suc k) x y here = slice_get-set zs k x y here
+
+-- all other places are as before
+pub slice_get-set_other : {A : Type 0} (xs : List A) (k j : ℕ) (y : A) → j ≢ k → slice_get (slice_set xs k y) j ≡ slice_get xs j
+slice_get-set_other [] k j y other = refl
+slice_get-set_other (z ∷ zs) zero zero y other = absurd (other refl)
+slice_get-set_other (z ∷ zs) zero (suc j) y other = refl
+slice_get-set_other (z ∷ zs) (suc k) zero y other = refl
+slice_get-set_other (z ∷ zs) (suc k) (suc j) y other = slice_get-set_other zs k j y (λ same. other (ap suc same))

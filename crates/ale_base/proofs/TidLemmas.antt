@@ -1,11 +1,11 @@
 -- Lemmas on the spelling of transaction ids.
 use Rattle.std.specs.Cmp.Lexicographic.{bytes_decides}
-use Rattle.std.proofs.Common.{◌≡◌, ℕ, ◌≤◌, nat_le, ◌&&◌, true, List, Option, Some, None, length, take, drop, refl, sym, subst, ap, ◌∙◌, arith}
-use Rattle.std.proofs.lemmas.Bool.{leb-true, le-leb, and_parts, and_from}
+use Rattle.std.proofs.Common.{◌≡◌, ℕ, ◌≤◌, nat_le, ◌&&◌, true, List, Option, Some, None, length, take, drop, refl, sym, subst, ap, ◌∙◌, arith, eqb, inl, inr}
+use Rattle.std.proofs.lemmas.Bool.{leb-true, le-leb, and_parts, and_from, cases_eq, eq-eqb, ne_eqb}
 use Rattle.std.proofs.lemmas.Option.{cond_some}
 use Rattle.ale_base.specs.Hexadecimal.{digits_of, number_of}
 use Rattle.ale_base.specs.Text.{is_text}
-use Rattle.ale_base.specs.Tid.{TidOf, IsTid, spelling, has_range, tid_of}
+use Rattle.ale_base.specs.Tid.{TidOf, IsTid, is_tid, spelling, has_range, tid_of}
 use Rattle.ale_base.proofs.HexadecimalLemmas.{number_of-digits_of}
 
 take-spelling : (tid : TidOf) → take 8 (spelling tid) ≡ digits_of 8 tid.system
@@ -83,3 +83,16 @@ same_tid bytes None reads spelled =
     no_tid : (o : Option TidOf) → ((id : TidOf) → o ≡ Some id → ⊥) → o ≡ None
     no_tid (Some id) never = absurd (never id refl)
     no_tid None never = refl
+
+eqb_turned : (a b : ℕ) → eqb a b ≡ eqb b a
+eqb_turned a b =
+    elim (cases_eq a b) [
+      | inl same ↦ eq-eqb a b same ∙ sym (eq-eqb b a (sym same))
+      | inr differs ↦ ne_eqb a b differs ∙ sym (ne_eqb b a (λ same. differs (sym same)))
+    ]
+
+-- whether two ids are the same does not mind their order
+pub is_tid-turned : (a b : TidOf) → is_tid a b ≡ is_tid b a
+is_tid-turned a b =
+    ap (λ t. t && eqb a.unit b.unit) (eqb_turned a.system b.system)
+    ∙ ap (λ t. eqb b.system a.system && t) (eqb_turned a.unit b.unit)

@@ -7,8 +7,8 @@ use crate::hexadecimal::{number_of, put_digits};
 use std::marker::Model;
 
 /// The transaction id of a unit of work: the system that committed it, and its number there, from 1 to 65,536.
-/// Contracts see both numbers.
-#[derive(Clone, Copy, Debug, PartialEq, Eq)]
+/// Contracts see both numbers. Ids are in the order of their systems, and of their numbers there.
+#[derive(Clone, Copy, Debug, PartialEq, Eq, PartialOrd, Ord)]
 pub struct Tid {
     system: SystemNo,
     unit: u32,

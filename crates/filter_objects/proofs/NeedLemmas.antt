@@ -7,6 +7,7 @@ use Rattle.std.proofs.lemmas.Bool.Decides.{eqb_tells}
 use Rattle.std.proofs.lemmas.List.{get_or-replicate, length-replicate, length-set, take_more}
 use Rattle.std.proofs.lemmas.Option.{same_Some, slice_get-get_or, slice_get_past, slice_get_within}
 use Rattle.ale_base.proofs.MemberLemmas.{filter-kept, filter-left_out}
+use Rattle.ale_base.proofs.ListLemmas.{slice_get-set, slice_get-set_other}
 use Rattle.ale_base.proofs.OptionLemmas.{none_or_some}
 use Rattle.segment_defs.specs.declared.definitions.Definitions.{Definitions}
 use Rattle.segment_defs.specs.declared.idoc_type.TypePlace.{TypePlace}
@@ -23,18 +24,6 @@ use Rattle.filter_objects.specs.FromLeaves.{is_needed, needs, united}
 use Rattle.filter_objects.specs.steps.Conditions.{HasDefinition}
 use Rattle.filter_objects.specs.steps.Needs.{needs_at, needed_below, AreBelow, IsAdded, AreNeeds}
 use Rattle.filter_objects.proofs.SameLemmas.{united-same}
-
-slice_get-set : {A : Type 0} (xs : List A) (k : ℕ) (x y : A) → slice_get xs k ≡ Some x → slice_get (slice_set xs k y) k ≡ Some y
-slice_get-set [] k x y here = cc
-slice_get-set (z ∷ zs) zero x y here = refl
-slice_get-set (z ∷ zs) (suc k) x y here = slice_get-set zs k x y here
-
-slice_get-set_other : {A : Type 0} (xs : List A) (k j : ℕ) (y : A) → j ≢ k → slice_get (slice_set xs k y) j ≡ slice_get xs j
-slice_get-set_other [] k j y other = refl
-slice_get-set_other (z ∷ zs) zero zero y other = absurd (other refl)
-slice_get-set_other (z ∷ zs) zero (suc j) y other = refl
-slice_get-set_other (z ∷ zs) (suc k) zero y other = refl
-slice_get-set_other (z ∷ zs) (suc k) (suc j) y other = slice_get-set_other zs k j y (λ same. other (ap suc same))
 
 module _ (place : ℕ) (entry : TypePlace) where
   abbrev with_entry : ℕ → List TypePlace → List TypePlace

@@ -8,6 +8,7 @@ use Rattle.std.proofs.lemmas.List.Sums.{fold_push}
 use Rattle.std.proofs.lemmas.List.Folds.{list_any-append}
 use Rattle.std.proofs.lemmas.List.Elements.{filter-append}
 use Rattle.ale_base.specs.Tid.{TidOf, is_tid}
+use Rattle.ale_base.proofs.TidLemmas.{is_tid-turned}
 use Rattle.ale_base.specs.declared.mark.Mark.{Mark as Cause}
 use Rattle.ale_base.specs.declared.mark.Mark.TheVariants.{Sysfail}
 use Rattle.ale_base.specs.declared.way.Way.{Way}
@@ -58,19 +59,6 @@ map-kept p f g (x ∷ xs) agree =
 map-map : {X Y Z : Type 0} (g : Y → Z) (f : X → Y) (xs : List X) → map g (map f xs) ≡ map (λ x. g (f x)) xs
 map-map g f [] = refl
 map-map g f (x ∷ xs) = ap (λ zs. g (f x) ∷ zs) (map-map g f xs)
-
-eqb_turned : (a b : ℕ) → eqb a b ≡ eqb b a
-eqb_turned a b =
-    elim (cases_eq a b) [
-      | inl same ↦ eq-eqb a b same ∙ sym (eq-eqb b a (sym same))
-      | inr differs ↦ ne_eqb a b differs ∙ sym (ne_eqb b a (λ same. differs (sym same)))
-    ]
-
--- the test does not mind the order of the ids
-is_tid-turned : (a b : TidOf) → is_tid a b ≡ is_tid b a
-is_tid-turned a b =
-    ap (λ t. t && eqb a.unit b.unit) (eqb_turned a.system b.system)
-    ∙ ap (λ t. eqb b.system a.system && t) (eqb_turned a.unit b.unit)
 
 -- ---- one more record
 

@@ -8,6 +8,7 @@ use Rattle.std.proofs.Common.{◌≡◌, ◌&&◌, ◌||◌, not, ℕ, eqb, Bool
 use Rattle.std.proofs.Common.{arith}
 use Rattle.std.proofs.lemmas.Bool.{cases_order, cases_eq, lt-ltb, le-ltb, eq-eqb, ne_eqb}
 use Rattle.ale_base.specs.Tid.{TidOf, is_tid}
+use Rattle.ale_base.proofs.TidLemmas.{is_tid-turned}
 use Rattle.unit_core.specs.Queues.{is_listed}
 use Rattle.tid_table.specs.Numbers.{tid_of}
 
@@ -25,13 +26,6 @@ equal_numbers a b =
       ]
     ]
 
-eqb_turned : (a b : ℕ) → eqb a b ≡ eqb b a
-eqb_turned a b =
-    elim (cases_eq a b) [
-      | inl same ↦ eq-eqb a b same ∙ sym (eq-eqb b a (sym same))
-      | inr differs ↦ ne_eqb a b differs ∙ sym (ne_eqb b a (λ same. differs (sym same)))
-    ]
-
 equal_both : (a b : Ordering) → is_eq (ordering_then a b) ≡ (is_eq a && is_eq b)
 equal_both Less b = refl
 equal_both Equal b = refl
@@ -43,12 +37,6 @@ equal-is_tid first second =
     equal_both (nat_cmp first.0 second.0) (nat_cmp first.1 second.1)
     ∙ ap (λ b. b && is_eq (nat_cmp first.1 second.1)) (equal_numbers first.0 second.0)
     ∙ ap (λ b. eqb first.0 second.0 && b) (equal_numbers first.1 second.1)
-
--- the test does not mind the order of the ids
-pub is_tid-turned : (a b : TidOf) → is_tid a b ≡ is_tid b a
-is_tid-turned a b =
-    ap (λ t. t && eqb a.unit b.unit) (eqb_turned a.system b.system)
-    ∙ ap (λ t. eqb b.system a.system && t) (eqb_turned a.unit b.unit)
 
 -- an id is among those of some numbers exactly where its own numbers are found
 pub found-is_listed : (asked : ℕ × ℕ) (keys : List (ℕ × ℕ)) → list_any (is_at (numbers_cmp asked)) keys ≡ is_listed (tid_of asked) (map tid_of keys)

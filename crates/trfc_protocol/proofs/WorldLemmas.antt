@@ -4,24 +4,13 @@ use Rattle.std.proofs.Common.{◌≡◌, ◌≢◌, ℕ, zero, suc, ◌-◌, ◌
 use Rattle.std.proofs.lemmas.Bool.{cases_eq}
 use Rattle.std.proofs.lemmas.List.{length-set}
 use Rattle.std.proofs.lemmas.Option.{same_Some, slice_get_within}
+use Rattle.ale_base.proofs.ListLemmas.{slice_get-set, slice_get-set_other}
 use Rattle.unit_core.specs.declared.records.Record.{Record}
 use Rattle.unit_core.proofs.OnceLemmas.{Joins}
 use Rattle.trfc_protocol.specs.declared.world.World.{World}
 use Rattle.trfc_protocol.specs.declared.world.SystemState.{SystemState}
 use Rattle.trfc_protocol.specs.Meaning.{Meaning}
 use Rattle.trfc_protocol.specs.Worlds.{state_of, log_or_none, rest_or_none, up_or_not, log_with, log_found, log_of, is_up, offers_at, offers_now, with_state_at, with_state, without_claim}
-
-slice_get-set : {A : Type 0} (xs : List A) (k : ℕ) (x y : A) → slice_get xs k ≡ Some x → slice_get (slice_set xs k y) k ≡ Some y
-slice_get-set [] k x y here = cc
-slice_get-set (z ∷ zs) zero x y here = refl
-slice_get-set (z ∷ zs) (suc k) x y here = slice_get-set zs k x y here
-
-slice_get-set_other : {A : Type 0} (xs : List A) (k j : ℕ) (y : A) → j ≢ k → slice_get (slice_set xs k y) j ≡ slice_get xs j
-slice_get-set_other [] k j y other = refl
-slice_get-set_other (z ∷ zs) zero zero y other = absurd (other refl)
-slice_get-set_other (z ∷ zs) zero (suc j) y other = refl
-slice_get-set_other (z ∷ zs) (suc k) zero y other = refl
-slice_get-set_other (z ∷ zs) (suc k) (suc j) y other = slice_get-set_other zs k j y (λ same. other (ap suc same))
 
 -- an element is written where it was
 pub slice_set-same : {A : Type 0} (xs : List A) (k : ℕ) (x y : A) → slice_get xs k ≡ Some x → y ≡ x → slice_set xs k y ≡ xs
