@@ -4,7 +4,11 @@
 pub mod UnitLemmas
 -- a unit is offered exactly where nothing speaks against it
 pub mod OfferedLemmas
--- what each record of a log does to its queues
+-- what each record of a log does to queues over some units
 pub mod LogQueuesLemmas
+-- what each record of a log does to its queues
+pub mod RecordLemmas
+-- which unit is offered, by the log
+pub mod GoesLemmas
 -- the bound of a finish, by an example
 pub mod LooksExample

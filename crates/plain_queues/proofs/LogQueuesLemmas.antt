@@ -1,8 +1,8 @@
--- What each record of a log does to its queues, in either direction.
+-- What each record of a log does to queues over some units, in either direction. `RecordLemmas` says it of those of the log.
 use Rattle.std.specs.Prelude.{filter, not, ◌&&◌, ◌||◌}
 use Rattle.std.specs.List.{AllByRecursion}
-use Rattle.std.proofs.Common.{◌≡◌, ℕ, eqb, Bool, true, false, cond, Option, Some, None, List, [], ◌∷◌, ◌++◌, map, inl, inr, refl, sym, ap, ◌∙◌, append_assoc}
-use Rattle.std.proofs.lemmas.Bool.{cases_Bool, not-true, or_parts, cond-true, cond-false, eq-eqb, ne_eqb, cases_eq}
+use Rattle.std.proofs.Common.{◌≡◌, ℕ, Bool, true, false, cond, Option, Some, None, List, [], ◌∷◌, ◌++◌, map, inl, inr, refl, sym, ap, ◌∙◌, append_assoc}
+use Rattle.std.proofs.lemmas.Bool.{cases_Bool, not-true, or_parts, cond-true, cond-false}
 use Rattle.std.proofs.lemmas.List.{map-append, append-nil}
 use Rattle.std.proofs.lemmas.List.Sums.{fold_push}
 use Rattle.std.proofs.lemmas.List.Folds.{list_any-append}
@@ -27,7 +27,7 @@ use Rattle.plain_queues.specs.declared.queued_unit.QueuedUnit.{QueuedUnit}
 use Rattle.plain_queues.specs.Keys.{is_key, has_key}
 use Rattle.plain_queues.specs.Queues.{QueuesOf, is_stopped}
 use Rattle.plain_queues.specs.Changes.{added, changed_if, new_unit, claimed, released, marked, retried, finished, Stops, Starts}
-use Rattle.plain_queues.specs.LogQueues.{through, through_by, keys_of, queued, AreQueuesOf, added_all, IsNew, LeavesMarks, LeavesStops, LeavesQueues, Claims, SetsMark, is_silent}
+use Rattle.plain_queues.specs.LogQueues.{through, through_by, keys_of, queued, AreQueuesOver, added_all, IsNew, LeavesMarks, LeavesStops, LeavesQueues, Claims, SetsMark, is_silent}
 
 -- ---- lists
 
@@ -84,8 +84,8 @@ queued_as : (way : Way) (unit : AleUnit) (claim : Option ℕ) (mark : Option Cau
 queued_as way unit claim mark log claims of_claims of_marks = λ i. record { tid = unit.tid; keys = keys_of way unit; claim = of_claims i; mark = of_marks i }
 
 -- a log of no records has no queues, where nothing was committed
-pub AreQueuesOf-nothing : (way : Way) (claims : TidOf → Option ℕ) → AreQueuesOf way [] [] claims (record { units = []; stops = [] })
-AreQueuesOf-nothing way claims = record { units = refl; stops = λ key. refl }
+pub AreQueuesOver-nothing : (way : Way) (claims : TidOf → Option ℕ) → AreQueuesOver way [] [] claims (record { units = []; stops = [] })
+AreQueuesOver-nothing way claims = record { units = refl; stops = λ key. refl }
 
 stops-stay : (way : Way) (log : List Record) (next : Record) (queues : QueuesOf) → LeavesStops way next
     → ((key : QueueKey) → is_stopped key queues ≡ is_stopped_by way key.partner key.name log)
@@ -103,9 +103,9 @@ units-stay way all log next claims none leaves =
     ∙ ap (λ tids. map (queued way (log ++ next ∷ []) claims) (filter (is_outstanding tids) all)) (sym (through-none way log next none))
 
 -- a record that says nothing of the queues leaves them
-pub AreQueuesOf-other : (way : Way) (all : List AleUnit) (log : List Record) (next : Record) (claims : TidOf → Option ℕ) (queues : QueuesOf)
-    → LeavesQueues way next → AreQueuesOf way all log claims queues → AreQueuesOf way all (log ++ next ∷ []) claims queues
-AreQueuesOf-other way all log next claims queues leaves are = record {
+pub AreQueuesOver-other : (way : Way) (all : List AleUnit) (log : List Record) (next : Record) (claims : TidOf → Option ℕ) (queues : QueuesOf)
+    → LeavesQueues way next → AreQueuesOver way all log claims queues → AreQueuesOver way all (log ++ next ∷ []) claims queues
+AreQueuesOver-other way all log next claims queues leaves are = record {
   units = are.units ∙ units-stay way all log next claims leaves.none_through leaves.marks;
   stops = stops-stay way log next queues leaves.stops are.stops;
 }
@@ -140,9 +140,9 @@ new-then way log next claims unit leaves new = record {
 }
 
 -- new units are added behind all others, in order: those of a Commit or a Dispatch, the one of an Accept
-pub AreQueuesOf-added : (way : Way) (all more : List AleUnit) (log : List Record) (claims : TidOf → Option ℕ) (queues : QueuesOf)
-    → AllByRecursion (IsNew way log claims) more → AreQueuesOf way all log claims queues → AreQueuesOf way (all ++ more) log claims (added_all way more queues)
-AreQueuesOf-added way all more log claims queues new are = record {
+pub AreQueuesOver-added : (way : Way) (all more : List AleUnit) (log : List Record) (claims : TidOf → Option ℕ) (queues : QueuesOf)
+    → AllByRecursion (IsNew way log claims) more → AreQueuesOver way all log claims queues → AreQueuesOver way (all ++ more) log claims (added_all way more queues)
+AreQueuesOver-added way all more log claims queues new are = record {
   units = added-units way more queues
       ∙ ap (λ us. us ++ map (λ (unit : AleUnit). new_unit unit.tid (keys_of way unit)) more) are.units
       ∙ ap (λ us. map (queued way log claims) (filter (is_outstanding (through way log)) all) ++ us) (new-kept way log claims more new)
@@ -166,10 +166,10 @@ outstanding-push tids tid unit =
     ∙ ap (λ b. is_outstanding tids unit && not b) (is_tid-turned tid unit.tid)
 
 -- a record that brings a unit through finishes it: a Done of an outbound one, an Execute of an inbound one
-pub AreQueuesOf-through : (way : Way) (all : List AleUnit) (log : List Record) (next : Record) (tid : TidOf) (claims after : TidOf → Option ℕ) (queues : QueuesOf)
+pub AreQueuesOver-through : (way : Way) (all : List AleUnit) (log : List Record) (next : Record) (tid : TidOf) (claims after : TidOf → Option ℕ) (queues : QueuesOf)
     → through_by way next ≡ Some tid → LeavesMarks way next → LeavesStops way next → Claims tid None claims after
-    → AreQueuesOf way all log claims queues → AreQueuesOf way all (log ++ next ∷ []) after (finished tid queues)
-AreQueuesOf-through way all log next tid claims after queues brings leaves_marks leaves_stops change are =
+    → AreQueuesOver way all log claims queues → AreQueuesOver way all (log ++ next ∷ []) after (finished tid queues)
+AreQueuesOver-through way all log next tid claims after queues brings leaves_marks leaves_stops change are =
     let open_ = is_outstanding (through way log) in
     let other = λ (unit : AleUnit). not (is_tid unit.tid tid) in
     record {
@@ -209,9 +209,9 @@ goes_at_once tids unit =
     and_false false = refl
 
 -- a Direct leaves the inbound queues: its unit is received and executed at once
-pub AreQueuesOf-direct : (all : List AleUnit) (log : List Record) (unit : AleUnit) (claims : TidOf → Option ℕ) (queues : QueuesOf) → is_among unit.tid all ≡ false
-    → AreQueuesOf Incoming all log claims queues → AreQueuesOf Incoming (all ++ unit ∷ []) (log ++ Direct unit ∷ []) claims queues
-AreQueuesOf-direct all log unit claims queues new are =
+pub AreQueuesOver-direct : (all : List AleUnit) (log : List Record) (unit : AleUnit) (claims : TidOf → Option ℕ) (queues : QueuesOf) → is_among unit.tid all ≡ false
+    → AreQueuesOver Incoming all log claims queues → AreQueuesOver Incoming (all ++ unit ∷ []) (log ++ Direct unit ∷ []) claims queues
+AreQueuesOver-direct all log unit claims queues new are =
     let tids = through Incoming log in
     record {
       units = are.units
@@ -257,9 +257,9 @@ changed-units way all log later claims after claim mark tid same becomes =
     ∙ ap (λ tids. map (queued way later after) (filter (is_outstanding tids) all)) (sym same)
 
 -- a claim is no record: the log stays, and the unit is claimed
-pub AreQueuesOf-claimed : (way : Way) (all : List AleUnit) (log : List Record) (tid : TidOf) (number : ℕ) (claims after : TidOf → Option ℕ) (queues : QueuesOf)
-    → Claims tid (Some number) claims after → AreQueuesOf way all log claims queues → AreQueuesOf way all log after (claimed number tid queues)
-AreQueuesOf-claimed way all log tid number claims after queues change are = record {
+pub AreQueuesOver-claimed : (way : Way) (all : List AleUnit) (log : List Record) (tid : TidOf) (number : ℕ) (claims after : TidOf → Option ℕ) (queues : QueuesOf)
+    → Claims tid (Some number) claims after → AreQueuesOver way all log claims queues → AreQueuesOver way all log after (claimed number tid queues)
+AreQueuesOver-claimed way all log tid number claims after queues change are = record {
   units = ap (map (changed_if (λ (u : QueuedUnit). record u { claim = Some number }) tid)) are.units
       ∙ changed-units way all log log claims after (λ claim. Some number) (λ mark. mark) tid refl
       (record { its_claim = change.its; other_claims = change.others; its_mark = λ other its. refl; other_marks = λ other differs. refl });
@@ -267,9 +267,9 @@ AreQueuesOf-claimed way all log tid number claims after queues change are = reco
 }
 
 -- a claim is given up: the log stays, and the unit is released
-pub AreQueuesOf-released : (way : Way) (all : List AleUnit) (log : List Record) (tid : TidOf) (claims after : TidOf → Option ℕ) (queues : QueuesOf)
-    → Claims tid None claims after → AreQueuesOf way all log claims queues → AreQueuesOf way all log after (released tid queues)
-AreQueuesOf-released way all log tid claims after queues change are = record {
+pub AreQueuesOver-released : (way : Way) (all : List AleUnit) (log : List Record) (tid : TidOf) (claims after : TidOf → Option ℕ) (queues : QueuesOf)
+    → Claims tid None claims after → AreQueuesOver way all log claims queues → AreQueuesOver way all log after (released tid queues)
+AreQueuesOver-released way all log tid claims after queues change are = record {
   units = ap (map (changed_if (λ (u : QueuedUnit). record u { claim = None }) tid)) are.units
       ∙ changed-units way all log log claims after (λ claim. None) (λ mark. mark) tid refl
       (record { its_claim = change.its; other_claims = change.others; its_mark = λ other its. refl; other_marks = λ other differs. refl });
@@ -289,11 +289,11 @@ sets-other way log next tid mark sets other differs =
     ∙ cond-false (is_tid tid other) mark (mark_of way other log) (is_tid-turned tid other ∙ differs)
 
 -- a record that marks a unit releases and marks it: a Mark of an outbound one, a Fail of an inbound one
-pub AreQueuesOf-marked : (way : Way) (all : List AleUnit) (log : List Record) (next : Record) (tid : TidOf) (cause : Cause) (claims after : TidOf → Option ℕ) (queues : QueuesOf)
+pub AreQueuesOver-marked : (way : Way) (all : List AleUnit) (log : List Record) (next : Record) (tid : TidOf) (cause : Cause) (claims after : TidOf → Option ℕ) (queues : QueuesOf)
     → through_by way next ≡ None → SetsMark way next tid (Some cause) → LeavesStops way next → Claims tid None claims after
-    → AreQueuesOf way all log claims queues → AreQueuesOf way all (log ++ next ∷ []) after (marked cause tid queues)
-AreQueuesOf-marked way all log next tid cause claims after queues none sets leaves change are =
-    let freed = AreQueuesOf-released way all log tid claims after queues change are in
+    → AreQueuesOver way all log claims queues → AreQueuesOver way all (log ++ next ∷ []) after (marked cause tid queues)
+AreQueuesOver-marked way all log next tid cause claims after queues none sets leaves change are =
+    let freed = AreQueuesOver-released way all log tid claims after queues change are in
     record {
       units = ap (map (changed_if (λ (u : QueuedUnit). record u { mark = Some cause }) tid)) freed.units
           ∙ changed-units way all log (log ++ next ∷ []) after after (λ claim. claim) (λ mark. Some cause) tid (through-none way log next none)
@@ -307,10 +307,10 @@ AreQueuesOf-marked way all log next tid cause claims after queues none sets leav
     }
 
 -- a Retry of this direction removes the mark
-pub AreQueuesOf-retried : (way : Way) (all : List AleUnit) (log : List Record) (next : Record) (tid : TidOf) (claims : TidOf → Option ℕ) (queues : QueuesOf)
+pub AreQueuesOver-retried : (way : Way) (all : List AleUnit) (log : List Record) (next : Record) (tid : TidOf) (claims : TidOf → Option ℕ) (queues : QueuesOf)
     → through_by way next ≡ None → SetsMark way next tid None → LeavesStops way next
-    → AreQueuesOf way all log claims queues → AreQueuesOf way all (log ++ next ∷ []) claims (retried tid queues)
-AreQueuesOf-retried way all log next tid claims queues none sets leaves are = record {
+    → AreQueuesOver way all log claims queues → AreQueuesOver way all (log ++ next ∷ []) claims (retried tid queues)
+AreQueuesOver-retried way all log next tid claims queues none sets leaves are = record {
   units = ap (map (changed_if (λ (u : QueuedUnit). record u { mark = None }) tid)) are.units
       ∙ changed-units way all log (log ++ next ∷ []) claims claims (λ claim. claim) (λ mark. None) tid (through-none way log next none)
       (record {
@@ -358,10 +358,10 @@ unsets true r = refl
 unsets false r = refl
 
 -- a Stop of this direction stops the queue
-pub AreQueuesOf-stopped : (way : Way) (all : List AleUnit) (log : List Record) (destination : ℕ) (name : List ℕ) (claims : TidOf → Option ℕ) (queues after : QueuesOf)
-    → Stops (record { partner = destination; name = name }) queues after → AreQueuesOf way all log claims queues
-    → AreQueuesOf way all (log ++ Stop way destination name ∷ []) claims after
-AreQueuesOf-stopped way all log destination name claims queues after stops are =
+pub AreQueuesOver-stopped : (way : Way) (all : List AleUnit) (log : List Record) (destination : ℕ) (name : List ℕ) (claims : TidOf → Option ℕ) (queues after : QueuesOf)
+    → Stops (record { partner = destination; name = name }) queues after → AreQueuesOver way all log claims queues
+    → AreQueuesOver way all (log ++ Stop way destination name ∷ []) claims after
+AreQueuesOver-stopped way all log destination name claims queues after stops are =
     let key_of : QueueKey = record { partner = destination; name = name } in
     record {
       units = stops.units ∙ are.units ∙ units-stay way all log (Stop way destination name) claims (stop-none way destination name) (stop-marks way destination name);
@@ -374,10 +374,10 @@ AreQueuesOf-stopped way all log destination name claims queues after stops are =
     }
 
 -- a Start of this direction starts it
-pub AreQueuesOf-started : (way : Way) (all : List AleUnit) (log : List Record) (destination : ℕ) (name : List ℕ) (claims : TidOf → Option ℕ) (queues after : QueuesOf)
-    → Starts (record { partner = destination; name = name }) queues after → AreQueuesOf way all log claims queues
-    → AreQueuesOf way all (log ++ Start way destination name ∷ []) claims after
-AreQueuesOf-started way all log destination name claims queues after starts are =
+pub AreQueuesOver-started : (way : Way) (all : List AleUnit) (log : List Record) (destination : ℕ) (name : List ℕ) (claims : TidOf → Option ℕ) (queues after : QueuesOf)
+    → Starts (record { partner = destination; name = name }) queues after → AreQueuesOver way all log claims queues
+    → AreQueuesOver way all (log ++ Start way destination name ∷ []) claims after
+AreQueuesOver-started way all log destination name claims queues after starts are =
     let key_of : QueueKey = record { partner = destination; name = name } in
     record {
       units = starts.units ∙ are.units ∙ units-stay way all log (Start way destination name) claims (start-none way destination name) (start-marks way destination name);
@@ -392,52 +392,52 @@ AreQueuesOf-started way all log destination name claims queues after starts are 
 -- ---- the records of each kind
 
 -- a Done is the end of an outbound unit, an Execute that of an inbound one
-pub AreQueuesOf-Done : (all : List AleUnit) (log : List Record) (tid : TidOf) (claims after : TidOf → Option ℕ) (queues : QueuesOf)
-    → Claims tid None claims after → AreQueuesOf Outgoing all log claims queues → AreQueuesOf Outgoing all (log ++ Done tid ∷ []) after (finished tid queues)
-AreQueuesOf-Done all log tid claims after queues change are =
-    AreQueuesOf-through Outgoing all log (Done tid) tid claims after queues refl (λ other before. refl) (λ destination name before. refl) change are
+pub AreQueuesOver-Done : (all : List AleUnit) (log : List Record) (tid : TidOf) (claims after : TidOf → Option ℕ) (queues : QueuesOf)
+    → Claims tid None claims after → AreQueuesOver Outgoing all log claims queues → AreQueuesOver Outgoing all (log ++ Done tid ∷ []) after (finished tid queues)
+AreQueuesOver-Done all log tid claims after queues change are =
+    AreQueuesOver-through Outgoing all log (Done tid) tid claims after queues refl (λ other before. refl) (λ destination name before. refl) change are
 
-pub AreQueuesOf-Execute : (all : List AleUnit) (log : List Record) (tid : TidOf) (claims after : TidOf → Option ℕ) (queues : QueuesOf)
-    → Claims tid None claims after → AreQueuesOf Incoming all log claims queues → AreQueuesOf Incoming all (log ++ Execute tid ∷ []) after (finished tid queues)
-AreQueuesOf-Execute all log tid claims after queues change are =
-    AreQueuesOf-through Incoming all log (Execute tid) tid claims after queues refl (λ other before. refl) (λ destination name before. refl) change are
+pub AreQueuesOver-Execute : (all : List AleUnit) (log : List Record) (tid : TidOf) (claims after : TidOf → Option ℕ) (queues : QueuesOf)
+    → Claims tid None claims after → AreQueuesOver Incoming all log claims queues → AreQueuesOver Incoming all (log ++ Execute tid ∷ []) after (finished tid queues)
+AreQueuesOver-Execute all log tid claims after queues change are =
+    AreQueuesOver-through Incoming all log (Execute tid) tid claims after queues refl (λ other before. refl) (λ destination name before. refl) change are
 
 -- a Mark marks an outbound unit, a Fail an inbound one
-pub AreQueuesOf-Mark : (all : List AleUnit) (log : List Record) (tid : TidOf) (cause : Cause) (claims after : TidOf → Option ℕ) (queues : QueuesOf)
-    → Claims tid None claims after → AreQueuesOf Outgoing all log claims queues → AreQueuesOf Outgoing all (log ++ Mark tid cause ∷ []) after (marked cause tid queues)
-AreQueuesOf-Mark all log tid cause claims after queues change are =
-    AreQueuesOf-marked Outgoing all log (Mark tid cause) tid cause claims after queues refl (record { marks = λ other before. refl }) (λ destination name before. refl) change are
+pub AreQueuesOver-Mark : (all : List AleUnit) (log : List Record) (tid : TidOf) (cause : Cause) (claims after : TidOf → Option ℕ) (queues : QueuesOf)
+    → Claims tid None claims after → AreQueuesOver Outgoing all log claims queues → AreQueuesOver Outgoing all (log ++ Mark tid cause ∷ []) after (marked cause tid queues)
+AreQueuesOver-Mark all log tid cause claims after queues change are =
+    AreQueuesOver-marked Outgoing all log (Mark tid cause) tid cause claims after queues refl (record { marks = λ other before. refl }) (λ destination name before. refl) change are
 
-pub AreQueuesOf-Fail : (all : List AleUnit) (log : List Record) (tid : TidOf) (claims after : TidOf → Option ℕ) (queues : QueuesOf)
-    → Claims tid None claims after → AreQueuesOf Incoming all log claims queues → AreQueuesOf Incoming all (log ++ Fail tid ∷ []) after (marked Sysfail tid queues)
-AreQueuesOf-Fail all log tid claims after queues change are =
-    AreQueuesOf-marked Incoming all log (Fail tid) tid Sysfail claims after queues refl (record { marks = λ other before. refl }) (λ destination name before. refl) change are
+pub AreQueuesOver-Fail : (all : List AleUnit) (log : List Record) (tid : TidOf) (claims after : TidOf → Option ℕ) (queues : QueuesOf)
+    → Claims tid None claims after → AreQueuesOver Incoming all log claims queues → AreQueuesOver Incoming all (log ++ Fail tid ∷ []) after (marked Sysfail tid queues)
+AreQueuesOver-Fail all log tid claims after queues change are =
+    AreQueuesOver-marked Incoming all log (Fail tid) tid Sysfail claims after queues refl (record { marks = λ other before. refl }) (λ destination name before. refl) change are
 
 -- a Retry removes the mark of a unit of its direction
-pub AreQueuesOf-Retry : (way : Way) (all : List AleUnit) (log : List Record) (tid : TidOf) (claims : TidOf → Option ℕ) (queues : QueuesOf)
-    → AreQueuesOf way all log claims queues → AreQueuesOf way all (log ++ Retry way tid ∷ []) claims (retried tid queues)
-AreQueuesOf-Retry Outgoing all log tid claims queues are =
-    AreQueuesOf-retried Outgoing all log (Retry Outgoing tid) tid claims queues refl (record { marks = λ other before. refl }) (λ destination name before. refl) are
-AreQueuesOf-Retry Incoming all log tid claims queues are =
-    AreQueuesOf-retried Incoming all log (Retry Incoming tid) tid claims queues refl (record { marks = λ other before. refl }) (λ destination name before. refl) are
+pub AreQueuesOver-Retry : (way : Way) (all : List AleUnit) (log : List Record) (tid : TidOf) (claims : TidOf → Option ℕ) (queues : QueuesOf)
+    → AreQueuesOver way all log claims queues → AreQueuesOver way all (log ++ Retry way tid ∷ []) claims (retried tid queues)
+AreQueuesOver-Retry Outgoing all log tid claims queues are =
+    AreQueuesOver-retried Outgoing all log (Retry Outgoing tid) tid claims queues refl (record { marks = λ other before. refl }) (λ destination name before. refl) are
+AreQueuesOver-Retry Incoming all log tid claims queues are =
+    AreQueuesOver-retried Incoming all log (Retry Incoming tid) tid claims queues refl (record { marks = λ other before. refl }) (λ destination name before. refl) are
 
 -- an Accept adds its unit to the inbound queues
-pub AreQueuesOf-Accept : (all : List AleUnit) (log : List Record) (unit : AleUnit) (claims : TidOf → Option ℕ) (queues : QueuesOf)
-    → IsNew Incoming log claims unit → AreQueuesOf Incoming all log claims queues
-    → AreQueuesOf Incoming (all ++ unit ∷ []) (log ++ Accept unit ∷ []) claims (added unit.tid (keys_of Incoming unit) queues)
-AreQueuesOf-Accept all log unit claims queues new are =
+pub AreQueuesOver-Accept : (all : List AleUnit) (log : List Record) (unit : AleUnit) (claims : TidOf → Option ℕ) (queues : QueuesOf)
+    → IsNew Incoming log claims unit → AreQueuesOver Incoming all log claims queues
+    → AreQueuesOver Incoming (all ++ unit ∷ []) (log ++ Accept unit ∷ []) claims (added unit.tid (keys_of Incoming unit) queues)
+AreQueuesOver-Accept all log unit claims queues new are =
     let leaves : LeavesQueues Incoming (Accept unit) = record { none_through = refl; marks = λ tid before. refl; stops = λ destination name before. refl } in
-    AreQueuesOf-added Incoming all (unit ∷ []) (log ++ Accept unit ∷ []) claims queues (new-then Incoming log (Accept unit) claims unit leaves new, tt)
-    (AreQueuesOf-other Incoming all log (Accept unit) claims queues leaves are)
+    AreQueuesOver-added Incoming all (unit ∷ []) (log ++ Accept unit ∷ []) claims queues (new-then Incoming log (Accept unit) claims unit leaves new, tt)
+    (AreQueuesOver-other Incoming all log (Accept unit) claims queues leaves are)
 
 -- a Commit or a Dispatch adds the units that it commits to the outbound queues
-pub AreQueuesOf-committed : (all more : List AleUnit) (log : List Record) (next : Record) (claims : TidOf → Option ℕ) (queues : QueuesOf)
-    → LeavesQueues Outgoing next → AllByRecursion (IsNew Outgoing log claims) more → AreQueuesOf Outgoing all log claims queues
-    → AreQueuesOf Outgoing (all ++ more) (log ++ next ∷ []) claims (added_all Outgoing more queues)
-AreQueuesOf-committed all more log next claims queues leaves new are =
-    AreQueuesOf-added Outgoing all more (log ++ next ∷ []) claims queues
+pub AreQueuesOver-committed : (all more : List AleUnit) (log : List Record) (next : Record) (claims : TidOf → Option ℕ) (queues : QueuesOf)
+    → LeavesQueues Outgoing next → AllByRecursion (IsNew Outgoing log claims) more → AreQueuesOver Outgoing all log claims queues
+    → AreQueuesOver Outgoing (all ++ more) (log ++ next ∷ []) claims (added_all Outgoing more queues)
+AreQueuesOver-committed all more log next claims queues leaves new are =
+    AreQueuesOver-added Outgoing all more (log ++ next ∷ []) claims queues
     (AllByRecursion-weaker (IsNew Outgoing log claims) (IsNew Outgoing (log ++ next ∷ []) claims) more (λ unit. new-then Outgoing log next claims unit leaves) new)
-    (AreQueuesOf-other Outgoing all log next claims queues leaves are)
+    (AreQueuesOver-other Outgoing all log next claims queues leaves are)
 
 -- every other record leaves them
 pub is_silent-leaves : (way : Way) (next : Record) → is_silent way next ≡ true → LeavesQueues way next

@@ -1,6 +1,8 @@
 -- The queues that a log stands for, in one direction. Outbound, the units are those that the log commits, and one is through
 -- where it is done; inbound, they are those that it received, and one is through where it is executed.
-use Rattle.std.specs.Prelude.{◌≡◌, ℕ, Bool, true, false, not, Option, None, List, map, filter, fold, if◌then◌else◌}
+use Rattle.std.specs.Prelude.{◌≡◌, ℕ, Bool, true, false, not, ◌&&◌, ⊤, Option, None, List, map, filter, fold, Contains, if◌then◌else◌}
+use Rattle.std.specs.List.{list_any}
+use Rattle.std.specs.Option.{is_none}
 use Rattle.ale_base.specs.Tid.{TidOf, is_tid}
 use Rattle.ale_base.specs.declared.mark.Mark.{Mark}
 use Rattle.ale_base.specs.declared.way.Way.{Way}
@@ -8,9 +10,9 @@ use Rattle.ale_base.specs.declared.way.Way.TheVariants.{Outgoing, Incoming}
 use Rattle.unit_core.specs.declared.ale_unit.AleUnit.{AleUnit}
 use Rattle.unit_core.specs.declared.records.Record.{Record}
 use Rattle.unit_core.specs.declared.records.Record.TheVariants.{Mark as Cause, Done, Execute, Direct, Fail, Stop, Start, Retry}
-use Rattle.unit_core.specs.Filters.{executed, executed_by, done_in, done_by, mark_of, mark_after, stopped_after, is_way}
+use Rattle.unit_core.specs.Filters.{received, taken_by, executed, executed_by, done_in, done_by, mark_of, is_marked, mark_after, stopped_after, is_way}
 use Rattle.unit_core.specs.Filters.{is_stopped as is_stopped_by}
-use Rattle.unit_core.specs.Queues.{is_listed, is_outstanding}
+use Rattle.unit_core.specs.Queues.{is_listed, is_outstanding, heads_outbound, heads_inbound}
 use Rattle.plain_queues.specs.declared.queue_key.QueueKey.{QueueKey}
 use Rattle.plain_queues.specs.declared.queued_unit.QueuedUnit.{QueuedUnit}
 use Rattle.plain_queues.specs.Queues.{QueuesOf, is_stopped}
@@ -31,14 +33,52 @@ abbrev pub keys_of : Way → AleUnit → List QueueKey
 keys_of Outgoing unit = map (λ name. record { partner = unit.receiver; name = name }) unit.outq
 keys_of Incoming unit = map (λ name. record { partner = 0; name = name }) unit.inq
 
+-- the names of a unit's queues in a direction
+abbrev pub names_of : Way → AleUnit → List (List ℕ)
+names_of Outgoing unit = unit.outq
+names_of Incoming unit = unit.inq
+
 -- a unit as the queues hold it: with the claim on it, which no log has, and its mark since its last Retry
 abbrev pub queued : Way → List Record → (TidOf → Option ℕ) → AleUnit → QueuedUnit
 queued way log claims unit = record { tid = unit.tid; keys = keys_of way unit; claim = claims unit.tid; mark = mark_of way unit.tid log }
 
--- the queues hold those of all units that are outstanding, and a queue is stopped where the log says so
-pub record AreQueuesOf (way : Way) (all : List AleUnit) (log : List Record) (claims : TidOf → Option ℕ) (queues : QueuesOf) : Type 0 where
+-- the queues hold those of some units that are outstanding, and a queue is stopped where the log says so
+pub record AreQueuesOver (way : Way) (all : List AleUnit) (log : List Record) (claims : TidOf → Option ℕ) (queues : QueuesOf) : Type 0 where
   pub units : queues.units ≡ map (queued way log claims) (filter (is_outstanding (through way log)) all)
   pub stops : (key : QueueKey) → is_stopped key queues ≡ is_stopped_by way key.partner key.name log
+
+-- the units of a direction: outbound those that the system committed, which its log says under its models; inbound those
+-- that its log received
+abbrev pub units_of : Way → List AleUnit → List Record → List AleUnit
+units_of Outgoing committed log = committed
+units_of Incoming committed log = received log
+
+-- the queues that a log stands for, with these claims
+abbrev pub AreQueuesOf : Way → List AleUnit → List Record → (TidOf → Option ℕ) → QueuesOf → Type 0
+AreQueuesOf way committed log claims queues = AreQueuesOver way (units_of way committed log) log claims queues
+
+-- whether a unit heads each of its queues in a direction
+abbrev pub heads_all : Way → List TidOf → List AleUnit → AleUnit → Bool
+heads_all Outgoing through all unit = heads_outbound through all unit
+heads_all Incoming through all unit = heads_inbound through all unit
+
+-- whether a queue of a unit is stopped in a direction
+abbrev pub is_held_up : Way → List Record → AleUnit → Bool
+is_held_up Outgoing log unit = list_any (λ name. is_stopped_by Outgoing unit.receiver name log) unit.outq
+is_held_up Incoming log unit = list_any (λ name. is_stopped_by Incoming 0 name log) unit.inq
+
+-- whether a unit may go, by the log and the claims: it is outstanding, not claimed, not marked, heads each of its queues, and
+-- none of these is stopped
+abbrev pub may_go : Way → List AleUnit → List Record → (TidOf → Option ℕ) → AleUnit → Bool
+may_go way all log claims unit =
+    is_outstanding (through way log) unit
+    && (is_none (claims unit.tid) && not (is_marked way unit.tid log)
+    && (heads_all way (through way log) all unit && not (is_held_up way log unit)))
+
+-- outbound units have one sender: the system that committed them
+abbrev pub HaveOneSender : Way → List AleUnit → Type 0
+HaveOneSender Outgoing all = (sender : ℕ) × ((unit : AleUnit) → Contains all unit → unit.sender ≡ sender)
+HaveOneSender Incoming all = ⊤
 
 -- units are added one by one
 abbrev pub added_all : Way → List AleUnit → QueuesOf → QueuesOf
@@ -72,6 +112,11 @@ pub record Claims (tid : TidOf) (claim : Option ℕ) (claims after : TidOf → O
 -- a record sets the mark of the unit of an id, or removes it, and leaves all other marks
 pub record SetsMark (way : Way) (next : Record) (tid : TidOf) (mark : Option Mark) : Type 0 where
   pub marks : (other : TidOf) (before : Option Mark) → mark_after way other before next ≡ (if is_tid tid other then mark else before)
+
+-- a record takes no unit in, where the direction is that of the units that are taken in
+abbrev pub TakesNone : Way → Record → Type 0
+TakesNone Outgoing next = ⊤
+TakesNone Incoming next = taken_by next ≡ None
 
 -- which records say nothing of the queues of a direction, but for the units that a Commit, a Dispatch or an Accept brings
 abbrev pub is_silent : Way → Record → Bool
