@@ -23,6 +23,7 @@ use Rattle.idoc_tree.specs.steps.Lacking.{first_lack}
 use Rattle.idoc_tree.specs.Siblings.{siblings, has_later}
 use Rattle.idoc_tree.specs.steps.Growing.{hung, grown_among, grown_at, grown_by, grown}
 use Rattle.idoc_tree.specs.Builds.{SpellsInOrder, IsMisplaced, foreign, closed, late, IsTooMany, IsUnknown, Faulty, IsRefusedAt, IsMissing, IsFirstFault, Builds}
+use Rattle.idoc_tree.specs.FromRecords.{go_on, name_in, grown_all, missing_of, built}
 use Rattle.idoc_tree.proofs.MayHangLemmas.{chosen, grown-Ok, grown-Grows}
 use Rattle.idoc_tree.proofs.LackLemmas.{no_lack-enough, enough-no_lack, lack_among-first, lack_among-at, first_lack-first, first_lack-at, first_lack-known}
 use Rattle.ale_base.proofs.ListLemmas.{slice_get-within}
@@ -136,98 +137,75 @@ module _ (definitions : Definitions) (entries : List TypePlace) (number : ℕ) (
   grown-wrong (Missing name told) wrong = absurd wrong
   grown-wrong OutOfMemory wrong = absurd wrong
 
--- goes on with a forest, and leaves a fault
-abbrev pub go_on : Result Forest SyntaxFault → (Forest → Result Forest SyntaxFault) → Result Forest SyntaxFault
-go_on (Ok forest) next = next forest
-go_on (Err fault) next = Err fault
-
--- the name of a segment type
-abbrev name_in : Option SegmentType → List ℕ
-name_in None = []
-name_in (Some type) = type.name
-
 module _ (definitions : Definitions) (entries : List TypePlace) where
-  -- the forest with the segments of all lines more, the first of which has this number, or the first fault
-  abbrev pub grown_all : ℕ → Forest → List DataRecord → Result Forest SyntaxFault
-  grown_all number forest [] = Ok forest
-  grown_all number forest (line ∷ lines) = go_on (grown definitions entries number line forest) (λ next. grown_all (suc number) next lines)
-
-  abbrev missing_of : Option (ℕ × ℕ) → Forest → Result Forest SyntaxFault
-  missing_of None forest = Ok forest
-  missing_of (Some lack) forest = Err (Missing (name_in (slice_get definitions.types lack.0)) (told_length lack.1))
-
-  -- the forest of all lines if it lacks nothing, or the first fault
-  abbrev pub answer : List DataRecord → Result Forest SyntaxFault
-  answer lines = go_on (grown_all 1 no_trees lines) (λ forest. missing_of (first_lack entries (families None forest)) forest)
-
-  after_some : (number : ℕ) (first : Result Forest SyntaxFault) (lines more : List DataRecord) (forest : Forest) → ((next : Forest) → grown_all (suc number) next lines ≡ Ok forest → grown_all (suc number) next (lines ++ more) ≡ grown_all (suc number + length lines) forest more) → go_on first (λ next. grown_all (suc number) next lines) ≡ Ok forest → go_on first (λ next. grown_all (suc number) next (lines ++ more)) ≡ grown_all (number + suc (length lines)) forest more
+  after_some : (number : ℕ) (first : Result Forest SyntaxFault) (lines more : List DataRecord) (forest : Forest) → ((next : Forest) → grown_all definitions entries (suc number) next lines ≡ Ok forest → grown_all definitions entries (suc number) next (lines ++ more) ≡ grown_all definitions entries (suc number + length lines) forest more) → go_on first (λ next. grown_all definitions entries (suc number) next lines) ≡ Ok forest → go_on first (λ next. grown_all definitions entries (suc number) next (lines ++ more)) ≡ grown_all definitions entries (number + suc (length lines)) forest more
   after_some number (Ok next) lines more forest rest grew =
       let sum : suc number + length lines ≡ number + suc (length lines) = omega arith in
-      rest next grew ∙ ap (λ n. grown_all n forest more) sum
+      rest next grew ∙ ap (λ n. grown_all definitions entries n forest more) sum
   after_some number (Err fault) lines more forest rest grew = cc
 
   -- lines behind those that gave a forest
-  grown_all-append : (number : ℕ) (start : Forest) (lines more : List DataRecord) (forest : Forest) → grown_all number start lines ≡ Ok forest → grown_all number start (lines ++ more) ≡ grown_all (number + length lines) forest more
+  grown_all-append : (number : ℕ) (start : Forest) (lines more : List DataRecord) (forest : Forest) → grown_all definitions entries number start lines ≡ Ok forest → grown_all definitions entries number start (lines ++ more) ≡ grown_all definitions entries (number + length lines) forest more
   grown_all-append number start [] more forest grew =
       let none_more : number ≡ number + 0 = omega arith in
       let is : start ≡ forest = cc in
-      ap (λ f. grown_all number f more) is ∙ ap (λ n. grown_all n forest more) none_more
+      ap (λ f. grown_all definitions entries number f more) is ∙ ap (λ n. grown_all definitions entries n forest more) none_more
   grown_all-append number start (line ∷ lines) more forest grew =
       after_some number (grown definitions entries number line start) lines more forest (λ next. grown_all-append (suc number) next lines more forest) grew
 
   -- lines that stand give their forest
-  stands_grown : IsPreorder 0 [] entries → (count : ℕ) (lines : List DataRecord) (forest : Forest) → length lines ≡ count → Snoc lines → SpellsInOrder definitions entries lines forest → grown_all 1 no_trees lines ≡ Ok forest
+  stands_grown : IsPreorder 0 [] entries → (count : ℕ) (lines : List DataRecord) (forest : Forest) → length lines ≡ count → Snoc lines → SpellsInOrder definitions entries lines forest → grown_all definitions entries 1 no_trees lines ≡ Ok forest
   stands_grown kept count _ forest long none stands = ap Ok (sym (Spells-none definitions entries forest stands.spells))
   stands_grown kept zero _ forest long (some front line) stands = absurd (omega (arith, length-append front (line ∷ [])))
   stands_grown kept (suc count) _ forest long (some front line) stands =
       let stood = SpellsInOrder-last definitions entries kept front line forest stands in
       let shorter : length front ≡ count = omega (arith, length-append front (line ∷ [])) in
       grown_all-append 1 no_trees front (line ∷ []) stood.front (stands_grown kept count front stood.front shorter (snoc front) stood.stands)
-      ∙ ap (λ first. go_on first (λ next. grown_all (suc (1 + length front)) next [])) (grown-Grows definitions entries (1 + length front) line stood.front forest stood.grows)
+      ∙ ap (λ first. go_on first (λ next. grown_all definitions entries (suc (1 + length front)) next [])) (grown-Grows definitions entries (1 + length front) line stood.front forest stood.grows)
 
   -- the records and one more spell a forest in order where the forest grows by it
-  pub SpellsInOrder-grown : IsPreorder 0 [] entries → (lines : List DataRecord) (forest : Forest) → SpellsInOrder definitions entries lines forest → grown_all 1 no_trees lines ≡ Ok forest
+  pub SpellsInOrder-grown : IsPreorder 0 [] entries → (lines : List DataRecord) (forest : Forest) → SpellsInOrder definitions entries lines forest → grown_all definitions entries 1 no_trees lines ≡ Ok forest
   SpellsInOrder-grown kept lines forest = stands_grown kept (length lines) lines forest refl (snoc lines)
 
-  refused_grown : IsPreorder 0 [] entries → (fault : SyntaxFault) (before after : List DataRecord) (line : DataRecord) (forest : Forest) → SpellsInOrder definitions entries before forest → IsWrong definitions entries (suc (length before)) forest line fault → grown_all 1 no_trees (before ++ line ∷ after) ≡ Err fault
+  refused_grown : IsPreorder 0 [] entries → (fault : SyntaxFault) (before after : List DataRecord) (line : DataRecord) (forest : Forest) → SpellsInOrder definitions entries before forest → IsWrong definitions entries (suc (length before)) forest line fault → grown_all definitions entries 1 no_trees (before ++ line ∷ after) ≡ Err fault
   refused_grown kept fault before after line forest stands wrong =
       let count : 1 + length before ≡ suc (length before) = omega arith in
       grown_all-append 1 no_trees before (line ∷ after) forest (SpellsInOrder-grown kept before forest stands)
-      ∙ ap (λ n. grown_all n forest (line ∷ after)) count
-      ∙ ap (λ first. go_on first (λ next. grown_all (suc (suc (length before))) next after)) (grown-wrong definitions entries (suc (length before)) line forest fault wrong)
+      ∙ ap (λ n. grown_all definitions entries n forest (line ∷ after)) count
+      ∙ ap (λ first. go_on first (λ next. grown_all definitions entries (suc (suc (length before))) next after)) (grown-wrong definitions entries (suc (length before)) line forest fault wrong)
 
-  answered : (lines : List DataRecord) (made : Result Forest SyntaxFault) → grown_all 1 no_trees lines ≡ made → answer lines ≡ go_on made (λ forest. missing_of (first_lack entries (families None forest)) forest)
-  answered lines made is = ap (λ made. go_on made (λ forest. missing_of (first_lack entries (families None forest)) forest)) is
+  answered : (lines : List DataRecord) (made : Result Forest SyntaxFault) → grown_all definitions entries 1 no_trees lines ≡ made → built definitions entries lines ≡ go_on made (λ forest. missing_of definitions (first_lack entries (families None forest)) forest)
+  answered lines made is = ap (λ made. go_on made (λ forest. missing_of definitions (first_lack entries (families None forest)) forest)) is
 
-  refused_answer : IsPreorder 0 [] entries → (fault : SyntaxFault) (lines : List DataRecord) (told : ℕ) (Wrong : Forest → DataRecord → Type 0) → ((number : ℕ) (forest : Forest) (line : DataRecord) → told ≡ told_length number → Wrong forest line → IsWrong definitions entries number forest line fault) → IsRefusedAt definitions entries lines told Wrong → answer lines ≡ Err fault
+  refused_answer : IsPreorder 0 [] entries → (fault : SyntaxFault) (lines : List DataRecord) (told : ℕ) (Wrong : Forest → DataRecord → Type 0) → ((number : ℕ) (forest : Forest) (line : DataRecord) → told ≡ told_length number → Wrong forest line → IsWrong definitions entries number forest line fault) → IsRefusedAt definitions entries lines told Wrong → built definitions entries lines ≡ Err fault
   refused_answer kept fault lines told Wrong is_wrong refused =
-      answered lines (Err fault) (ap (grown_all 1 no_trees) refused.split
+      answered lines (Err fault) (ap (grown_all definitions entries 1 no_trees) refused.split
       ∙ refused_grown kept fault refused.before refused.after refused.line refused.forest refused.stands
       (is_wrong (suc (length refused.before)) refused.forest refused.line refused.told refused.wrong))
 
   -- what is made of lines is the answer
-  pub Builds-answer : IsPreorder 0 [] entries → (lines : List DataRecord) (made : Result Forest SyntaxFault) → Builds definitions entries lines made → answer lines ≡ made
-  Builds-answer kept lines (Ok forest) builds =
+  pub Builds-built : IsPreorder 0 [] entries → (lines : List DataRecord) (made : Result Forest SyntaxFault) → Builds definitions entries lines made → built definitions entries lines ≡ made
+  Builds-built kept lines (Ok forest) builds =
       answered lines (Ok forest) (SpellsInOrder-grown kept lines forest (record { spells = builds.0; fits = (builds.1).fits }))
-      ∙ ap (λ lack. missing_of lack forest) (enough-no_lack entries (families None forest) (builds.1).enough)
-  Builds-answer kept lines (Err (UnknownSegment told)) builds =
+      ∙ ap (λ lack. missing_of definitions lack forest) (enough-no_lack entries (families None forest) (builds.1).enough)
+  Builds-built kept lines (Err (UnknownSegment told)) builds =
       refused_answer kept (UnknownSegment told) lines told (IsUnknown definitions) (λ number forest line is wrong. (is, wrong)) builds
-  Builds-answer kept lines (Err (Misplaced told)) builds =
+  Builds-built kept lines (Err (Misplaced told)) builds =
       refused_answer kept (Misplaced told) lines told (Faulty definitions (IsMisplaced entries)) (λ number forest line is wrong. (is, wrong)) builds
-  Builds-answer kept lines (Err (TooMany told)) builds =
+  Builds-built kept lines (Err (TooMany told)) builds =
       refused_answer kept (TooMany told) lines told (Faulty definitions (IsTooMany entries)) (λ number forest line is wrong. (is, wrong)) builds
-  Builds-answer kept lines (Err (Missing name told)) builds =
+  Builds-built kept lines (Err (Missing name told)) builds =
       answered lines (Ok builds.forest) (SpellsInOrder-grown kept lines builds.forest builds.stands)
-      ∙ ap (λ lack. missing_of lack builds.forest) (first_lack-at entries (families None builds.forest) builds.place builds.family (builds.entry).segment builds.family_at builds.families_before
+      ∙ ap (λ lack. missing_of definitions lack builds.forest) (first_lack-at entries (families None builds.forest) builds.place builds.family (builds.entry).segment builds.family_at builds.families_before
       (lack_among-at entries builds.family entries builds.at builds.entry builds.entry_at builds.lacks builds.entries_before))
       ∙ ap (λ type. Err (Missing (name_in type) (told_length builds.place))) builds.type_at
       ∙ ap (λ n. Err (Missing n (told_length builds.place))) (sym builds.named)
       ∙ ap (λ n. Err (Missing name n)) (sym builds.told)
-  Builds-answer kept lines (Err OutOfMemory) builds = absurd builds
+  Builds-built kept lines (Err OutOfMemory) builds = absurd builds
 
   -- of lines one thing is made at most
   pub one_answer_of : IsPreorder 0 [] entries → (lines : List DataRecord) (first second : Result Forest SyntaxFault) → Builds definitions entries lines first → Builds definitions entries lines second → first ≡ second
-  one_answer_of kept lines first second one other = sym (Builds-answer kept lines first one) ∙ Builds-answer kept lines second other
+  one_answer_of kept lines first second one other = sym (Builds-built kept lines first one) ∙ Builds-built kept lines second other
 
   -- a fault that a step answers is the first of all lines
   pub refused_at : (fault : SyntaxFault) (lines before after : List DataRecord) (line : DataRecord) (forest : Forest) → lines ≡ before ++ line ∷ after → SpellsInOrder definitions entries before forest → grown definitions entries (suc (length before)) line forest ≡ Err fault → IsFirstFault definitions entries lines fault
@@ -317,16 +295,16 @@ module _ (definitions : Definitions) (entries : List TypePlace) (apart : IsDisti
   grown_rest (line ∷ lines) before start stands =
       gone_on before line lines start (grown definitions entries (suc (length before)) line start) stands refl (λ forest more. grown_rest lines (before ++ line ∷ []) forest more)
 
-  answered_rest : (known : AllByRecursion (λ entry. entry.segment < length definitions.types) entries) (lines : List DataRecord) (made : Result Forest SyntaxFault) → Rest lines made → Builds definitions entries lines (go_on made (λ forest. missing_of definitions entries (first_lack entries (families None forest)) forest))
+  answered_rest : (known : AllByRecursion (λ entry. entry.segment < length definitions.types) entries) (lines : List DataRecord) (made : Result Forest SyntaxFault) → Rest lines made → Builds definitions entries lines (go_on made (λ forest. missing_of definitions (first_lack entries (families None forest)) forest))
   answered_rest known lines (Err fault) rest = rest
   answered_rest known lines (Ok forest) rest = judged (first_lack entries (families None forest)) refl
     where
-      judged : (lack : Option (ℕ × ℕ)) → first_lack entries (families None forest) ≡ lack → Builds definitions entries lines (missing_of definitions entries lack forest)
+      judged : (lack : Option (ℕ × ℕ)) → first_lack entries (families None forest) ≡ lack → Builds definitions entries lines (missing_of definitions lack forest)
       judged None lacks = complete definitions entries lines forest rest lacks
       judged (Some lack) lacks =
           let there = slice_get-within definitions.types lack.0 (first_lack-known (λ type. type < length definitions.types) entries (families None forest) lack.0 lack.1 known lacks) in
           missing_of_all definitions entries lines forest lack.0 lack.1 there.0 (name_in (slice_get definitions.types lack.0)) (told_length lack.1) rest lacks there.1 (ap name_in there.1) refl
 
   -- the answer is what is made of lines, so something is
-  pub answer-Builds : AllByRecursion (λ entry. entry.segment < length definitions.types) entries → (lines : List DataRecord) → Builds definitions entries lines (answer definitions entries lines)
-  answer-Builds known lines = answered_rest known lines (grown_all definitions entries 1 no_trees lines) (grown_rest lines [] no_trees (none-stands definitions entries))
+  pub built-Builds : AllByRecursion (λ entry. entry.segment < length definitions.types) entries → (lines : List DataRecord) → Builds definitions entries lines (built definitions entries lines)
+  built-Builds known lines = answered_rest known lines (grown_all definitions entries 1 no_trees lines) (grown_rest lines [] no_trees (none-stands definitions entries))

@@ -1,12 +1,10 @@
 -- Data records of segments, and the segments that they stand for again.
-use Rattle.std.proofs.lemmas.Bool.{and_parts}
 use Rattle.std.specs.Prelude.{not, IsTrue}
 use Rattle.std.specs.Option.{option_map}
-use Rattle.std.specs.List.{AllByRecursion, list_all}
-use Rattle.std.proofs.Common.{◌≡◌, ℕ, ◌≤◌, ◌==◌, true, false, cond, Some, None, List, [], ◌∷◌, map, length, take, refl, ap, sym, subst, inl, inr, ◌∙◌, arith}
-use Rattle.std.proofs.lemmas.Bool.Decides.{eqb_tells}
+use Rattle.std.specs.List.{AllByRecursion}
+use Rattle.std.proofs.Common.{◌≡◌, ℕ, ◌≤◌, Some, None, List, [], ◌∷◌, map, length, take, refl, ap, sym, subst, ◌∙◌, arith}
 use Rattle.std.proofs.lemmas.List.{length-take}
-use Rattle.ale_base.specs.Blanks.{before_trimmed, trimmed}
+use Rattle.ale_base.specs.Blanks.{trimmed}
 use Rattle.ale_base.specs.TrimmedLemmas.{trimmed-trimmed, length-trimmed}
 use Rattle.idoc_record.specs.Data.{DataRecord, IsDataRecord, is_no_segment}
 use Rattle.segment_defs.specs.declared.version.Version.{Version}

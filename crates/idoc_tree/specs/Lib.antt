@@ -11,6 +11,8 @@ pub mod Valid
 pub mod Siblings
 -- what is made of data records: their forest, or their first fault
 pub mod Builds
+-- the same as a function, for callers that compute with it
+pub mod FromRecords
 -- the data records of a forest
 pub mod Lines
 -- copies of steps

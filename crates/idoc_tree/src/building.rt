@@ -8,6 +8,7 @@ ghost use Rattle.idoc_tree.specs.Nodes.{forest_of};
 ghost use Rattle.idoc_tree.specs.Spells.{Spells};
 ghost use Rattle.idoc_tree.specs.Lines.{IsNode, IsFitted};
 ghost use Rattle.idoc_tree.specs.Builds.{Builds};
+ghost use Rattle.idoc_tree.specs.FromRecords.{built};
 
 use crate::growing::grow;
 use crate::lacking::first_lack;
@@ -38,6 +39,11 @@ pub fn build(
     ensures fitted { IfOk result (λ doc. AllNodes (IsFitted definitions.now) (forest_of doc.forest.items)) }
     ensures first_fault { (fault : SyntaxFault) → result ≡ Err fault → fault ≢ SyntaxFault.OutOfMemory
         → Builds definitions.now ty.now.segments lines.now (Err fault) }
+    // What is made of the records, as a function: callers may compute with it.
+    ensures computed { IfOk result (λ doc.
+        built definitions.now ty.now.segments lines.now ≡ Ok (forest_of doc.forest.items)) }
+    ensures computed_fault { (fault : SyntaxFault) → result ≡ Err fault → fault ≢ SyntaxFault.OutOfMemory
+        → built definitions.now ty.now.segments lines.now ≡ Err fault }
 
     // Of the records one thing is made at most, and they spell one forest at most.
     ensures one_answer { (first second : Result Forest SyntaxFault)
