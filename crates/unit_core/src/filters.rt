@@ -88,7 +88,7 @@ fn told_by(entry: &Record, fact: Fact) -> Option<Tid>
 }
 
 /// The unit that a record takes in.
-fn taken_by(entry: &Record) -> Option<&AleUnit>
+pub fn taken_by(entry: &Record) -> Option<&AleUnit>
     ensures { option_copied result ≡ taken_by entry.now }
 {
     match entry {

@@ -13,7 +13,7 @@ mod raw_unit_doc;
 mod records;
 
 pub use ale_unit::AleUnit;
-pub use filters::{done_in, ended_in, executed, forgotten_in, received};
+pub use filters::{done_in, ended_in, executed, forgotten_in, received, taken_by};
 pub use marks::{is_marked, is_stopped};
 pub use queue::{
     Queue, are_different, heads_inbound, heads_outbound, is_among, is_listed, unit_named,
