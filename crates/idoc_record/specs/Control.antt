@@ -1,5 +1,5 @@
 -- The control record EDI_DC40.
-use Rattle.std.specs.Prelude.{◌≡◌, ℕ, ◌≤◌, List, [], length, Bool, ◌||◌, not, IsTrue, ⊤, nat_lt, codes, Result, Ok, Err, if◌then◌else◌}
+use Rattle.std.specs.Prelude.{◌≡◌, ℕ, ◌≤◌, List, [], ◌∷◌, ◌++◌, length, Bool, ◌||◌, not, IsTrue, ⊤, nat_lt, codes, Result, Ok, Err, if◌then◌else◌}
 use Rattle.std.specs.Char.{is_ascii_digit}
 use Rattle.std.specs.List.{list_all}
 use Rattle.ale_base.specs.Blanks.{trimmed, padded}
@@ -9,7 +9,7 @@ use Rattle.idoc_record.specs.declared.control_field.ControlField.{ControlField}
 use Rattle.idoc_record.specs.declared.control_field.ControlField.TheVariants.{Tabnam, Docnum, Direct}
 use Rattle.idoc_record.specs.declared.fault.RecordFault.{RecordFault}
 use Rattle.idoc_record.specs.declared.fault.RecordFault.TheVariants.{TooLong, WrongTable, BadNumber}
-use Rattle.idoc_record.specs.ControlField.{span_of}
+use Rattle.idoc_record.specs.ControlField.{span_of, all_fields, is_field}
 use Rattle.idoc_record.specs.Parts.{text_at}
 
 -- the text of a field of a control record, without the blanks at its end
@@ -61,3 +61,25 @@ abbrev pub control_read : List ℕ → Result (List ℕ) RecordFault
 control_read line =
     if nat_lt CONTROL_LEN (length (trimmed line)) then Err (TooLong (told_length (length (trimmed line))))
     else control_of (padded CONTROL_LEN (trimmed line))
+
+-- the texts of fields one behind another, each with blanks up to the length of its field
+abbrev pub fields_joined : List ControlField → (ControlField → List ℕ) → List ℕ
+fields_joined [] texts = []
+fields_joined (field ∷ fields) texts = padded (span_of field).length (texts field) ++ fields_joined fields texts
+
+-- the record in which each field has this text
+abbrev pub control_with : (ControlField → List ℕ) → List ℕ
+control_with texts = fields_joined all_fields texts
+
+-- each field has room for its text
+abbrev pub HasRoom : (ControlField → List ℕ) → Type 0
+HasRoom texts = (field : ControlField) → length (texts field) ≤ (span_of field).length
+
+-- these texts, but for one field, which has this one
+abbrev pub written_at : ControlField → List ℕ → (ControlField → List ℕ) → ControlField → List ℕ
+written_at field text texts other = if is_field field other then text else texts other
+
+-- TABNAM names the table of control records, and all else is blank
+abbrev pub blank_text : ControlField → List ℕ
+blank_text Tabnam = codes "EDI_DC40"
+blank_text _ = []

@@ -1,5 +1,5 @@
 -- The layout of the control record EDI_DC40, 524 bytes. Source: SAP Library, IDoc interface, control record.
-use Rattle.std.specs.Prelude.{ℕ, List, codes}
+use Rattle.std.specs.Prelude.{ℕ, ◌==◌, List, [], ◌∷◌, codes, Bool}
 use Rattle.idoc_record.specs.declared.span.Span.{Span}
 use Rattle.idoc_record.specs.declared.control_field.ControlField.{ControlField}
 use Rattle.idoc_record.specs.declared.control_field.ControlField.TheVariants.{Tabnam, Mandt, Docnum, Docrel, Status, Direct, Outmod, Exprss, Test, Idoctyp, Cimtyp, Mestyp, Mescod, Mesfct, Std, Stdvrs, Stdmes, Sndpor, Sndprt, Sndpfc, Sndprn, Sndsad, Sndlad, Rcvpor, Rcvprt, Rcvpfc, Rcvprn, Rcvsad, Rcvlad, Credat, Cretim, Refint, Refgrp, Refmes, Arckey, Serial}
@@ -85,3 +85,15 @@ name_of Refgrp = codes "REFGRP"
 name_of Refmes = codes "REFMES"
 name_of Arckey = codes "ARCKEY"
 name_of Serial = codes "SERIAL"
+
+-- all fields, in the order of the record
+unfoldable pub all_fields : List ControlField
+all_fields =
+    Tabnam ∷ Mandt ∷ Docnum ∷ Docrel ∷ Status ∷ Direct ∷ Outmod ∷ Exprss ∷ Test ∷ Idoctyp ∷ Cimtyp ∷ Mestyp ∷
+    Mescod ∷ Mesfct ∷ Std ∷ Stdvrs ∷ Stdmes ∷ Sndpor ∷ Sndprt ∷ Sndpfc ∷ Sndprn ∷ Sndsad ∷ Sndlad ∷ Rcvpor ∷
+    Rcvprt ∷ Rcvpfc ∷ Rcvprn ∷ Rcvsad ∷ Rcvlad ∷ Credat ∷ Cretim ∷ Refint ∷ Refgrp ∷ Refmes ∷ Arckey ∷
+    Serial ∷ []
+
+-- two fields are one, which their offsets tell
+abbrev pub is_field : ControlField → ControlField → Bool
+is_field field other = (span_of field).offset == (span_of other).offset

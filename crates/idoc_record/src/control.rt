@@ -37,10 +37,20 @@ impl Control {
     ghost use Rattle.ale_base.specs.Blanks.{trimmed};
     ghost use Rattle.idoc_record.specs.ControlField.{span_of};
     ghost use Rattle.idoc_record.specs.Parts.{with_text};
-    ghost use Rattle.idoc_record.specs.Control.{IsControl, IsControlLine, IsAllowed, field_of};
+    ghost use Rattle.idoc_record.specs.Control.{IsControl, IsControlLine, IsAllowed, field_of, control_with, blank_text};
 
     /// The length of the record, in bytes.
     pub const LEN: usize = CONTROL_LEN;
+
+    /// A record that holds the name of its table alone: all other fields are blank.
+    pub fn blank() -> Control
+        ensures fields { result ≡ control_with blank_text }
+        ensures record { IsControl result }
+    {
+        let mut bytes = [b' '; 524];
+        put_padded(&mut bytes, b"EDI_DC40");
+        Control { bytes }
+    }
 
     /// The text of a field, without the blanks at its end.
     pub fn get(&self, field: ControlField) -> &[u8]

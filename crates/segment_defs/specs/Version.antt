@@ -1,7 +1,8 @@
 -- A definition of a segment type: its fields, and what they are in the data of a segment.
-use Rattle.std.specs.Prelude.{◌≡◌, ℕ, ◌+◌, ◌≤◌, List, [], ◌∷◌, length, take, drop, map, sum_by}
+use Rattle.std.specs.Prelude.{◌≡◌, ℕ, suc, ◌+◌, ◌≤◌, List, [], ◌∷◌, ◌++◌, length, take, drop, map, sum_by, Some, slice_get}
 use Rattle.std.specs.List.{AllByRecursion, IsDistinct}
-use Rattle.ale_base.specs.Blanks.{trimmed}
+use Rattle.std.specs.Option.{option_map_or}
+use Rattle.ale_base.specs.Blanks.{trimmed, padded}
 use Rattle.segment_defs.specs.declared.field.Field.{Field}
 use Rattle.segment_defs.specs.declared.version.Version.{Version}
 use Rattle.ale_base.specs.Text.{is_text}
@@ -43,3 +44,20 @@ field_text sdata field = trimmed (take field.length (drop field.offset sdata))
 -- the data of a segment as a definition has it: cut at its width, without the blanks at the end
 abbrev pub fitted : Version → List ℕ → List ℕ
 fitted version sdata = trimmed (take (width_of version.fields) sdata)
+
+-- the text of the field at a place from 0; no bytes where there is no such field
+abbrev pub text_in : List Field → List ℕ → ℕ → List ℕ
+text_in fields sdata place = option_map_or (field_text sdata) (slice_get fields place) []
+
+-- the texts of fields, by their places from 0, one behind another, each with blanks up to the length of its field
+abbrev pub texts_joined : List Field → (ℕ → List ℕ) → List ℕ
+texts_joined [] texts = []
+texts_joined (field ∷ fields) texts = padded field.length (texts 0) ++ texts_joined fields (λ place. texts (suc place))
+
+-- the data of a segment in which each field, by its place from 0, has this text: without the blanks at the end
+abbrev pub data_of : List Field → (ℕ → List ℕ) → List ℕ
+data_of fields texts = trimmed (texts_joined fields texts)
+
+-- each field, by its place from 0, has room for its text
+abbrev pub HaveRoom : List Field → (ℕ → List ℕ) → Type 0
+HaveRoom fields texts = (place : ℕ) (field : Field) → slice_get fields place ≡ Some field → length (texts place) ≤ field.length

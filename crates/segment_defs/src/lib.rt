@@ -17,7 +17,7 @@ mod version;
 mod version_no;
 
 pub use definitions::{Definitions, cut};
-pub use field::Field;
+pub use field::{Field, without_blanks};
 pub use idoc_type::{IdocType, TypePlace};
 pub use limits::{
     LONGEST_NAME, MOST_BYTES, MOST_FIELDS, MOST_LEVELS, MOST_TIMES, MOST_TYPES, MOST_VERSIONS,
