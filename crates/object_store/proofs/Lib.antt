@@ -1,0 +1,4 @@
+-- Lemmas on objects. Each file stands on those before it.
+
+-- entries by the texts of their keys
+pub mod EntryLemmas
