@@ -1,0 +1,6 @@
+-- Lemmas on what is received.
+
+-- the fields that are posted
+pub mod ReadingLemmas
+-- one more record of a log
+pub mod ApplicationLemmas
