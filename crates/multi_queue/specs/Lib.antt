@@ -1,0 +1,6 @@
+-- the tree of bits
+pub mod Bits
+-- queues as lists of places, and counts of heads
+pub mod Counted
+-- what is seen of them
+pub mod Seen

@@ -1,0 +1,15 @@
+use Rattle.multi_queue.specs.Counted.{IsCounted, Leaves, IsBoardBut, KeepsLanes, IsLastDead, left_at}
+use Rattle.std.proofs.Common.{None}
+use Rattle.multi_queue.proofs.counting.part_all.Given as goal
+
+abbrev pub invariant-loop-queue : goal.invariant-loop-queue
+invariant-loop-queue g l = record {
+  counted : IsCounted None l.units l.lanes l.heads;
+  board : IsBoardBut None l.height l.units l.heads l.nodes;
+  last : IsLastDead l.place l.units;
+  others : Leaves l.place l.initial.units l.units;
+  lanes : KeepsLanes l.initial.lanes l.lanes;
+}
+
+abbrev pub decreases-loop-queue : goal.decreases-loop-queue
+decreases-loop-queue g l = left_at l.place l.units

@@ -1,0 +1,52 @@
+use Rattle.std.specs.Option.{is_none}
+use Rattle.std.proofs.Common.{◌≡◌, ◌<◌, List, ℕ, Some, None, [], false, refl, sym, ap, ◌∙◌, slice_get, slice_set, length}
+use Rattle.multi_queue.specs.declared.entry.Entry.{Entry}
+use Rattle.multi_queue.specs.Counted.{Leaves, gone}
+use Rattle.multi_queue.proofs.CountedLemmas.{slice_get_some, set-here, set-twice, left-none, board-idle, claimed-busy, dead-idle}
+use Rattle.multi_queue.proofs.FlagLemmas.{same-counted}
+use Rattle.multi_queue.proofs.counting.take_away.Goals as goal
+
+-- the unit as it was before it left its queues
+was : (p : ℕ) (before units : List Entry) (u x : Entry) (leaves : Leaves p before units) (got : slice_get before p ≡ Some u) → slice_get units p ≡ Some x
+    → record u { queues = (leaves.leaves u got).0 } ≡ x
+was p before units u x leaves got now =
+    let one = leaves.leaves u got in
+    let here = set-here before p u (record u { queues = one.0 }) got in
+    let there : slice_get units p ≡ Some (record u { queues = one.0 }) = ap (λ (l : List Entry). slice_get l p) one.1 ∙ here in
+    cc (there, now)
+
+still-claimed : (p : ℕ) (before units : List Entry) (x : Entry) → p < length before → Leaves p before units → slice_get units p ≡ Some x
+    → ((u : Entry) → slice_get before p ≡ Some u → is_none u.claim ≡ false) → is_none x.claim ≡ false
+still-claimed p before units x within leaves now busy =
+    let u = slice_get_some before p within in
+    ap (λ (y : Entry). is_none y.claim) (sym (was p before units u.0 x leaves u.1 now)) ∙ busy u.0 u.1
+
+as-gone : (p : ℕ) (before units : List Entry) (u x : Entry) → Leaves p before units → slice_get before p ≡ Some u → slice_get units p ≡ Some x → x.queues ≡ []
+    → slice_set units p (record x { live = false; claim = None }) ≡ slice_set before p (gone u)
+as-gone p before units u x leaves got now none =
+    let one = leaves.leaves u got in
+    let same = was p before units u x leaves got now in
+    let empty : one.0 ≡ [] = ap (λ (y : Entry). y.queues) same ∙ none in
+    ap (λ (y : Entry). slice_set units p (record y { live = false; claim = None })) (sym same)
+    ∙ ap (λ (l : List Entry). slice_set l p (record u { queues = one.0; live = false; claim = None })) one.1
+    ∙ set-twice before p (record u { queues = one.0 }) (record u { queues = one.0; live = false; claim = None })
+    ∙ ap (λ (qs : List ℕ). slice_set before p (record u { queues = qs; live = false; claim = None })) empty
+
+pub returns-clause-counted : goal.returns-clause-counted
+returns-clause-counted g c =
+    let x : Entry = c.at_mut-unit.result.now in
+    same-counted c.leave_all.new.units c.leave_all.new.lanes c.leave_all.new.heads c.args.place x (record x { live = false; claim = None }) c.at_mut-unit.ensures.value refl c.leave_all.ensures.counted
+
+pub returns-clause-board : goal.returns-clause-board
+returns-clause-board g c =
+    let x : Entry = c.at_mut-unit.result.now in
+    let busy = still-claimed c.args.place c.args.units.now c.leave_all.new.units x c.requires.within c.leave_all.ensures.others c.at_mut-unit.ensures.value c.requires.claimed.claimed in
+    board-idle c.args.height c.args.place x (record x { live = false; claim = None }) c.leave_all.new.units c.leave_all.new.heads c.leave_all.new.nodes c.at_mut-unit.ensures.value
+    (λ o. claimed-busy x o busy) (λ o. dead-idle (record x { live = false; claim = None }) o refl) c.leave_all.ensures.board
+
+pub returns-clause-units : goal.returns-clause-units
+returns-clause-units g c = record {
+  gone_at = λ u got.
+      as-gone c.args.place c.args.units.now c.leave_all.new.units u c.at_mut-unit.result.now c.leave_all.ensures.others got c.at_mut-unit.ensures.value
+      (left-none c.args.place c.leave_all.new.units c.at_mut-unit.result.now c.at_mut-unit.ensures.value c.leave_all.ensures.gone);
+}

@@ -1,0 +1,43 @@
+//! Queues by their keys.
+
+ghost use Rattle.std.specs.Prelude.{◌≡◌, ◌≤◌, length};
+ghost use Rattle.std.specs.BTreeMap.{get};
+ghost use Rattle.ale_base.specs.Blanks.{trimmed, padded};
+ghost use Rattle.multi_queue.specs.Seen.{name_of, names_cmp};
+
+use plain_queues::QueueKey;
+use std::collections::BTreeMap;
+
+/// How a key is looked up: its partner, and its name with blanks behind it.
+pub(crate) type Name = (u8, [u8; 24]);
+
+/// What a key is looked up by.
+pub(crate) fn name_of(key: &QueueKey) -> Name
+    ensures name { result ≡ name_of key.now }
+    ensures proper { trimmed (padded 24 key.now.name) ≡ key.now.name }
+{
+    (key.partner, blanks_behind(key.name.bytes()))
+}
+
+/// A name with blanks behind it.
+fn blanks_behind(name: &[u8]) -> [u8; 24]
+    requires { length name.now ≤ 24 }
+    ensures { result ≡ padded 24 name.now }
+{
+    let mut padded = [b' '; 24];
+    let (front, _) = padded.split_at_mut(name.len());
+    front.copy_from_slice(name);
+    padded
+}
+
+/// The number of the queue of a key.
+pub(crate) fn queue_of(names: &BTreeMap<Name, usize>, key: &QueueKey) -> Option<usize>
+    ensures number { result ≡ get names_cmp names.now (name_of key.now) }
+    ensures proper { trimmed (padded 24 key.now.name) ≡ key.now.name }
+{
+    let name = name_of(key);
+    match names.get(&name) {
+        Some(queue) => Some(*queue),
+        None => None,
+    }
+}

@@ -1,0 +1,86 @@
+//! Questions to the queues, which change nothing.
+
+use super::Queues;
+use crate::board::{next_place, ready_at};
+use crate::names::queue_of;
+use crate::places::place_of;
+use crate::reasons::why_not_at;
+use crate::status::status_at;
+use ale_base::Tid;
+use plain_queues::{Claim, NotOffered, QueueKey, QueueStatus};
+
+impl Queues {
+    ghost use Rattle.std.specs.Prelude.{◌≡◌, ◌↔◌, true, false, Some, IsTrue, IsNone, IsSome, IfSome, []};
+    ghost use Rattle.ale_base.specs.Tid.{TidOf};
+    ghost use Rattle.plain_queues.specs.Queues.{unit_of, claim_of, in_queue};
+    ghost use Rattle.plain_queues.specs.Offered.{is_offered, first_offered, why_not};
+    ghost use Rattle.plain_queues.specs.Status.{status_of};
+
+    /// Whether the unit of this id is offered: it is here, not claimed, not marked, heads each of its queues, and none of these is
+    /// stopped.
+    pub fn offered(&self, tid: Tid) -> bool
+        ensures { result ≡ is_offered tid self.now }
+    {
+        match place_of(&self.units, &self.places, tid) {
+            Some(place) => ready_at(&self.units, &self.heads, place),
+            None => false,
+        }
+    }
+
+    /// Whether a unit of this id is here.
+    pub fn contains(&self, tid: Tid) -> bool
+        ensures { IsTrue result ↔ IsSome (unit_of tid self.now) }
+    {
+        match place_of(&self.units, &self.places, tid) {
+            Some(_) => true,
+            None => false,
+        }
+    }
+
+    /// Whether the unit of a claim is claimed under its number.
+    pub fn holds(&self, claim: &Claim) -> bool
+        ensures { IsTrue result ↔ (claim_of claim.now.tid self.now ≡ Some claim.now.number) }
+    {
+        match place_of(&self.units, &self.places, claim.tid) {
+            Some(place) => self.units[place].claim == Some(claim.number),
+            None => false,
+        }
+    }
+
+    /// The id of the offered unit that was added first. None exactly where no unit is offered.
+    pub fn first_offered(&self) -> Option<Tid>
+        ensures first { result ≡ first_offered self.now }
+        ensures offered { IfSome result (λ tid. is_offered tid self.now ≡ true) }
+        ensures none { IsNone result ↔ ((tid : TidOf) → is_offered tid self.now ≡ false) }
+    {
+        if self.units.is_empty() {
+            return None;
+        }
+        match next_place(&self.units, &self.heads, &self.nodes, self.height) {
+            Some(place) => Some(self.units[place].tid),
+            None => None,
+        }
+    }
+
+    /// Why the unit of this id is not offered: the first that applies. None exactly where it is offered.
+    pub fn why_not(&self, tid: Tid) -> Option<NotOffered>
+        ensures why { result ≡ why_not tid self.now }
+        ensures none { IsNone result ↔ (is_offered tid self.now ≡ true) }
+    {
+        match place_of(&self.units, &self.places, tid) {
+            Some(place) => why_not_at(&self.units, &self.lanes, place, &self.units[place]),
+            None => Some(NotOffered::Unknown),
+        }
+    }
+
+    /// The status of a queue. None exactly where it is empty.
+    pub fn status(&self, key: QueueKey) -> Option<QueueStatus>
+        ensures status { result ≡ status_of key self.now }
+        ensures none { IsNone result ↔ (in_queue key self.now ≡ []) }
+    {
+        match queue_of(&self.names, &key) {
+            Some(queue) => status_at(&self.units, &self.lanes, &self.heads, queue),
+            None => None,
+        }
+    }
+}
