@@ -1,0 +1,24 @@
+use Rattle.std.proofs.Common.{◌≡◌, false, sym, ap, subst, ◌∙◌}
+use Rattle.dist_model.specs.Outbound.{removes}
+use Rattle.idoc_tree.specs.Forest.{AllNodes, map_nodes}
+use Rattle.idoc_tree.specs.Nodes.{forest_of}
+use Rattle.version_reduce.specs.Document.{IsOfMessage}
+use Rattle.version_reduce.specs.Reduced.{reduced_segment, reduced}
+use Rattle.version_reduce.proofs.ChangeLemmas.{without-none}
+use Rattle.version_reduce.proofs.DocumentLemmas.{reduced-IsOfMessage, reduced-gone}
+use Rattle.version_reduce.proofs.reduction.reduce_message.Goals as goal
+
+same : (c : goal.In_ok-sent) → forest_of c.in_ok-sent.sent.items ≡ reduced c.args.model.now c.args.profile.now (forest_of c.args.forest.items)
+same c = c.in_ok-sent.ensures
+    ∙ ap (map_nodes (reduced_segment c.as_lists-lists.result.now.definitions c.kept_fields.result.now)) (without-none (forest_of c.args.forest.items))
+    ∙ ap (λ keep. map_nodes (reduced_segment c.as_lists-lists.result.now.definitions keep) (forest_of c.args.forest.items)) c.kept_fields.ensures
+    ∙ ap (λ model. reduced model c.args.profile.now (forest_of c.args.forest.items)) c.as_lists-lists.ensures.same
+
+pub returns : goal.returns
+returns c = record {
+  map = same c;
+  gone = λ gone. subst (AllNodes (λ segment. removes c.args.profile.now segment.type ≡ false)) (sym (same c))
+      (reduced-gone c.args.model.now c.args.profile.now (forest_of c.args.forest.items) gone);
+  of_message = λ is. subst (IsOfMessage c.args.model.now c.args.profile.now.message) (sym (same c))
+      (reduced-IsOfMessage c.args.model.now c.args.profile.now c.args.profile.now.message (forest_of c.args.forest.items) c.as_lists-lists.ensures.kept is);
+}

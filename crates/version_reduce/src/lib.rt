@@ -1,0 +1,20 @@
+//! What is sent of a document to one receiver: segments are removed, fields are reduced and converted, and definitions
+//! of a release are given.
+//!
+//! Contract: each call is exactly one plain map over the forest, and a valid forest stays valid. The definitions are in
+//! `specs/`: `Removed`, `Reduced`, `Converted`, `Released`, and `Texts`; those in `specs/steps/` serve private functions
+//! alone.
+#![tactic(auto)]
+
+mod conversion;
+mod head;
+mod reduction;
+mod release;
+mod removal;
+mod texts;
+mod walk;
+
+pub use conversion::convert_fields;
+pub use reduction::reduce_message;
+pub use release::to_release;
+pub use removal::remove_segments;

@@ -1,0 +1,70 @@
+//! The segments that a profile removes.
+
+ghost use Rattle.std.specs.Prelude.{◌≡◌, false, Contains, IfOk};
+ghost use Rattle.idoc_tree.specs.Forest.{AllNodes};
+ghost use Rattle.idoc_tree.specs.Nodes.{forest_of};
+ghost use Rattle.dist_model.specs.Outbound.{removes};
+ghost use Rattle.version_reduce.specs.Document.{IsOfMessage};
+ghost use Rattle.version_reduce.specs.Removed.{removed};
+
+use crate::head::Head;
+use crate::walk::{Step, walk};
+use ale_base::OutOfMemory;
+use dist_model::{Model, Outbound};
+use idoc_tree::Node;
+use segment_defs::TypeNo;
+use std::alloc::Global;
+
+/// What is left of a forest where the segments of the types that a profile removes go, each with all below it. A document
+/// of the profile's message type stays one.
+pub fn remove_segments(
+    alloc: Global,
+    model: &Model,
+    profile: &Outbound,
+    forest: Vec<Node>,
+) -> Result<Vec<Node>, OutOfMemory>
+    requires profile { Contains model.now.outbound profile.now }
+    ensures map { IfOk result (λ left. forest_of left.items ≡ removed profile.now (forest_of forest.items)) }
+    ensures gone { IfOk result (λ left.
+        AllNodes (λ segment. removes profile.now segment.type ≡ false) (forest_of left.items)) }
+    ensures of_message { IsOfMessage model.now profile.now.message (forest_of forest.items)
+        → IfOk result (λ left. IsOfMessage model.now profile.now.message (forest_of left.items)) }
+{
+    // The rules of a model say that nothing mandatory goes below what stays.
+    let _rules = model.as_lists();
+    let left = walk(alloc, &Removal { profile }, forest)?;
+    Ok(left)
+}
+
+/// Segments of some types go.
+#[derive(Clone, Copy)]
+struct Removal<'p> {
+    /// The profile that removes them.
+    profile: &'p Outbound,
+}
+
+impl<'p> Step for Removal<'p> {
+    ghost use Rattle.std.specs.Prelude.{⊤};
+    ghost use Rattle.dist_model.specs.Outbound.{removes};
+
+    ghost IsReady = { λ removal. ⊤ };
+
+    ghost goes = { λ removal segment. removes removal.profile.now segment.type };
+
+    ghost change = { λ removal segment. segment };
+
+    fn apply(&self, alloc: Global, head: Head) -> Result<Option<Head>, OutOfMemory> {
+        let _ = alloc;
+        if removes(self.profile, head.segment) {
+            return Ok(None);
+        }
+        Ok(Some(head))
+    }
+}
+
+/// Whether a profile removes a segment type.
+fn removes(profile: &Outbound, segment: TypeNo) -> bool
+    ensures { result ≡ removes profile.now segment }
+{
+    profile.remove.iter().any(|other| segment == *other)
+}
