@@ -2,8 +2,8 @@
 //!
 //! Contract: the queues are seen as the units that were added and are not finished, in the order in which they were added, each with
 //! its claim and its mark, and the stopped queues. Which unit is offered, why another one is not, the status of a queue and
-//! what each call changes are exactly those of this list. `multi_queue`, by which a system is to work, passes these calls on
-//! so far. The definitions are in `specs/`: `Keys`, `Queues` (the units and the stops), `Offered` (who is offered, and why
+//! what each call changes are exactly those of this list. `multi_queue`, by which a system is to work, has the same contract
+//! and scans no list. The definitions are in `specs/`: `Keys`, `Queues` (the units and the stops), `Offered` (who is offered, and why
 //! not), `Changes` (what calls change, and what a finish may look at), `Status`.
 #![tactic(auto)]
 

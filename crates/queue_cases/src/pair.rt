@@ -1,4 +1,4 @@
-//! The queues that a system runs and the plain ones, side by side. So far both are of one type.
+//! The queues that a system runs and the plain ones, side by side.
 
 use crate::call::Call;
 use crate::plain::perform_plainly;
