@@ -25,7 +25,7 @@ impl Model for Objects {
 }
 
 impl Objects {
-    ghost use Rattle.std.specs.Prelude.{◌≡◌, IfOk, OnOk, OnErr};
+    ghost use Rattle.std.specs.Prelude.{◌≡◌, IfOk, OnOk, OnErr, is_some};
     ghost use Rattle.std.specs.Option.{option_copied};
     ghost use Rattle.object_store.specs.Objects.{no_objects, listed, object_at, value_of, with_object};
 
@@ -47,6 +47,13 @@ impl Objects {
             None => None,
             Some(fields) => Some(bytes_in(fields, field)),
         }
+    }
+
+    /// Whether an object is there.
+    pub fn contains(&self, kind: &[u8], key: &[u8]) -> bool
+        ensures { result ≡ is_some (object_at kind.now key.now self.now) }
+    {
+        self.fields(kind, key).is_some()
     }
 
     /// All objects in byte order of their kinds and keys, with their fields that are not blank in byte order of their names.

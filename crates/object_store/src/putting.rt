@@ -25,7 +25,7 @@ pub fn apply(
     let kind = posting.kind.as_slice();
     let key = posting.key.as_slice();
     let fields = changed(alloc, objects, kind, key, posting.fields.as_slice())?;
-    match judged(posting, &fields, objects.fields(kind, key).is_some()) {
+    match judged(posting, &fields, objects.contains(kind, key)) {
         Outcome::Posted => {
             objects.replace(alloc, kind, key, fields)?;
             Ok(Outcome::Posted)

@@ -1,7 +1,8 @@
 //! What commands answer and list: statuses of documents, refusals, causes, and the lines of listings.
 //!
 //! Contract: each refusal has the number by which an operator knows it (`Refusal::number`), exactly where it is one of the
-//! numbered ones. The definition is in `specs/Refusal.antt`.
+//! numbered ones; and a table of statuses has for each document exactly those that it got (`StatusLog`). The definitions are in
+//! `specs/`: `Refusal`, `Statuses`.
 #![tactic(auto)]
 
 mod cause;
@@ -10,6 +11,7 @@ mod listing;
 mod refusal;
 mod show;
 mod status;
+mod status_table;
 
 pub use cause::Cause;
 pub use line::{DocLine, ObjectLine, QueueLine, SegmentLine, UnitLine, UnitState};
@@ -17,3 +19,4 @@ pub use listing::Listing;
 pub use refusal::Refusal;
 pub use show::Show;
 pub use status::Status;
+pub use status_table::StatusLog;

@@ -1,0 +1,8 @@
+-- Lemmas on change pointers. Each file stands on those before it.
+
+-- objects as a set keeps them
+pub mod ObjectLemmas
+-- one message type more
+pub mod MoreLemmas
+-- the data of an object's segment
+pub mod MasterLemmas

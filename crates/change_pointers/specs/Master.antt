@@ -1,0 +1,59 @@
+-- The master document that is made of an object. This project's own.
+use Rattle.std.specs.Prelude.{ℕ, ◌-◌, ◌==◌, List, [], length, take, Option, slice_get, if◌then◌else◌}
+use Rattle.std.specs.Option.{option_and_then, option_map, option_map_or}
+use Rattle.idoc_record.specs.declared.control_field.ControlField.{ControlField}
+use Rattle.idoc_record.specs.declared.control_field.ControlField.TheVariants.{Idoctyp, Mestyp}
+use Rattle.idoc_record.specs.Control.{blank_text, control_with, written_at}
+use Rattle.segment_defs.specs.declared.definitions.Definitions.{Definitions}
+use Rattle.segment_defs.specs.declared.field.Field.{Field}
+use Rattle.segment_defs.specs.Definitions.{versions_of}
+use Rattle.segment_defs.specs.Version.{data_of}
+use Rattle.idoc_tree.specs.Forest.{Segment}
+use Rattle.dist_model.specs.declared.kind.Kind.{Kind}
+use Rattle.dist_model.specs.declared.lists.Lists.{Lists}
+use Rattle.dist_model.specs.Field.{all_fields}
+use Rattle.object_store.specs.Objects.{Fields, value_in}
+use Rattle.change_pointers.specs.Noted.{name_at}
+
+-- the name of a message type, given its number
+abbrev pub message_name : Lists → ℕ → List ℕ
+message_name model message = option_map_or (λ m. m.name) (slice_get model.messages message) []
+
+-- the name of its IDoc type
+abbrev pub type_name : Lists → ℕ → List ℕ
+type_name model message =
+    option_map_or (λ m. option_map_or (λ type. type.name) (slice_get model.types m.idoctype) []) (slice_get model.messages message) []
+
+-- the kind of its objects
+abbrev pub kind_of : Lists → ℕ → Option Kind
+kind_of model message = option_and_then (λ m. slice_get model.kinds m.kind) (slice_get model.messages message)
+
+-- the fields of a master's control record: it names its table, its IDoc type and its message type, and all else is blank
+abbrev pub master_text : Lists → ℕ → ControlField → List ℕ
+master_text model message = written_at Mestyp (message_name model message) (written_at Idoctyp (type_name model message) blank_text)
+
+-- the control record of a master
+abbrev pub master_control : Lists → ℕ → List ℕ
+master_control model message = control_with (master_text model message)
+
+-- the length of the field at a place
+abbrev pub length_at : List Field → ℕ → ℕ
+length_at fields place = option_map_or (λ field. field.length) (slice_get fields place) 0
+
+-- the text of the field at a place: the key in the key field, and else the object's value. What is longer than its field is cut
+abbrev pub object_text : List Field → ℕ → List ℕ → Fields → ℕ → List ℕ
+object_text fields key_place key values place =
+    take (length_at fields place) (if place == key_place then key else value_in (name_at fields place) values)
+
+-- the segment of an object of a kind: it has the newest definition of the kind's segment type
+abbrev pub object_segment : Definitions → List ℕ → Fields → Kind → Segment
+object_segment definitions key values kind =
+    record {
+      type = kind.segment;
+      version = length (versions_of definitions kind.segment) - 1;
+      sdata = data_of (all_fields definitions kind.segment) (object_text (all_fields definitions kind.segment) kind.key key values);
+    }
+
+-- the segment of a master of a message type
+abbrev pub master_segment : Lists → ℕ → List ℕ → Fields → Option Segment
+master_segment model message key values = option_map (object_segment model.definitions key values) (kind_of model message)

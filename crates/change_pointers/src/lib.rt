@@ -1,0 +1,18 @@
+//! Change pointers: which objects changed, for which message types, and the master documents that are made of them.
+//!
+//! Contract: pointers are seen as a list in the order in which they were noted. The objects that wait for a message type are
+//! told in byte order, each once (`Pointers::pending`), a put notes exactly the pointers of the fields that it changes
+//! (`noted`), and the master of an object has the object as it is (`master_of`). The definitions are in `specs/`: `Pointers`,
+//! `Noted` and `Master`.
+#![tactic(auto)]
+
+mod master;
+mod noting;
+mod object_set;
+mod pointer;
+mod pointers;
+
+pub use master::master_of;
+pub use noting::noted;
+pub use pointer::{ObjectKey, Pointer};
+pub use pointers::Pointers;
