@@ -1,19 +1,28 @@
--- What a log made of the application of its system: the documents that came in with their statuses, and the objects. Each record
--- is taken under the model in force there. Statuses are SAP's (SAP Library, IDoc statuses); when each comes is this project's own.
-use Rattle.std.specs.Prelude.{ℕ, zero, suc, List, [], ◌∷◌, ◌++◌, fold, Option, Some, None, slice_get, slice_set}
-use Rattle.std.specs.Option.{option_map_or}
+-- What a log made of the application of its system: the documents that came in with their statuses, the objects, and their change
+-- pointers. Each record is taken under the model in force there. Statuses are SAP's (SAP Library, IDoc statuses); when each comes is this project's own.
+use Rattle.std.specs.Prelude.{ℕ, zero, suc, List, [], ◌∷◌, ◌++◌, fold, position, Option, Some, None, slice_get, slice_set}
+use Rattle.std.specs.List.{filter_map}
+use Rattle.std.specs.Option.{option_map, option_map_or}
+use Rattle.ale_base.specs.Text.{is_text}
 use Rattle.dist_model.specs.declared.lists.Lists.{Lists}
+use Rattle.dist_model.specs.Message.{message_names}
+use Rattle.dist_model.specs.Model.{message_named}
 use Rattle.unit_core.specs.declared.ale_unit.AleUnit.{AleUnit}
 use Rattle.unit_core.specs.declared.raw_unit_doc.RawUnitDoc.{RawUnitDoc}
 use Rattle.unit_core.specs.declared.records.Record.{Record}
-use Rattle.unit_core.specs.declared.records.Record.TheVariants.{Accept, Execute, Direct, Put, App, Repost}
+use Rattle.unit_core.specs.declared.records.Record.TheVariants.{Commit, Accept, Execute, Direct, Put, App, Repost, Model}
 use Rattle.unit_core.specs.Queues.{unit_named}
 use Rattle.log_models.specs.InForce.{in_force, models_after, system_after}
+use Rattle.ale_base.specs.declared.change.FieldValue.{FieldValue}
 use Rattle.object_store.specs.declared.posting.Outcome.{Outcome}
 use Rattle.object_store.specs.declared.posting.Outcome.TheVariants.{Posted, Refused}
 use Rattle.object_store.specs.declared.posting.Posting.{Posting}
 use Rattle.object_store.specs.Objects.{ObjectsOf, no_objects}
 use Rattle.object_store.specs.Posting.{applied, outcome_of, put_in}
+use Rattle.change_pointers.specs.declared.pointer.Pointer.{Pointer}
+use Rattle.change_pointers.specs.Master.{message_name}
+use Rattle.change_pointers.specs.Noted.{noted_by}
+use Rattle.change_pointers.specs.Pointers.{cleared}
 use Rattle.status_log.specs.declared.status.Status.{Status}
 use Rattle.inbound_post.specs.declared.prepared.DocPosting.{DocPosting}
 use Rattle.inbound_post.specs.declared.prepared.DocPosting.TheVariants.{Post, Waits, Errors}
@@ -36,15 +45,16 @@ pub record Arrived : Type 0 where
   pub statuses : List Status
 
 -- what a system's application is: the units that were received, the inbound documents in the order in which their units were
--- executed, numbered from 1, and the objects
+-- executed, numbered from 1, the objects, and the change pointers that no gathering has taken up yet
 pub record Application : Type 0 where
   pub received : List AleUnit
   pub documents : List Arrived
   pub objects : ObjectsOf
+  pub pointers : List Pointer
 
 -- nothing was received, and there are no objects
 abbrev pub no_application : Application
-no_application = record { received = []; documents = []; objects = no_objects }
+no_application = record { received = []; documents = []; objects = no_objects; pointers = [] }
 
 -- the statuses of a document as it comes in: 50 added; 64 ready for the application and 62 passed to it where it is posted at once,
 -- and then what came of that; 64 alone where it waits; 56 where there is no profile for it or it is not read
@@ -112,15 +122,39 @@ abbrev pub passed_again : Lists → Application → ℕ → Application
 passed_again model application zero = application
 passed_again model application (suc place) = passed_at model place application (slice_get application.documents place)
 
+-- an object gets values, and the pointers of what changes are noted
+abbrev pub changed : Lists → List ℕ → List ℕ → List FieldValue → Application → Application
+changed model kind key fields application =
+    record application {
+      objects = put_in kind key fields application.objects;
+      pointers = application.pointers ++ noted_by model application.objects kind key fields;
+    }
+
+-- the pointers that a Commit leaves: a gathering takes those of its message type up
+abbrev pub left_by : Lists → Option (List ℕ) → List Pointer → List Pointer
+left_by model None pointers = pointers
+left_by model (Some name) pointers = option_map_or (λ message. cleared message pointers) (message_named name model) pointers
+
 -- what a system's application is behind one more record of its log
 abbrev pub application_after : Lists → ℕ → Application → Record → Application
-application_after model system application (Put kind key fields) = record application { objects = put_in kind key fields application.objects }
+application_after model system application (Commit origin docs) = record application { pointers = left_by model origin application.pointers }
+application_after model system application (Put kind key fields) = changed model kind key fields application
 application_after model system application (Accept unit) = with_unit unit application
 application_after model system application (Direct unit) = executed_with model system unit (with_unit unit application)
 application_after model system application (Execute tid) = executed_if model system application (unit_named tid application.received)
 application_after model system application (App doc) = passed_again model application doc.0
 application_after model system application (Repost doc) = passed_again model application doc.0
 application_after model system application _ = application
+
+-- a pointer of one model with the number that its message type has in another, if it is there
+abbrev pub renumbered : Lists → Lists → Pointer → Option Pointer
+renumbered before after pointer =
+    option_map (λ message. record pointer { message = message }) (position (is_text (message_name before pointer.message)) (message_names after.messages))
+
+-- pointers when another model comes into force: numbers of message types are those of one model alone
+abbrev pub pointers_under : Option Lists → Option Lists → List Pointer → List Pointer
+pointers_under (Some before) (Some after) pointers = filter_map (renumbered before after) pointers
+pointers_under before after pointers = pointers
 
 -- what is known behind some records: how many models there were, the system of the first, and the application
 pub record Past : Type 0 where
@@ -132,13 +166,21 @@ pub record Past : Type 0 where
 abbrev pub no_past : Past
 no_past = record { models = 0; system = 0; application = no_application }
 
--- what is known behind one more record, which is taken under the model in force
+-- the application behind one more record: a Model record brings another model into force, and each other one is taken under
+-- the model that is
+abbrev pub next_application : List Lists → Past → Record → Application
+next_application models past (Model text) =
+    record (past.application) { pointers = pointers_under (in_force models past.models) (in_force models (suc past.models)) past.application.pointers }
+next_application models past next =
+    option_map_or (λ model. application_after model past.system past.application next) (in_force models past.models) past.application
+
+-- what is known behind one more record
 abbrev pub past_after : List Lists → Past → Record → Past
 past_after models past next =
     record {
       models = models_after past.models next;
       system = system_after past.models past.system next;
-      application = option_map_or (λ model. application_after model past.system past.application next) (in_force models past.models) past.application;
+      application = next_application models past next;
     }
 
 -- what is known behind a log whose models these are, in order
@@ -148,6 +190,10 @@ past_of models log = fold (past_after models) no_past log
 -- the inbound documents of a log
 abbrev pub inbound_documents : List Lists → List Record → List Arrived
 inbound_documents models log = (past_of models log).application.documents
+
+-- the change pointers that no gathering of a log has taken up
+abbrev pub noted_in : List Lists → List Record → List Pointer
+noted_in models log = (past_of models log).application.pointers
 
 -- the objects of a log
 abbrev pub data_of : List Lists → List Record → ObjectsOf
