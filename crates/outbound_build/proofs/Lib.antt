@@ -1,0 +1,3 @@
+-- names of queues, and the first segment of a type
+pub mod NameLemmas
+pub mod FirstLemmas

@@ -1,0 +1,13 @@
+-- a document as its control record and its forest
+pub mod Document
+-- what is sent of a master to one receiver
+pub mod ControlRecord
+pub mod Sent
+-- the queues that a document is in
+pub mod QueueNames
+-- what one record adds to the documents and units of a log
+pub mod Added
+-- the documents and units of a whole log
+pub mod Committed
+-- copies of steps
+pub mod steps

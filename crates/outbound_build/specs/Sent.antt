@@ -1,0 +1,44 @@
+-- What is sent of a master to one receiver. SAP Library, ALE: outbound processing filters segments, reduces and converts
+-- fields and adapts the version; the meaning of each step is this project's own.
+use Rattle.std.specs.Prelude.{ℕ, List, Option, Some, None, option_and_then}
+use Rattle.idoc_record.specs.Control.{control_with}
+use Rattle.dist_model.specs.declared.lists.Lists.{Lists}
+use Rattle.dist_model.specs.declared.outbound.Outbound.{Outbound}
+use Rattle.dist_model.specs.Message.{message_entries}
+use Rattle.dist_model.specs.Model.{outbound_of}
+use Rattle.idoc_tree.specs.Forest.{Forest, no_trees, tree}
+use Rattle.filter_objects.specs.Passing.{groups_of}
+use Rattle.filter_objects.specs.FromLeaves.{kept_part}
+use Rattle.version_reduce.specs.Removed.{removed}
+use Rattle.version_reduce.specs.Reduced.{reduced}
+use Rattle.version_reduce.specs.Converted.{converted}
+use Rattle.version_reduce.specs.Released.{released}
+use Rattle.outbound_build.specs.Document.{Document}
+use Rattle.outbound_build.specs.ControlRecord.{control_text}
+
+-- what a profile makes of a forest: segments are removed, fields reduced, values converted, and definitions of the
+-- profile's release given, in this order
+abbrev pub adapted : Lists → Outbound → Forest → Forest
+adapted model profile forest = released model profile (converted model profile (reduced model profile (removed profile forest)))
+
+-- the document of this number that a profile makes of what is kept of a master; none where nothing is kept
+abbrev pub made_of : Lists → Outbound → ℕ → List ℕ → Forest → Option Document
+made_of model profile number control no_trees = None
+made_of model profile number control (tree root below after) =
+    Some (record {
+      control = control_with (control_text model profile number control);
+      forest = adapted model profile (tree root below after);
+    })
+
+-- what the groups of a row keep of a forest, by the IDoc type of a message type
+abbrev pub kept_by : Lists → ℕ → ℕ → Forest → Forest
+kept_by model row message forest = kept_part model (message_entries model.types model.messages message) (groups_of model row) forest
+
+-- what is sent by a row and its profile
+abbrev pub sent_by : Lists → ℕ → ℕ → Document → Outbound → Option Document
+sent_by model row number master profile =
+    made_of model profile number master.control (kept_by model row profile.message master.forest)
+
+-- what is sent of a master by a row of the model, as the document of this number; none where nothing of it is kept
+abbrev pub sent : Lists → ℕ → ℕ → Document → Option Document
+sent model row number master = option_and_then (sent_by model row number master) (outbound_of model row)

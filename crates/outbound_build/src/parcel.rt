@@ -1,0 +1,20 @@
+//! Units that have no number yet.
+
+use crate::QueueLists;
+use ale_base::{DocNum, Fixed, Items, SystemNo};
+use unit_core::RawUnitDoc;
+
+/// A unit that has no number yet: to which system it goes, what executes it, its queues and its documents.
+#[derive(Debug, Drop)]
+pub(crate) struct Parcel {
+    /// The system that is to execute it.
+    pub receiver: SystemNo,
+    /// The function that executes it.
+    pub function: Fixed<30>,
+    /// Its queues.
+    pub queues: QueueLists,
+    /// The numbers of its documents.
+    pub numbers: Items<DocNum>,
+    /// The documents.
+    pub docs: Items<RawUnitDoc>,
+}
