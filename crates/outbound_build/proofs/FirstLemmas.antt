@@ -21,7 +21,8 @@ find-on : (test : Segment → Bool) (root : Segment) (below after : Forest) → 
 find-on test root below after is =
     cond-false (test root) (Some root) (find test (preorder below ++ preorder after)) is ∙ find-append test (preorder below) (preorder after)
 
-pub find-below : (test : Segment → Bool) (root : Segment) (below after : Forest) (segment : Segment) → test root ≡ false → find test (preorder below) ≡ Some segment
+pub find-below : (test : Segment → Bool) (root : Segment) (below after : Forest) (segment : Segment) → test root ≡ false
+    → find test (preorder below) ≡ Some segment
     → find test (preorder (tree root below after)) ≡ Some segment
 find-below test root below after segment is found = find-on test root below after is ∙ ap (λ o. option_or o (find test (preorder after))) found
 
@@ -34,7 +35,8 @@ AllNodes-preorder P no_trees all = tt
 AllNodes-preorder P (tree root below after) all =
     (all.0, AllByRecursion-append P (preorder below) (preorder after) (AllNodes-preorder P below all.1) (AllNodes-preorder P after all.2))
 
-find-all : (P : Segment → Type 0) (test : Segment → Bool) (segments : List Segment) (segment : Segment) → AllByRecursion P segments → find test segments ≡ Some segment → P segment
+find-all : (P : Segment → Type 0) (test : Segment → Bool) (segments : List Segment) (segment : Segment) → AllByRecursion P segments
+    → find test segments ≡ Some segment → P segment
 find-all P test [] segment all found = cc
 find-all P test (first ∷ others) segment all found =
     elim (cases_Bool (test first)) [
@@ -43,7 +45,8 @@ find-all P test (first ∷ others) segment all found =
     ]
 
 -- what holds of each segment of a forest holds of one that is found in it
-pub found-AllNodes : (P : Segment → Type 0) (test : Segment → Bool) (forest : Forest) (segment : Segment) → AllNodes P forest → find test (preorder forest) ≡ Some segment → P segment
+pub found-AllNodes : (P : Segment → Type 0) (test : Segment → Bool) (forest : Forest) (segment : Segment) → AllNodes P forest
+    → find test (preorder forest) ≡ Some segment → P segment
 found-AllNodes P test forest segment all found = find-all P test (preorder forest) segment (AllNodes-preorder P forest all) found
 
 -- a segment of some definitions has one of them

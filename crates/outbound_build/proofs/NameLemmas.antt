@@ -61,12 +61,14 @@ fault-of name TooLong is some =
 fault-of name (BadByte place) is some =
     let test : ℕ → Bool = λ byte. not (is_name_byte byte) in
     cond-false (nat_lt 24 (length name)) (Some TooLong) (option_map BadByte (position test name)) (le-ltb 24 (length name) is.0)
-    ∙ ap (option_map BadByte) (position-at test name place 0 is.1.within (λ k less. name_byte-no_other (get_or name k 0) (is.1.before k less)) (other_byte (get_or name place 0) is.1.other))
+    ∙ ap (option_map BadByte) (position-at test name place 0 is.1.within
+    (λ k less. name_byte-no_other (get_or name k 0) (is.1.before k less)) (other_byte (get_or name place 0) is.1.other))
 
 -- the first fault of two lists is that of the first, or else that of the second
 pub first_fault-append : (first second : List (List ℕ)) → first_fault (first ++ second) ≡ option_or (first_fault first) (first_fault second)
 first_fault-append [] second = refl
-first_fault-append (name ∷ names) second = ap (option_or (fault_of name)) (first_fault-append names second) ∙ grouped (fault_of name) (first_fault names) (first_fault second)
+first_fault-append (name ∷ names) second = ap (option_or (fault_of name)) (first_fault-append names second)
+    ∙ grouped (fault_of name) (first_fault names) (first_fault second)
   where
     grouped : (a b c : Option NameFault) → option_or a (option_or b c) ≡ option_or (option_or a b) c
     grouped None b c = refl
@@ -74,7 +76,11 @@ first_fault-append (name ∷ names) second = ap (option_or (fault_of name)) (fir
 
 pub queue-named : (name queue : List ℕ) → queue ≡ name → IsQueueName name → IsNamed name queue
 queue-named name queue same is =
-    record { same = same; some = name-some name (λ none. let bare : length name ≡ 0 = ap length none in omega (arith, is.least)); faultless = name-faultless name is }
+    record {
+      same = same;
+      some = name-some name (λ none. let bare : length name ≡ 0 = ap length none in omega (arith, is.least));
+      faultless = name-faultless name is;
+    }
 
 pub ruleset queue_of_name = (queue-named, fault-of)
 
@@ -83,12 +89,14 @@ pub queues-first : (outbound inbound : List (List ℕ)) (fault : NameFault) → 
 queues-first outbound inbound fault is =
     ap (λ o. option_map_or Err o (Ok (lists_named outbound inbound))) (first_fault-append outbound inbound ∙ ap (λ o. option_or o (first_fault inbound)) is)
 
-pub queues-second : (outbound inbound : List (List ℕ)) (fault : NameFault) → first_fault outbound ≡ None → first_fault inbound ≡ Some fault → queues_named outbound inbound ≡ Err fault
+pub queues-second : (outbound inbound : List (List ℕ)) (fault : NameFault) → first_fault outbound ≡ None → first_fault inbound ≡ Some fault
+    → queues_named outbound inbound ≡ Err fault
 queues-second outbound inbound fault none is =
     ap (λ o. option_map_or Err o (Ok (lists_named outbound inbound)))
     (first_fault-append outbound inbound ∙ ap (λ o. option_or o (first_fault inbound)) none ∙ is)
 
-pub queues-both : (outbound inbound : List (List ℕ)) → first_fault outbound ≡ None → first_fault inbound ≡ None → queues_named outbound inbound ≡ Ok (lists_named outbound inbound)
+pub queues-both : (outbound inbound : List (List ℕ)) → first_fault outbound ≡ None → first_fault inbound ≡ None
+    → queues_named outbound inbound ≡ Ok (lists_named outbound inbound)
 queues-both outbound inbound none too =
     ap (λ o. option_map_or Err o (Ok (lists_named outbound inbound)))
     (first_fault-append outbound inbound ∙ ap (λ o. option_or o (first_fault inbound)) none ∙ too)

@@ -1,6 +1,6 @@
 -- What one record adds to the outbound documents and the units of its log, under the model in force there. SAP Library,
 -- ALE: documents are sent immediately or collected; records, numbers and packets are this project's own.
-use Rattle.std.specs.Prelude.{ℕ, suc, ◌+◌, ◌-◌, ◌*◌, ◌/◌, ◌==◌, ◌||◌, Bool, List, [], ◌∷◌, ◌++◌, length, map, filter, fold, take, drop, nat_eq, Option, Some, None, option_and_then, Result, Ok, Err, if◌then◌else◌}
+use Rattle.std.specs.Prelude.{ℕ, suc, ◌+◌, ◌-◌, ◌*◌, ◌/◌, ◌==◌, ◌||◌, Bool, true, false, List, [], ◌∷◌, ◌++◌, length, map, filter, fold, take, drop, nat_eq, Option, Some, None, option_and_then, Result, Ok, Err, if◌then◌else◌}
 use Rattle.std.specs.List.{filter_map, flat_map, range_with_len}
 use Rattle.std.specs.Option.{option_map_or}
 use Rattle.ale_base.specs.Text.{is_text}
@@ -169,6 +169,12 @@ unit_of system number parcel =
 abbrev pub numbered : ℕ → ℕ → List Parcel → List OutUnit
 numbered system number [] = []
 numbered system number (parcel ∷ parcels) = unit_of system number parcel ∷ numbered system (suc number) parcels
+
+-- whether a record may add anything: a Commit and a Dispatch
+abbrev pub adds_any : Record → Bool
+adds_any (Commit origin docs) = true
+adds_any Dispatch = true
+adds_any _ = false
 
 -- What a record adds to the documents and units of a system's log, of which the outbox says how many there are and which
 -- documents wait. A Commit and a Dispatch alone add anything.

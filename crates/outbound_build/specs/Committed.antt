@@ -1,10 +1,11 @@
 -- The documents and the units that a log stands for. Each record is taken under the model in force there, which is that of
 -- the last Genesis or Model record before it. This project's own.
-use Rattle.std.specs.Prelude.{ℕ, List, [], ◌++◌, map, fold}
+use Rattle.std.specs.Prelude.{◌≡◌, ℕ, ◌+◌, ◌<◌, ◌≤◌, ⊤, List, [], ◌∷◌, ◌++◌, length, map, fold, take}
 use Rattle.std.specs.Option.{option_map_or}
 use Rattle.dist_model.specs.declared.lists.Lists.{Lists}
 use Rattle.unit_core.specs.declared.ale_unit.AleUnit.{AleUnit}
 use Rattle.unit_core.specs.declared.records.Record.{Record}
+use Rattle.unit_core.specs.declared.records.Record.TheVariants.{Genesis}
 use Rattle.log_models.specs.InForce.{in_force, models_after, system_after}
 use Rattle.outbound_build.specs.declared.added.Added.{Added}
 use Rattle.outbound_build.specs.declared.added.OutDocument.{OutDocument}
@@ -68,3 +69,21 @@ units_of models log = (past_of models log).units
 -- the units that a log commits
 abbrev pub committed_of : List Lists → List Record → List AleUnit
 committed_of models log = map (λ one. one.unit) (units_of models log)
+
+-- how many units there are with those that are added
+abbrev pub units_behind : Outbox → Added → ℕ
+units_behind outbox more = outbox.units + length more.units
+
+-- the first count of units above 65,536 as a log grows: its first so many records have it, and no fewer have too many
+pub record IsFirstAbove (models : List Lists) (log : List Record) (count : ℕ) : Type 0 where
+  pub records : ℕ
+  pub within : records ≤ length log
+  pub units : length (units_of models (take records log)) ≡ count
+  pub above : 65536 < count
+  pub before : (fewer : ℕ) → fewer < records → length (units_of models (take fewer log)) ≤ 65536
+
+-- a log is of a system where it has no records, or begins with a Genesis that names the system
+abbrev pub IsLogOf : ℕ → List Record → Type 0
+IsLogOf system [] = ⊤
+IsLogOf system (Genesis number text ∷ rest) = number ≡ system
+IsLogOf system (first ∷ rest) = ⊥

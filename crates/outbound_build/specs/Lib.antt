@@ -9,5 +9,7 @@ pub mod QueueNames
 pub mod Added
 -- the documents and units of a whole log
 pub mod Committed
+-- what every unit of a log is
+pub mod Units
 -- copies of steps
 pub mod steps

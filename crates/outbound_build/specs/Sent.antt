@@ -1,6 +1,7 @@
 -- What is sent of a master to one receiver. SAP Library, ALE: outbound processing filters segments, reduces and converts
 -- fields and adapts the version; the meaning of each step is this project's own.
-use Rattle.std.specs.Prelude.{ℕ, List, Option, Some, None, option_and_then}
+use Rattle.std.specs.Prelude.{ℕ, List, Option, Some, None, option_and_then, slice_get}
+use Rattle.std.specs.Option.{option_map_or}
 use Rattle.idoc_record.specs.Control.{control_with}
 use Rattle.dist_model.specs.declared.lists.Lists.{Lists}
 use Rattle.dist_model.specs.declared.outbound.Outbound.{Outbound}
@@ -42,3 +43,7 @@ sent_by model row number master profile =
 -- what is sent of a master by a row of the model, as the document of this number; none where nothing of it is kept
 abbrev pub sent : Lists → ℕ → ℕ → Document → Option Document
 sent model row number master = option_and_then (sent_by model row number master) (outbound_of model row)
+
+-- the message type of a row of the model
+abbrev pub message_of : Lists → ℕ → ℕ
+message_of model row = option_map_or (λ is. is.message) (slice_get model.rows row) 0

@@ -1,20 +1,31 @@
 //! What is sent of a master document to each receiver, and the documents and units that a log stands for.
 //!
-//! Contract: `queues` gives exactly the queues that the rules of a row's profile name for a document, or the fault of the
-//! first rule that names none. The definitions are in `specs/`: `Document`, `ControlRecord` and `Sent` (what is sent of a
-//! master), `QueueNames` (its queues), `Added` (what one record adds to the documents and units of a log), `Committed` (the
-//! documents and units of a whole log). No function computes those of `Sent`, `Added` and `Committed` yet.
+//! Contract: `sent` is exactly what the filters and the profile of a row leave of a master, with its control record, and
+//! none exactly where the largest kept part is nothing; `queues` are exactly the names by the profile's rules, or the first
+//! fault; `Outbox::added` is exactly what one more record of a log adds, and `committed` are the units of a whole log, to
+//! which each record adds and in which it changes nothing. The definitions are in `specs/`: `ControlRecord` and `Sent` (one
+//! document), `QueueNames`, `Added` (one record), `Committed` (whole logs), and `Units`, which holds of every unit of a log
+//! by the lemmas of `proofs/UnitLemmas`.
 #![tactic(auto)]
 
 mod added;
 mod batch;
+mod committing;
+mod control_record;
 mod fault;
+mod masters;
 mod naming;
+mod numbering;
 mod outbox;
+mod packets;
 mod parcel;
 mod queue_lists;
+mod sending;
+mod types;
 
 pub use added::{Added, Fate, OutDocument, OutUnit, Waiting};
+pub use committing::committed;
 pub use fault::{AddFault, BuildFault};
 pub use outbox::Outbox;
 pub use queue_lists::{QueueLists, queues};
+pub use sending::sent;

@@ -38,6 +38,25 @@ pub(crate) fn names_by(
     Ok(names)
 }
 
+/// The names of queues that the texts of some rules make, each once.
+pub(crate) fn text_names(
+    alloc: Global,
+    rules: &[QueueRule],
+) -> Result<Items<QueueName>, OutOfMemory>
+    requires { first_fault (map (λ rule. rule.text) rules.now) ≡ None }
+    ensures { IfOk result (λ names. names ≡ named_once (map (λ rule. rule.text) rules.now)) }
+{
+    let mut names = Items::new(alloc);
+    for rule in rules {
+        match add_name(&mut names, rule.text.as_slice()) {
+            Ok(()) => {}
+            Err(BuildFault::OutOfMemory) => return Err(OutOfMemory),
+            Err(BuildFault::Name(_)) => unreachable!(),
+        }
+    }
+    Ok(names)
+}
+
 /// Adds a name, unless it has no bytes or is there already.
 fn add_name(names: &mut Items<QueueName>, name: &[u8]) -> Result<(), BuildFault>
     ensures added { OnOk result (names.new ≡ with_name names.old name.now) }

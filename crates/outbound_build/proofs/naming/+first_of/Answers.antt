@@ -17,7 +17,8 @@ returns-in-Some t c =
     let item = tree_of c.node-item.result in
     let found = (tree_of c.in-Some.found.now).root in
     let below : first_of type item.below ≡ Some found =
-    ap (first_of type) (below-out c.node-item.result ∙ ap forest_of (sym c.deref.ensures.value)) ∙ sym c.first_of.ensures ∙ ap (option_map (λ node. (tree_of node.now).root)) c.in-Some.is in
+    ap (first_of type) (below-out c.node-item.result ∙ ap forest_of (sym c.deref.ensures.value)) ∙ sym c.first_of.ensures
+    ∙ ap (option_map (λ node. (tree_of node.now).root)) c.in-Some.is in
     sym (find-below test item.root item.below (forest_of (drop (at + 1) nodes)) found (sym c.is_of.ensures ∙ c.if-is_of.false) below)
     ∙ ap (first_of type) (sym (trees_of-drop nodes at c.node-item.result c.loop-node-test.true c.node-item.is))
     ∙ c.loop-node.invariant
@@ -30,7 +31,8 @@ loop-node-preserved t c =
     let at = c.loop-node.node-index in
     let item = tree_of c.node-item.result in
     let below : first_of type item.below ≡ None =
-    ap (first_of type) (below-out c.node-item.result ∙ ap forest_of (sym c.deref.ensures.value)) ∙ sym c.first_of.ensures ∙ ap (option_map (λ node. (tree_of node.now).root)) c.in_default.is in
+    ap (first_of type) (below-out c.node-item.result ∙ ap forest_of (sym c.deref.ensures.value)) ∙ sym c.first_of.ensures
+    ∙ ap (option_map (λ node. (tree_of node.now).root)) c.in_default.is in
     sym (find-after test item.root item.below (forest_of (drop (at + 1) nodes)) (sym c.is_of.ensures ∙ c.if-is_of.false) below)
     ∙ ap (first_of type) (sym (trees_of-drop nodes at c.node-item.result c.loop-node-test.true c.node-item.is))
     ∙ c.loop-node.invariant
