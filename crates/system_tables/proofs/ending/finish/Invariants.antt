@@ -1,0 +1,5 @@
+use Rattle.system_tables.proofs.ending.finish.Given as goal
+
+-- the ledger is that of the blank
+abbrev pub ghosts-finish_from : goal.ghosts-finish_from
+ghosts-finish_from a = record { name = a.blank.name; parts = a.blank.parts }

@@ -1,0 +1,43 @@
+//! The application's own tables, which a system's tables carry along.
+
+use ale_base::OutOfMemory;
+use std::alloc::Global;
+use unit_core::Record;
+
+/// The tables of an application over a system's log, which each record of the log is noted in.
+pub trait Application: Drop {
+    ghost use Rattle.std.specs.Prelude.{List, [], ◌∷◌, ◌++◌, OnOk};
+    ghost use Rattle.unit_core.specs.declared.records.Record.{Record};
+
+    /// What was made for a record before it was written.
+    type Extra: Drop;
+
+    // Whether the tables are those of a log.
+    ghost stands: { Self → List Record → Type 0 };
+
+    // Whether this is what was made for a record at these tables.
+    ghost goes_with: { Self → Record → Self.Extra → Type 0 };
+
+    /// Notes one more record, with what was made for it. After an `Err` nothing is known of the tables.
+    fn note(&mut self, alloc: Global, next: &Record, extra: Self::Extra) -> Result<(), OutOfMemory>
+        requires { goes_with self.old next.now extra }
+        ensures noted { (log : List Record) → stands self.old log → OnOk result (stands self.new (log ++ next.now ∷ [])) };
+}
+
+/// No tables of an application.
+#[derive(Clone, Copy, Debug, PartialEq, Eq)]
+pub struct NoApplication;
+
+impl Application for NoApplication {
+    ghost use Rattle.std.specs.Prelude.{⊤};
+
+    type Extra = ();
+
+    ghost stands = { λ none log. ⊤ };
+
+    ghost goes_with = { λ none next extra. ⊤ };
+
+    fn note(&mut self, _alloc: Global, _next: &Record, _extra: ()) -> Result<(), OutOfMemory> {
+        Ok(())
+    }
+}
