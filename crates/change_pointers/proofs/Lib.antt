@@ -6,3 +6,7 @@ pub mod ObjectLemmas
 pub mod MoreLemmas
 -- the data of an object's segment
 pub mod MasterLemmas
+-- the first element from a place on that passes
+pub mod RenumberLemmas
+-- a segment alone that is a document
+pub mod ReadLemmas

@@ -4,3 +4,5 @@ pub mod Pointers
 pub mod Noted
 -- the master document of an object
 pub mod Master
+-- pointers when another model comes into force
+pub mod Renumbered

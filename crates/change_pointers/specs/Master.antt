@@ -1,5 +1,5 @@
 -- The master document that is made of an object. This project's own.
-use Rattle.std.specs.Prelude.{ℕ, ◌-◌, ◌==◌, List, [], length, take, Option, slice_get, if◌then◌else◌}
+use Rattle.std.specs.Prelude.{◌≡◌, ℕ, ◌-◌, ◌≤◌, ◌==◌, List, [], length, take, Option, Some, slice_get, if◌then◌else◌}
 use Rattle.std.specs.Option.{option_and_then, option_map, option_map_or}
 use Rattle.idoc_record.specs.declared.control_field.ControlField.{ControlField}
 use Rattle.idoc_record.specs.declared.control_field.ControlField.TheVariants.{Idoctyp, Mestyp}
@@ -11,6 +11,7 @@ use Rattle.segment_defs.specs.Version.{data_of}
 use Rattle.idoc_tree.specs.Forest.{Segment}
 use Rattle.dist_model.specs.declared.kind.Kind.{Kind}
 use Rattle.dist_model.specs.declared.lists.Lists.{Lists}
+use Rattle.dist_model.specs.declared.message.Message.{Message}
 use Rattle.dist_model.specs.Field.{all_fields}
 use Rattle.object_store.specs.Objects.{Fields, value_in}
 use Rattle.change_pointers.specs.Noted.{name_at}
@@ -57,3 +58,9 @@ object_segment definitions key values kind =
 -- the segment of a master of a message type
 abbrev pub master_segment : Lists → ℕ → List ℕ → Fields → Option Segment
 master_segment model message key values = option_map (object_segment model.definitions key values) (kind_of model message)
+
+-- documents are made of the objects of a message type: it lists fields of them
+pub record MakesDocuments (model : Lists) (message : ℕ) : Type 0 where
+  pub type : Message
+  pub here : slice_get model.messages message ≡ Some type
+  pub listed : 1 ≤ length type.pointers

@@ -10,9 +10,10 @@ ghost use Rattle.segment_defs.specs.Version.{data_of};
 ghost use Rattle.idoc_tree.specs.Forest.{leaf};
 ghost use Rattle.idoc_tree.specs.Nodes.{forest_of};
 ghost use Rattle.dist_model.specs.Model.{IsModel};
+ghost use Rattle.version_reduce.specs.Document.{IsOfMessage};
 ghost use Rattle.object_store.specs.Objects.{object_at, value_in};
 ghost use Rattle.object_store.specs.Posting.{fields_of};
-ghost use Rattle.change_pointers.specs.Master.{kind_of, master_control, master_segment, object_segment, object_text};
+ghost use Rattle.change_pointers.specs.Master.{MakesDocuments, kind_of, master_control, master_segment, object_segment, object_text};
 
 use crate::ObjectKey;
 use crate::noting::value_before;
@@ -41,17 +42,37 @@ pub fn master_of(
     ensures segment { IfOk result (λ master. IfSome master (λ doc.
         Some (forest_of doc.forest.items)
         ≡ option_map leaf (master_segment model.now message key.now.key (fields_of key.now.kind key.now.key objects.now)))) }
+    // It is a document of its message type, if that is one whose objects make documents.
+    ensures of_message { MakesDocuments model.now message → IfOk result (λ master. IfSome master (λ doc.
+        IsOfMessage model.now message (forest_of doc.forest.items))) }
 {
     if !objects.contains(key.kind.as_slice(), key.key.as_slice()) {
         return Ok(None);
     }
     let lists = model.as_lists();
+    let forest = object_forest(alloc, lists, objects, message, key)?;
+    let control = master_control(lists, message);
+    Ok(Some(Doc { control, forest }))
+}
+
+/// The segment of an object for a message type, as a forest.
+fn object_forest(
+    alloc: Global,
+    lists: &Lists,
+    objects: &Objects,
+    message: MessageNo,
+    key: &ObjectKey,
+) -> Result<Vec<Node>, OutOfMemory>
+    requires kept { IsModel lists.now }
+    requires known { message < length lists.now.messages }
+    ensures { IfOk result (λ forest. Some (forest_of forest.items)
+        ≡ option_map leaf (master_segment lists.now message key.now.key (fields_of key.now.kind key.now.key objects.now))) }
+{
     let kind = kind_of(lists, message);
     let root = object_node(alloc, &lists.definitions, objects, kind, key)?;
     let mut forest = Vec::new(alloc);
     forest.push(root)?;
-    let control = master_control(lists, message);
-    Ok(Some(Doc { control, forest }))
+    Ok(forest)
 }
 
 /// The kind of the objects of a message type.

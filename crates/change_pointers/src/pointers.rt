@@ -9,10 +9,11 @@ use dist_model::MessageNo;
 use std::alloc::Global;
 use std::marker::Model;
 
-/// The pointers that were noted and not cleared. Contracts see them in the order in which they were noted.
+/// The pointers that were noted and not cleared. Contracts see them in the order in which they were noted. `renumbering` has what
+/// another model makes of them.
 #[derive(Debug, Drop)]
 pub struct Pointers {
-    pointers: Items<Pointer>,
+    pub(crate) pointers: Items<Pointer>,
 }
 
 impl Model for Pointers {

@@ -1,11 +1,9 @@
 -- What a log made of the application of its system: the documents that came in with their statuses, the objects, and their change
 -- pointers. Each record is taken under the model in force there. Statuses are SAP's (SAP Library, IDoc statuses); when each comes is this project's own.
-use Rattle.std.specs.Prelude.{ℕ, zero, suc, List, [], ◌∷◌, ◌++◌, fold, position, Option, Some, None, slice_get, slice_set}
+use Rattle.std.specs.Prelude.{ℕ, zero, suc, List, [], ◌∷◌, ◌++◌, fold, Option, Some, None, slice_get, slice_set}
 use Rattle.std.specs.List.{filter_map}
-use Rattle.std.specs.Option.{option_map, option_map_or}
-use Rattle.ale_base.specs.Text.{is_text}
+use Rattle.std.specs.Option.{option_map_or}
 use Rattle.dist_model.specs.declared.lists.Lists.{Lists}
-use Rattle.dist_model.specs.Message.{message_names}
 use Rattle.dist_model.specs.Model.{message_named}
 use Rattle.unit_core.specs.declared.ale_unit.AleUnit.{AleUnit}
 use Rattle.unit_core.specs.declared.raw_unit_doc.RawUnitDoc.{RawUnitDoc}
@@ -20,18 +18,15 @@ use Rattle.object_store.specs.declared.posting.Posting.{Posting}
 use Rattle.object_store.specs.Objects.{ObjectsOf, no_objects}
 use Rattle.object_store.specs.Posting.{applied, outcome_of, put_in}
 use Rattle.change_pointers.specs.declared.pointer.Pointer.{Pointer}
-use Rattle.change_pointers.specs.Master.{message_name}
 use Rattle.change_pointers.specs.Noted.{noted_by}
 use Rattle.change_pointers.specs.Pointers.{cleared}
+use Rattle.change_pointers.specs.Renumbered.{renumbered}
 use Rattle.status_log.specs.declared.status.Status.{Status}
+use Rattle.status_log.specs.Statuses.{plain}
 use Rattle.inbound_post.specs.declared.prepared.DocPosting.{DocPosting}
 use Rattle.inbound_post.specs.declared.prepared.DocPosting.TheVariants.{Post, Waits, Errors}
 use Rattle.inbound_post.specs.Reading.{posting}
 use Rattle.inbound_post.specs.Prepared.{posting_from}
-
--- a status that has no reason
-abbrev pub plain : ℕ → Status
-plain code = record { code = code; reason = 0 }
 
 -- the status by what came of a posting: 53 posted, 51 not posted, with its reason
 abbrev pub status_of : Outcome → Status
@@ -145,11 +140,6 @@ application_after model system application (Execute tid) = executed_if model sys
 application_after model system application (App doc) = passed_again model application doc.0
 application_after model system application (Repost doc) = passed_again model application doc.0
 application_after model system application _ = application
-
--- a pointer of one model with the number that its message type has in another, if it is there
-abbrev pub renumbered : Lists → Lists → Pointer → Option Pointer
-renumbered before after pointer =
-    option_map (λ message. record pointer { message = message }) (position (is_text (message_name before pointer.message)) (message_names after.messages))
 
 -- pointers when another model comes into force: numbers of message types are those of one model alone
 abbrev pub pointers_under : Option Lists → Option Lists → List Pointer → List Pointer

@@ -4,3 +4,5 @@ pub mod Reading
 pub mod Prepared
 -- what a log made of the application of its system
 pub mod Application
+-- the tables in which a system keeps that
+pub mod Tables

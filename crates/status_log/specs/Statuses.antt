@@ -15,3 +15,11 @@ pub record Adds (doc : ℕ) (status : Status) (before after : List (List Status)
 -- each document has what it had
 pub record Keeps (before after : List (List Status)) : Type 0 where
   pub kept : (other : ℕ) → statuses_of other after ≡ statuses_of other before
+
+-- a status that has no reason
+abbrev pub plain : ℕ → Status
+plain code = record { code = code; reason = 0 }
+
+-- a document got statuses behind those that it had; all others have what they had
+pub record AddsAll (doc : ℕ) (more : List Status) (before after : List (List Status)) : Type 0 where
+  pub added : (other : ℕ) → statuses_of other after ≡ (if other == doc then statuses_of other before ++ more else statuses_of other before)

@@ -11,3 +11,15 @@ pub struct Status {
     /// object is there already. It is 0 where the code is not 51.
     pub reason: u8,
 }
+
+impl Status {
+    ghost use Rattle.std.specs.Prelude.{◌≡◌};
+    ghost use Rattle.status_log.specs.Statuses.{plain};
+
+    /// A status that has no reason.
+    pub fn plain(code: u8) -> Status
+        ensures { result ≡ plain code }
+    {
+        Status { code, reason: 0 }
+    }
+}
