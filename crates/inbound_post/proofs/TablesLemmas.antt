@@ -15,8 +15,8 @@ use Rattle.inbound_post.specs.declared.prepared.DocPosting.{DocPosting}
 use Rattle.inbound_post.specs.declared.inbound_document.InboundDocument.{InboundDocument}
 use Rattle.inbound_post.specs.declared.application_tables.ApplicationTables.{ApplicationTables}
 use Rattle.inbound_post.specs.Reading.{posting}
-use Rattle.inbound_post.specs.Application.{Application, Arrived, arrived, first_statuses, objects_with, passed, passed_at, status_of, with_statuses}
-use Rattle.inbound_post.specs.Tables.{AreTablesOf, bare, statuses_at}
+use Rattle.inbound_post.specs.Application.{Application, Arrived, arrived, first_statuses, objects_with, passed, passed_at, status_of, statuses_at, with_statuses}
+use Rattle.inbound_post.specs.Tables.{AreTablesOf, bare}
 
 abbrev statuses_from : List Arrived → ℕ → List Status
 statuses_from documents place = option_map_or (λ document. document.statuses) (slice_get documents place) []

@@ -189,6 +189,11 @@ noted_in models log = (past_of models log).application.pointers
 abbrev pub data_of : List Lists → List Record → ObjectsOf
 data_of models log = (past_of models log).application.objects
 
--- the statuses of the inbound document of a place from 0
+-- the statuses of the inbound document of a number, from 1; none where there is no such document
+abbrev pub statuses_at : List Arrived → ℕ → List Status
+statuses_at documents zero = []
+statuses_at documents (suc place) = option_map_or (λ document. document.statuses) (slice_get documents place) []
+
+-- the statuses of the inbound document of a number in a log
 abbrev pub inbound_statuses : List Lists → List Record → ℕ → List Status
-inbound_statuses models log place = option_map_or (λ document. document.statuses) (slice_get (inbound_documents models log) place) []
+inbound_statuses models log doc = statuses_at (inbound_documents models log) doc

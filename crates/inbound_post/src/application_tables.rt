@@ -29,8 +29,8 @@ impl ApplicationTables {
     ghost use Rattle.std.specs.Prelude.{◌≡◌, IfOk, OnOk, Some, slice_get, length};
     ghost use Rattle.std.specs.Option.{option_copied, option_map};
     ghost use Rattle.change_pointers.specs.Noted.{noted_by};
-    ghost use Rattle.inbound_post.specs.Application.{Application, changed, left_by, no_application, pointers_under};
-    ghost use Rattle.inbound_post.specs.Tables.{AreTablesOf, bare, statuses_at};
+    ghost use Rattle.inbound_post.specs.Application.{Application, changed, left_by, no_application, pointers_under, statuses_at};
+    ghost use Rattle.inbound_post.specs.Tables.{AreTablesOf, bare};
 
     /// The tables of a log that has no record. It takes no memory.
     pub fn new(alloc: Global) -> ApplicationTables

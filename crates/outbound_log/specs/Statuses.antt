@@ -44,7 +44,8 @@ carried_by carried (suc place) = unwrap_or (slice_get carried place) []
 abbrev pub carried_in : List OutUnit → List (List DocNum)
 carried_in units = map (λ one. one.documents) units
 
--- what the document of a number gets as documents go on: 03 where a Dispatch makes a unit of it, 12 where its unit is done
+-- what the document of a number gets as documents go on: 03 where a Dispatch makes a unit of it, 12 where its unit is done. A Done
+-- names a unit of its own system in a legal log, so the number tells which
 abbrev pub passed_in : List (List DocNum) → Added → Record → ℕ → List Status
 passed_in carried added Dispatch doc = flat_map (λ one. passed_for (plain 3) one.documents doc) added.units
 passed_in carried added (Done tid) doc = passed_for (plain 12) (carried_by carried tid.unit) doc
