@@ -20,3 +20,6 @@ pub mod CommitLemmas
 pub mod OnceLemmas
 pub mod ParcelLemmas
 pub mod UnitLemmas
+-- how many segments documents have
+pub mod SizeLemmas
+pub mod ShortLemmas

@@ -1,10 +1,14 @@
 -- What every unit of a log is: its number, by the system of the log, and what the rules of the log's models make of it. That a
 -- unit has an id and goes to another system is SAP's transactional RFC; the limits are this project's own.
 use Rattle.std.specs.Prelude.{◌≡◌, ℕ, suc, ◌≤◌, ⊤, true, List, [], ◌∷◌, length}
+use Rattle.std.specs.List.{AllByRecursion}
 use Rattle.dist_model.specs.declared.lists.Lists.{Lists}
 use Rattle.dist_model.specs.declared.limits.TheConstants.{MOST_PACKET, MOST_RULES}
 use Rattle.dist_model.specs.Model.{IsModel}
 use Rattle.unit_core.specs.declared.ale_unit.AleUnit.{AleUnit}
+use Rattle.unit_core.specs.declared.raw_unit_doc.RawUnitDoc.{RawUnitDoc}
+use Rattle.unit_core.specs.declared.records.Record.{Record}
+use Rattle.unit_core.specs.declared.records.Record.TheVariants.{Commit}
 use Rattle.unit_core.specs.Queues.{are_different}
 use Rattle.outbound_build.specs.declared.added.OutUnit.{OutUnit}
 
@@ -38,3 +42,12 @@ pub record IsSendable (systems : ℕ) (unit : AleUnit) : Type 0 where
   pub inq : AreQueues unit.inq
   pub docs_least : 1 ≤ length unit.docs
   pub docs_most : length unit.docs ≤ MOST_PACKET
+
+-- a document has at most so many segments
+abbrev pub IsShort : ℕ → RawUnitDoc → Type 0
+IsShort most document = length document.segments ≤ most
+
+-- the masters that a record commits have at most so many segments each
+abbrev pub HasShort : ℕ → Record → Type 0
+HasShort most (Commit origin docs) = AllByRecursion (IsShort most) docs
+HasShort most _ = ⊤
