@@ -1,10 +1,10 @@
 //! What the items of a case work on, and what comes of one.
 
-use crate::{groups, keeping, random, types};
+use crate::{groups, keeping, random, sending, types};
 use ale_base::Items;
 use case_form::{Item, LineEnd, meaning_of};
 use dist_model::{Group, Lists};
-use idoc_record::Data;
+use idoc_record::{Control, Data};
 use segment_defs::{Definitions, IdocType};
 use std::alloc::Global;
 
@@ -28,6 +28,10 @@ pub(crate) struct Bench {
     pub(crate) groups: Items<Group>,
     /// The data records of a document.
     pub(crate) records: Vec<Data>,
+    /// The text of a model.
+    pub(crate) model: Vec<u8>,
+    /// The control record of a master.
+    pub(crate) control: Control,
 }
 
 /// What an item is about.
@@ -38,12 +42,17 @@ enum About {
     Filters,
     Groups,
     Records,
+    Model,
     Keeps,
     Agrees,
+    Leaves,
+    Control,
+    Sends,
+    Queues,
 }
 
 /// The words of the items.
-const WORDS: [(&'static [u8], About); 7] = [
+const WORDS: [(&'static [u8], About); 12] = [
     (b"definitions", About::Definitions),
     (b"idoc", About::Idoc),
     (b"filters", About::Filters),
@@ -51,6 +60,11 @@ const WORDS: [(&'static [u8], About); 7] = [
     (b"records", About::Records),
     (b"keeps", About::Keeps),
     (b"agrees", About::Agrees),
+    (b"model", About::Model),
+    (b"leaves", About::Leaves),
+    (b"control", About::Control),
+    (b"sends", About::Sends),
+    (b"queues", About::Queues),
 ];
 
 impl Bench {
@@ -64,6 +78,8 @@ impl Bench {
             },
             groups: Items::new(alloc),
             records: Vec::new(alloc),
+            model: Vec::new(alloc),
+            control: Control::blank(),
         }
     }
 
@@ -73,6 +89,9 @@ impl Bench {
             None => Ok(Answer::Foreign),
             Some(About::Keeps) => Ok(Answer::Text(keeping::keeps(alloc, self)?)),
             Some(About::Agrees) => Ok(Answer::Text(random::agrees(alloc, self, item)?)),
+            Some(About::Leaves) => Ok(Answer::Text(sending::leaves(alloc, self, item)?)),
+            Some(About::Sends) => Ok(Answer::Text(sending::sends(alloc, self, item)?)),
+            Some(About::Queues) => Ok(Answer::Text(sending::queues(alloc, self, item)?)),
             Some(about) => {
                 self.set(alloc, item, about)?;
                 Ok(Answer::Taken)
@@ -92,7 +111,9 @@ impl Bench {
                 self.groups = groups::groups(alloc, self.lists.filters.as_slice(), item)?;
             }
             About::Records => self.records = keeping::records(alloc, item)?,
-            About::Keeps | About::Agrees => {}
+            About::Model => self.model = sending::model(alloc, item)?,
+            About::Control => self.control = sending::control(alloc, item)?,
+            _ => {}
         }
         Ok(())
     }

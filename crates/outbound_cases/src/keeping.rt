@@ -49,6 +49,7 @@ pub(crate) fn keeps(alloc: Global, bench: &Bench) -> Result<Vec<u8>, LineEnd> {
         ty,
         groups,
         records,
+        ..
     } = bench;
     if !lists.definitions.is_valid() || !ty.is_valid(&lists.definitions) {
         return Err(NOT_VALID.into());
@@ -117,7 +118,7 @@ pub(crate) fn kept_text(
 }
 
 /// Appends the lines of some nodes, and of all below them.
-fn put_nodes(
+pub(crate) fn put_nodes(
     alloc: Global,
     text: &mut Vec<u8>,
     definitions: &Definitions,

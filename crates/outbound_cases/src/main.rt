@@ -1,7 +1,7 @@
 //! The acceptance program of the crates on what is sent: it runs the case files of a folder and prints a line a case.
 //!
 //! Contract: that of `case_form` on the verdict. Beyond that nothing is proved but that it is safe and ends. The items of
-//! these cases are in `docs/reference/filters.md`.
+//! these cases are in `docs/reference/filters.md` and `docs/reference/distribution.md`.
 #![tactic(auto)]
 
 mod bench;
@@ -11,6 +11,7 @@ mod keeping;
 mod plain;
 mod random;
 mod rules;
+mod sending;
 mod subsets;
 mod suite;
 mod text;
