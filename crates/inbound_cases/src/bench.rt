@@ -1,14 +1,17 @@
 //! What the items of a case work on, and what comes of one.
 
 use crate::rules::NO_MODEL;
-use crate::{changing, objects_text, pointing};
+use crate::{changing, objects_text, pointing, receiving};
 use ale_base::Items;
 use case_form::{Item, LineEnd, meaning_of};
 use change_pointers::Pointers;
 use dist_model::Model;
+use idoc_record::Control;
+use inbound_post::ApplicationTables;
 use model_text::{ModelFault, read};
 use object_store::Objects;
 use std::alloc::Global;
+use unit_core::RawUnitDoc;
 
 /// What came of an item.
 #[derive(Debug, Drop)]
@@ -29,6 +32,10 @@ pub(crate) struct Bench {
     pub(crate) pointers: Pointers,
     /// The fields that postings may not leave blank.
     pub(crate) required: Items<Items<u8>>,
+    /// A document that a unit carries.
+    pub(crate) document: RawUnitDoc,
+    /// What came of the units that were executed.
+    pub(crate) tables: ApplicationTables,
 }
 
 /// What an item is about.
@@ -44,10 +51,14 @@ enum About {
     Pending,
     Clear,
     Master,
+    Document,
+    Executes,
+    Again,
+    Holds,
 }
 
 /// The words of the items.
-const WORDS: [(&'static [u8], About); 10] = [
+const WORDS: [(&'static [u8], About); 14] = [
     (b"model", About::Model),
     (b"required", About::Required),
     (b"put", About::Put),
@@ -58,6 +69,10 @@ const WORDS: [(&'static [u8], About); 10] = [
     (b"pending", About::Pending),
     (b"clear", About::Clear),
     (b"master", About::Master),
+    (b"document", About::Document),
+    (b"executes", About::Executes),
+    (b"again", About::Again),
+    (b"holds", About::Holds),
 ];
 
 impl Bench {
@@ -68,6 +83,11 @@ impl Bench {
             objects: Objects::new(alloc),
             pointers: Pointers::new(alloc),
             required: Items::new(alloc),
+            document: RawUnitDoc {
+                control: Control::blank(),
+                segments: Items::new(alloc),
+            },
+            tables: ApplicationTables::new(alloc),
         }
     }
 
@@ -81,6 +101,10 @@ impl Bench {
             }
             Some(About::Required) => {
                 self.required = changing::names(alloc, item.rest.as_slice())?;
+                Ok(Answer::Taken)
+            }
+            Some(About::Document) => {
+                self.document = receiving::document(alloc, item)?;
                 Ok(Answer::Taken)
             }
             Some(About::Clear) => {
@@ -101,6 +125,9 @@ impl Bench {
             About::Value => objects_text::value(alloc, &self.objects, rest),
             About::Pending => pointing::pending(alloc, self, rest),
             About::Master => pointing::master(alloc, self, rest),
+            About::Executes => receiving::executes(alloc, self, rest),
+            About::Again => receiving::again(alloc, self, rest),
+            About::Holds => objects_text::objects(alloc, self.tables.objects()),
             _ => objects_text::objects(alloc, &self.objects),
         }
     }

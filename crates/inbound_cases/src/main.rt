@@ -9,6 +9,7 @@ mod bench;
 mod changing;
 mod objects_text;
 mod pointing;
+mod receiving;
 mod rules;
 mod suite;
 

@@ -11,3 +11,7 @@ pub(crate) const NO_VALUE: Rule = Rule("a field has a value, as `FIELD=VALUE`");
 pub(crate) const NO_MODEL: Rule = Rule(
     "a model is one that is read, and is there before it is used",
 );
+
+pub(crate) const NO_RECORD: Rule = Rule("a line of a document is a data record, as `NAME DATA`");
+
+pub(crate) const NO_SUCH_NUMBER: Rule = Rule("a number is one of a system or of a document");
