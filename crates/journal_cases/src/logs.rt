@@ -65,7 +65,7 @@ fn append(alloc: Global, vols: &mut MemoryVolumes, n: u8, entry: &Entry) -> Resu
     requires entry { IsWritableEntry entry.now }
 {
     match open(alloc, vols, n) {
-        Ok((mut journal, _)) => match journal.append(vols, entry) {
+        Ok((mut journal, _)) => match journal.append(vols, entry.moment, &entry.what) {
             Ok(()) => {
                 let mut text = Vec::new(alloc);
                 put_shown(alloc, &mut text, "gate at", &journal.gate())?;

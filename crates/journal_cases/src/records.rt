@@ -42,7 +42,7 @@ fn entry(alloc: Global, text: &[u8]) -> Result<Vec<u8>, LineEnd> {
     match read_entry(alloc, bytes.as_slice()) {
         Ok(entry) => {
             let mut found = told_entry(alloc, &entry)?;
-            let again = write_entry(alloc, &entry)?;
+            let again = write_entry(alloc, entry.moment, &entry.what)?;
             put_again(&mut found, again == bytes)?;
             Ok(found)
         }

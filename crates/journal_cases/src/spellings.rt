@@ -52,7 +52,7 @@ fn is_same_again(alloc: Global, dice: &mut Dice, kind: u8) -> Result<bool, LineE
     put_moment(&mut bytes, dice)?;
     put_record(alloc, &mut bytes, dice, kind)?;
     match read_entry(alloc, bytes.as_slice()) {
-        Ok(entry) => Ok(write_entry(alloc, &entry)? == bytes),
+        Ok(entry) => Ok(write_entry(alloc, entry.moment, &entry.what)? == bytes),
         Err(CodecFault::OutOfMemory) => Err(LineEnd::OutOfMemory),
         Err(CodecFault::Bad(_)) => Ok(false),
     }

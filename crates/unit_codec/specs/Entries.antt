@@ -10,6 +10,10 @@ use Rattle.unit_codec.specs.Reading.{Reading, ◌>>=◌}
 use Rattle.unit_codec.specs.Kind.{Kind, number, byte}
 use Rattle.unit_codec.specs.Records.{a_record}
 
+-- the entry of a record, with this moment or without one
+abbrev pub entry_with : Option ℕ → Record → Entry
+entry_with moment what = record { moment = moment; what = what }
+
 -- a moment in eight bytes behind its byte, where there is one
 abbrev pub moment_spelling : Option ℕ → List ℕ
 moment_spelling None = []

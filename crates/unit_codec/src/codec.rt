@@ -6,7 +6,7 @@ ghost use Rattle.unit_codec.specs.declared.entry.Entry.{Entry};
 ghost use Rattle.unit_codec.specs.Condition.{IsWritable, IsWritableEntry};
 ghost use Rattle.unit_codec.specs.Records.{HasSpelling, record_spelling};
 ghost use Rattle.unit_codec.specs.Reading.{IsWithin, fault_in};
-ghost use Rattle.unit_codec.specs.Entries.{EntryHasSpelling, entry_spelling, record_read_as, entry_read_as};
+ghost use Rattle.unit_codec.specs.Entries.{EntryHasSpelling, entry_with, entry_spelling, record_read_as, entry_read_as};
 
 use crate::fault::FieldFault;
 use crate::reading::{take_entry, take_record};
@@ -82,14 +82,18 @@ fn entry_of(alloc: Global, bytes: &[u8]) -> Result<Entry, CodecFault>
     Ok(entry)
 }
 
-/// The one spelling of an entry, whose record's fields follow their rules.
-pub fn write_entry(alloc: Global, entry: &Entry) -> Result<Vec<u8>, OutOfMemory>
-    requires { IsWritableEntry entry.now }
-    ensures spelled { IfOk result (λ bytes. bytes.items ≡ entry_spelling entry.now) }
-    ensures has_spelling { OnOk result (EntryHasSpelling entry.now) }
+/// The one spelling of the entry of a record, whose fields follow their rules, with this moment or without one.
+pub fn write_entry(
+    alloc: Global,
+    moment: Option<u64>,
+    what: &Record,
+) -> Result<Vec<u8>, OutOfMemory>
+    requires { IsWritable what.now }
+    ensures spelled { IfOk result (λ bytes. bytes.items ≡ entry_spelling (entry_with moment what.now)) }
+    ensures has_spelling { OnOk result (EntryHasSpelling (entry_with moment what.now)) }
 {
     let mut bytes = Vec::new(alloc);
-    put_entry(&mut bytes, entry)?;
+    put_entry(&mut bytes, moment, what)?;
     Ok(bytes)
 }
 

@@ -3,11 +3,10 @@
 ghost use Rattle.std.specs.Prelude.{◌≡◌, OnOk, IfSome};
 ghost use Rattle.std.specs.List.{AllByRecursion};
 ghost use Rattle.unit_codec.specs.Kind.{Puts};
-ghost use Rattle.unit_codec.specs.Condition.{IsWritable, IsWritableEntry, HasDestination, IsName, IsText, AreCounted, AreDocuments, IsFieldValue};
+ghost use Rattle.unit_codec.specs.Condition.{IsWritable, HasDestination, IsName, IsText, AreCounted, AreDocuments, IsFieldValue};
 ghost use Rattle.unit_codec.specs.Records.{spelled_as, PutsFields, genesis, commit, mark, stop, retry, put, a_record};
-ghost use Rattle.unit_codec.specs.Entries.{an_entry};
+ghost use Rattle.unit_codec.specs.Entries.{entry_with, an_entry};
 
-use crate::Entry;
 use crate::documents::{put_documents, put_field_values};
 use crate::put::{
     put_byte, put_cause, put_destination, put_doc_number, put_eight_bytes, put_name, put_origin,
@@ -18,17 +17,21 @@ use crate::units::put_unit;
 use ale_base::{FieldValue, Items, Mark, OutOfMemory, QueueName, Tid, Way};
 use unit_core::{RawUnitDoc, Record};
 
-/// Appends an entry.
+/// Appends the entry of a record, with this moment or without one.
 #[tactic(auto, unfolding(crate::specs::Entries::an_entry))]
-pub(crate) fn put_entry(into: &mut Vec<u8>, entry: &Entry) -> Result<(), OutOfMemory>
-    requires { IsWritableEntry entry.now }
-    ensures { OnOk result (Puts an_entry entry.now into.old.items into.new.items) }
+pub(crate) fn put_entry(
+    into: &mut Vec<u8>,
+    moment: Option<u64>,
+    what: &Record,
+) -> Result<(), OutOfMemory>
+    requires { IsWritable what.now }
+    ensures { OnOk result (Puts an_entry (entry_with moment what.now) into.old.items into.new.items) }
 {
-    if let Some(moment) = entry.moment {
+    if let Some(moment) = moment {
         put_byte(into, MOMENT_BYTE)?;
         put_eight_bytes(into, moment)?;
     }
-    put_record(into, &entry.what)
+    put_record(into, what)
 }
 
 /// Appends a record: its byte, and its fields.

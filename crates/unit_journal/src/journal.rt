@@ -6,13 +6,14 @@ ghost use Rattle.ale_volumes.specs.Faults.{CountsFault};
 ghost use Rattle.byte_journal.specs.Log.{most_bytes};
 ghost use Rattle.byte_journal.specs.Bytes.{LeavesAppended};
 ghost use Rattle.unit_codec.specs.declared.entry.Entry.{Entry};
-ghost use Rattle.unit_codec.specs.Condition.{IsWritableEntry};
-ghost use Rattle.unit_codec.specs.Entries.{entry_spelling};
+ghost use Rattle.unit_codec.specs.Condition.{IsWritable};
+ghost use Rattle.unit_codec.specs.Entries.{EntryHasSpelling, entry_with, entry_spelling};
 
 use ale_volumes::Volumes;
 use byte_journal::{AppendFault, Journal};
 use std::alloc::Global;
-use unit_codec::{Entry, write_entry};
+use unit_codec::write_entry;
+use unit_core::Record;
 
 /// A journal of entries that is open on a volume. It stands at the end of the volume's log and doesn't hold the log
 /// itself.
@@ -47,39 +48,49 @@ impl UnitJournal {
         self.bodies.gate
     }
 
-    /// Adds an entry to the log. At `Ok` it is acknowledged: each crash from then on leaves it.
+    /// Adds the entry of a record, with this moment or without one, to the log. At `Ok` it is acknowledged: each crash from
+    /// then on leaves it.
     ///
     /// `Full` comes where the place behind the new closing gate is over 67,108,864, and names that place; then nothing was
     /// written. After `Volume` the journal is to be opened again before further use. The room for the entry's bytes is
     /// taken before anything is written, so after `OutOfMemory` the log is as before.
-    pub fn append<V: Volumes>(&mut self, vols: &mut V, entry: &Entry) -> Result<(), AppendFault>
-        requires entry { IsWritableEntry entry.now }
+    pub fn append<V: Volumes>(
+        &mut self,
+        vols: &mut V,
+        moment: Option<u64>,
+        what: &Record,
+    ) -> Result<(), AppendFault>
+        requires entry { IsWritable what.now }
         requires settled { V.told → (log : List Entry) × IsSettled V.volume vols.old self.old log }
 
         // The log has one entry more.
         ensures added { V.told → (log : List Entry) → IsSettled V.volume vols.old self.old log →
-            OnOk result (IsSettled V.volume vols.new self.new (log ++ entry.now ∷ [])) }
-        ensures moves_on { MovesOn self.old self.new entry.now result }
+            OnOk result (IsSettled V.volume vols.new self.new (log ++ entry_with moment what.now ∷ [])) }
+        ensures moves_on { MovesOn self.old self.new (entry_with moment what.now) result }
+        ensures spelled { OnOk result (EntryHasSpelling (entry_with moment what.now)) }
 
         // The volume holds what it held, the gate open, length, spelling, a closed gate, and what lay further back.
         ensures leaves { V.told → LeavesAppended (V.volume vols.old (bodies self.old).volume).contents
-            (bodies self.old).gate (entry_spelling entry.now) (V.volume vols.new (bodies self.old).volume).contents result }
+            (bodies self.old).gate (entry_spelling (entry_with moment what.now))
+            (V.volume vols.new (bodies self.old).volume).contents result }
 
         // A crash at any moment of the call leaves the log from before it, with the new entry or without.
         ensures any_moment { V.told → (log : List Entry) → IsSettled V.volume vols.old self.old log →
-            LeavesOnly V.moment V.images_since vols.old vols.new (bodies self.old).volume (IsBeforeOrAfter log entry.now) }
+            LeavesOnly V.moment V.images_since vols.old vols.new (bodies self.old).volume
+            (IsBeforeOrAfter log (entry_with moment what.now)) }
         ensures others { V.told → KeepsOthers V.volume V.moment V.images_since vols.old vols.new (bodies self.old).volume }
 
         // When each error comes, and what is then as it was.
         ensures full { (place : ℕ) → result ≢ Err AppendFault.OutOfMemory → (result ≡ Err (AppendFault.Full place))
-            ↔ ((place ≡ (bodies self.old).gate + 6 + length (entry_spelling entry.now)) × (most_bytes < place)) }
+            ↔ ((place ≡ (bodies self.old).gate + 6 + length (entry_spelling (entry_with moment what.now)))
+            × (most_bytes < place)) }
         ensures full_unwritten { (place : ℕ) → result ≡ Err (AppendFault.Full place) → vols.new ≡ vols.old }
         ensures no_memory { V.told → (log : List Entry) → IsSettled V.volume vols.old self.old log →
             IsErrOf result AppendFault.OutOfMemory → IsSettled V.volume vols.new self.new log }
         ensures faults { CountsFault (IsErrOf result AppendFault.Volume)
             (V.faults vols.old) (V.faults vols.new) (bodies self.old).volume }
     {
-        let body = write_entry(self.alloc, entry)?;
+        let body = write_entry(self.alloc, moment, what)?;
         self.bodies.append(vols, &body)
     }
 }
