@@ -1,0 +1,8 @@
+-- Entries of a log that grows, and lists that change at one place.
+mod PlaceLemmas
+-- What is on disk stays so through calls on other volumes, and what a crash leaves meanwhile, for who builds on it.
+pub mod KeptLemmas
+-- What the write of a record leaves.
+mod WriteLemmas
+-- What the opening of a system's journal leaves.
+mod OpenLemmas

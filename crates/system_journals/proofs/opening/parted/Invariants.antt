@@ -1,0 +1,10 @@
+use Rattle.std.proofs.Common.{◌≡◌, length}
+use Rattle.system_journals.specs.OnDisk.{entries_of}
+use Rattle.system_journals.proofs.opening.parted.Given as goal
+
+-- the moments and the records so far are those of the entries so far
+abbrev pub invariant-loop-entry : goal.invariant-loop-entry
+invariant-loop-entry l = record {
+  each : length l.moments ≡ length l.log;
+  are : entries_of l.moments l.log ≡ l.yielded;
+}

@@ -1,0 +1,65 @@
+-- What the volumes of systems hold: of one that is up its log, of one that is down perhaps one record more.
+use Rattle.std.specs.Prelude.{◌≡◌, ◌⊎◌, ℕ, ◌+◌, Option, Some, None, List, [], ◌∷◌, ◌++◌, length, slice_get}
+use Rattle.std.specs.Option.{unwrap_or}
+use Rattle.ale_volumes.specs.declared.volume.Volume.{Volume}
+use Rattle.ale_volumes.specs.Volume.{IsImage}
+use Rattle.unit_core.specs.declared.records.Record.{Record}
+use Rattle.unit_codec.specs.declared.entry.Entry.{Entry}
+use Rattle.unit_codec.specs.Entries.{entry_with, entry_spelling}
+use Rattle.unit_journal.specs.declared.journal.UnitJournal.{UnitJournal}
+use Rattle.unit_journal.specs.Log.{Stands}
+use Rattle.unit_journal.specs.Settled.{bodies, IsOn, IsSettled}
+use Rattle.system_journals.specs.declared.journals.SystemJournals.{SystemJournals}
+
+-- how many systems have a journal
+abbrev pub count_of : SystemJournals → ℕ
+count_of all = length all.journals
+
+-- each journal has its moments, and no others are kept
+abbrev pub HaveMoments : SystemJournals → Type 0
+HaveMoments all = length all.moments ≡ length all.journals
+
+-- the moment for what is written next
+abbrev pub moment_of : SystemJournals → Option ℕ
+moment_of all = all.moment
+
+-- the moments of the entries of the log at a place; none of them where there is no such place
+abbrev pub moments_at : SystemJournals → ℕ → List (Option ℕ)
+moments_at all place = unwrap_or (slice_get all.moments place) []
+
+-- each record with its moment, as many as there are of both
+abbrev pub entries_of : List (Option ℕ) → List Record → List Entry
+entries_of [] log = []
+entries_of (moment ∷ moments) [] = []
+entries_of (moment ∷ moments) (what ∷ log) = entry_with moment what ∷ entries_of moments log
+
+-- the entries of the log at a place
+abbrev pub entries_at : SystemJournals → ℕ → List Record → List Entry
+entries_at all place log = entries_of (moments_at all place) log
+
+-- the length that a journal's volume would have with one entry more, up to the gate behind it
+abbrev pub full_at : UnitJournal → Entry → ℕ
+full_at journal entry = (bodies journal).gate + 6 + length (entry_spelling entry)
+
+-- Of a system that is up: a journal and moments are at its place, one for each record; the journal is at the end of the
+-- log, and where the disk tells what it holds, all of that log is on the disk for good.
+pub record IsOnDisk {D : Type 0} (told : Type 0) (volume : D → ℕ → Volume) (vols : D) (place : ℕ) (all : SystemJournals) (log : List Record) : Type 0 where
+  pub journal : UnitJournal
+  pub here : slice_get all.journals place ≡ Some journal
+  pub noted : slice_get all.moments place ≡ Some (moments_at all place)
+  pub each : length (moments_at all place) ≡ length log
+  pub on : IsOn journal place (entries_at all place log)
+  pub settled : told → IsSettled volume vols journal (entries_at all place log)
+
+-- the bytes stand for these entries, or for them and one of this record, at whatever moment it was written
+abbrev pub StandsFound : List ℕ → List Entry → Option Record → Type 0
+StandsFound image entries None = Stands image entries
+StandsFound image entries (Some next) = Stands image entries ⊎ ((moment : Option ℕ) × Stands image (entries ++ entry_with moment next ∷ []))
+
+-- Of a system that is down: moments are at its place, one for each record, and where the disk tells what it holds, each
+-- crash leaves the log, perhaps with this record more.
+pub record IsLeftOnDisk {D : Type 0} (told : Type 0) (volume : D → ℕ → Volume) (vols : D) (place : ℕ) (all : SystemJournals) (log : List Record)
+    (rest : Option Record) : Type 0 where
+  pub noted : slice_get all.moments place ≡ Some (moments_at all place)
+  pub each : length (moments_at all place) ≡ length log
+  pub left : told → (image : List ℕ) → IsImage (volume vols place) image → StandsFound image (entries_at all place log) rest

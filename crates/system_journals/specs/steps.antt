@@ -1,0 +1,2 @@
+-- The moments of one log, among those of all.
+pub mod Moments
