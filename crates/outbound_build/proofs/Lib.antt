@@ -20,6 +20,8 @@ pub mod CommitLemmas
 pub mod OnceLemmas
 pub mod ParcelLemmas
 pub mod UnitLemmas
+-- every document of a log: its number
+pub mod DocumentLemmas
 -- how many segments documents have
 pub mod SizeLemmas
 pub mod ShortLemmas
