@@ -1,6 +1,7 @@
 //! What the items of a case work on, and what comes of one.
 
-use crate::{groups, keeping, random, sending, types};
+use crate::logs::{Log, NamedMaster, NamedModel};
+use crate::{committing, groups, keeping, logs, random, sending, types};
 use ale_base::Items;
 use case_form::{Item, LineEnd, meaning_of};
 use dist_model::{Group, Lists};
@@ -32,6 +33,10 @@ pub(crate) struct Bench {
     pub(crate) model: Vec<u8>,
     /// The control record of a master.
     pub(crate) control: Control,
+    /// The models and the masters that a log names.
+    pub(crate) models: Vec<NamedModel>,
+    pub(crate) masters: Vec<NamedMaster>,
+    pub(crate) log: Log,
 }
 
 /// What an item is about.
@@ -49,10 +54,15 @@ enum About {
     Control,
     Sends,
     Queues,
+    Master,
+    Log,
+    Documents,
+    Units,
+    Carries,
 }
 
 /// The words of the items.
-const WORDS: [(&'static [u8], About); 12] = [
+const WORDS: [(&'static [u8], About); 17] = [
     (b"definitions", About::Definitions),
     (b"idoc", About::Idoc),
     (b"filters", About::Filters),
@@ -65,6 +75,11 @@ const WORDS: [(&'static [u8], About); 12] = [
     (b"control", About::Control),
     (b"sends", About::Sends),
     (b"queues", About::Queues),
+    (b"master", About::Master),
+    (b"log", About::Log),
+    (b"documents", About::Documents),
+    (b"units", About::Units),
+    (b"carries", About::Carries),
 ];
 
 impl Bench {
@@ -80,6 +95,9 @@ impl Bench {
             records: Vec::new(alloc),
             model: Vec::new(alloc),
             control: Control::blank(),
+            models: Vec::new(alloc),
+            masters: Vec::new(alloc),
+            log: Log::new(alloc),
         }
     }
 
@@ -87,15 +105,28 @@ impl Bench {
     pub(crate) fn answer(&mut self, alloc: Global, item: &Item) -> Result<Answer, LineEnd> {
         match meaning_of(&WORDS, item.word.as_slice()) {
             None => Ok(Answer::Foreign),
-            Some(About::Keeps) => Ok(Answer::Text(keeping::keeps(alloc, self)?)),
-            Some(About::Agrees) => Ok(Answer::Text(random::agrees(alloc, self, item)?)),
-            Some(About::Leaves) => Ok(Answer::Text(sending::leaves(alloc, self, item)?)),
-            Some(About::Sends) => Ok(Answer::Text(sending::sends(alloc, self, item)?)),
-            Some(About::Queues) => Ok(Answer::Text(sending::queues(alloc, self, item)?)),
-            Some(about) => {
-                self.set(alloc, item, about)?;
-                Ok(Answer::Taken)
-            }
+            Some(about) => match self.found(alloc, item, about)? {
+                Some(text) => Ok(Answer::Text(text)),
+                None => {
+                    self.set(alloc, item, about)?;
+                    Ok(Answer::Taken)
+                }
+            },
+        }
+    }
+
+    /// What an item finds. None where it sets something up.
+    fn found(&self, alloc: Global, item: &Item, about: About) -> Result<Option<Vec<u8>>, LineEnd> {
+        match about {
+            About::Keeps => Ok(Some(keeping::keeps(alloc, self)?)),
+            About::Agrees => Ok(Some(random::agrees(alloc, self, item)?)),
+            About::Leaves => Ok(Some(sending::leaves(alloc, self, item)?)),
+            About::Sends => Ok(Some(sending::sends(alloc, self, item)?)),
+            About::Queues => Ok(Some(sending::queues(alloc, self, item)?)),
+            About::Documents => Ok(Some(committing::documents(alloc, self, item)?)),
+            About::Units => Ok(Some(committing::units(alloc, self)?)),
+            About::Carries => Ok(Some(committing::carries(alloc, self, item)?)),
+            _ => Ok(None),
         }
     }
 
@@ -111,10 +142,28 @@ impl Bench {
                 self.groups = groups::groups(alloc, self.lists.filters.as_slice(), item)?;
             }
             About::Records => self.records = keeping::records(alloc, item)?,
-            About::Model => self.model = sending::model(alloc, item)?,
+            About::Model => self.set_model(alloc, item)?,
             About::Control => self.control = sending::control(alloc, item)?,
+            About::Master => self.masters.push(logs::master(alloc, item)?)?,
+            About::Log => self.set_log(alloc, item)?,
             _ => {}
         }
+        Ok(())
+    }
+
+    /// Sets up a model, which a log can name where it has a name.
+    fn set_model(&mut self, alloc: Global, item: &Item) -> Result<(), LineEnd> {
+        let text = sending::model(alloc, item)?;
+        let named = logs::named_model(alloc, item, text.as_slice())?;
+        self.models.push(named)?;
+        self.model = text;
+        Ok(())
+    }
+
+    /// Sets up a log.
+    fn set_log(&mut self, alloc: Global, item: &Item) -> Result<(), LineEnd> {
+        let log = logs::log_of(alloc, self, item)?;
+        self.log = log;
         Ok(())
     }
 }

@@ -5,9 +5,11 @@
 #![tactic(auto)]
 
 mod bench;
+mod committing;
 mod dice;
 mod groups;
 mod keeping;
+mod logs;
 mod plain;
 mod random;
 mod rules;

@@ -15,3 +15,9 @@ pub(crate) const NO_RECORD: Rule = Rule("a record has a name that a data record 
 pub(crate) const NO_DOCUMENT: Rule = Rule("records make a document");
 
 pub(crate) const NOT_VALID: Rule = Rule("definitions and IDoc types keep their rules");
+
+pub(crate) const NO_SUCH_RECORD: Rule = Rule("a line of a log is a record that the program has");
+
+pub(crate) const NO_GENESIS: Rule = Rule("a log has a genesis");
+
+pub(crate) const TOO_MANY_UNITS: Rule = Rule("a log has no more units than a system may have");
