@@ -4,5 +4,7 @@ pub mod Pointers
 pub mod Noted
 -- the master document of an object
 pub mod Master
+-- the masters of one gathering
+pub mod Gathered
 -- pointers when another model comes into force
 pub mod Renumbered

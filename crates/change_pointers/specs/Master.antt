@@ -8,12 +8,15 @@ use Rattle.segment_defs.specs.declared.definitions.Definitions.{Definitions}
 use Rattle.segment_defs.specs.declared.field.Field.{Field}
 use Rattle.segment_defs.specs.Definitions.{versions_of}
 use Rattle.segment_defs.specs.Version.{data_of}
-use Rattle.idoc_tree.specs.Forest.{Segment}
+use Rattle.idoc_tree.specs.declared.node.Doc.{Doc}
+use Rattle.idoc_tree.specs.Forest.{Forest, Segment, leaf}
+use Rattle.idoc_tree.specs.Nodes.{forest_of}
 use Rattle.dist_model.specs.declared.kind.Kind.{Kind}
 use Rattle.dist_model.specs.declared.lists.Lists.{Lists}
 use Rattle.dist_model.specs.declared.message.Message.{Message}
 use Rattle.dist_model.specs.Field.{all_fields}
-use Rattle.object_store.specs.Objects.{Fields, value_in}
+use Rattle.object_store.specs.Objects.{Fields, ObjectsOf, object_at, value_in}
+use Rattle.change_pointers.specs.declared.pointer.ObjectKey.{ObjectKey}
 use Rattle.change_pointers.specs.Noted.{name_at}
 
 -- the name of a message type, given its number
@@ -58,6 +61,25 @@ object_segment definitions key values kind =
 -- the segment of a master of a message type
 abbrev pub master_segment : Lists → ℕ → List ℕ → Fields → Option Segment
 master_segment model message key values = option_map (object_segment model.definitions key values) (kind_of model message)
+
+-- the master of an object: the bytes of its control record, and its forest
+pub record ObjectMaster : Type 0 where
+  pub control : List ℕ
+  pub forest : Forest
+
+-- the master that is in memory
+abbrev pub master_in : Doc → ObjectMaster
+master_in doc = record { control = doc.control; forest = forest_of doc.forest.items }
+
+-- the master of a message type whose one segment this is
+abbrev pub master_with : Lists → ℕ → Segment → ObjectMaster
+master_with model message segment = record { control = master_control model message; forest = leaf segment }
+
+-- the master of an object for a message type, as the object is now. None where the object is not there
+abbrev pub object_master : Lists → ℕ → ObjectsOf → ObjectKey → Option ObjectMaster
+object_master model message objects object =
+    option_and_then (λ values. option_map (master_with model message) (master_segment model message object.key values))
+    (object_at object.kind object.key objects)
 
 -- documents are made of the objects of a message type: it lists fields of them
 pub record MakesDocuments (model : Lists) (message : ℕ) : Type 0 where

@@ -13,7 +13,7 @@ ghost use Rattle.dist_model.specs.Model.{IsModel};
 ghost use Rattle.version_reduce.specs.Document.{IsOfMessage};
 ghost use Rattle.object_store.specs.Objects.{object_at, value_in};
 ghost use Rattle.object_store.specs.Posting.{fields_of};
-ghost use Rattle.change_pointers.specs.Master.{MakesDocuments, kind_of, master_control, master_segment, object_segment, object_text};
+ghost use Rattle.change_pointers.specs.Master.{MakesDocuments, kind_of, master_control, master_in, master_segment, object_master, object_segment, object_text};
 
 use crate::ObjectKey;
 use crate::noting::value_before;
@@ -42,6 +42,8 @@ pub fn master_of(
     ensures segment { IfOk result (λ master. IfSome master (λ doc.
         Some (forest_of doc.forest.items)
         ≡ option_map leaf (master_segment model.now message key.now.key (fields_of key.now.kind key.now.key objects.now)))) }
+    // As one value, of which `gathered` makes the masters of a gathering.
+    ensures made { IfOk result (λ master. option_map master_in master ≡ object_master model.now message objects.now key.now) }
     // It is a document of its message type, if that is one whose objects make documents.
     ensures of_message { MakesDocuments model.now message → IfOk result (λ master. IfSome master (λ doc.
         IsOfMessage model.now message (forest_of doc.forest.items))) }
