@@ -2,6 +2,8 @@
 mod PlaceLemmas
 -- What is on disk stays so through calls on other volumes, and what a crash leaves meanwhile, for who builds on it.
 pub mod KeptLemmas
+-- The moments of a log stay in order as it grows, for who builds on it.
+pub mod OrderLemmas
 -- What the write of a record leaves.
 mod WriteLemmas
 -- What the opening of a system's journal leaves.

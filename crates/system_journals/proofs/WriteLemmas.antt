@@ -1,20 +1,21 @@
 -- What the write of a record leaves, from what its append to the journal at the place does.
 use Rattle.std.specs.Prelude.{slice_get, slice_set}
 use Rattle.std.specs.Option.{unwrap_or}
-use Rattle.std.proofs.Common.{◌≡◌, ◌<◌, ◌≤◌, ℕ, Option, Some, List, [], ◌∷◌, ◌++◌, length, refl, sym, ap, ◌∙◌, subst, arith, length-append}
+use Rattle.std.proofs.Common.{◌≡◌, ◌↔◌, ◌<◌, ◌≤◌, ℕ, Option, Some, List, [], ◌∷◌, ◌++◌, length, refl, sym, ap, ◌∙◌, subst, arith, length-append}
 use Rattle.std.proofs.lemmas.List.{length-set}
 use Rattle.std.proofs.lemmas.Option.{same_Some, slice_get_within}
 use Rattle.ale_base.proofs.ListLemmas.{AllByRecursion-append}
 use Rattle.ale_volumes.specs.declared.volume.Volume.{Volume}
 use Rattle.ale_volumes.specs.Volume.{IsImage}
 use Rattle.ale_volumes.specs.Clock.{LeavesOnly}
+use Rattle.byte_journal.specs.Log.{most_bytes}
 use Rattle.unit_core.specs.declared.records.Record.{Record}
 use Rattle.unit_codec.specs.declared.entry.Entry.{Entry}
 use Rattle.unit_codec.specs.Entries.{EntryHasSpelling, entry_with}
 use Rattle.unit_journal.specs.declared.journal.UnitJournal.{UnitJournal}
 use Rattle.unit_journal.specs.Settled.{bodies, IsAtEnd, IsOn, IsSettled, IsBeforeOrAfter}
 use Rattle.system_journals.specs.declared.journals.SystemJournals.{SystemJournals}
-use Rattle.system_journals.specs.OnDisk.{moments_at, entries_of, entries_at, IsOnDisk, IsLeftOnDisk}
+use Rattle.system_journals.specs.OnDisk.{moments_at, entries_of, entries_at, IsOnDisk, IsLeftOnDisk, full_at}
 use Rattle.system_journals.specs.Changes.{OnlyAt}
 use Rattle.system_journals.specs.steps.Moments.{with_one_more}
 use Rattle.system_journals.proofs.PlaceLemmas.{entries_of-push, got-set_other}
@@ -56,6 +57,14 @@ unchanged all journals moments same same_too =
 pub within-place : {A : Type 0} (xs : List A) (k place : ℕ) (x : A) → k ≡ place → slice_get xs place ≡ Some x → k < length xs
 within-place xs k place x at here = slice_get_within xs k x (ap (λ (i : ℕ). slice_get xs i) at ∙ here)
 
+-- when a journal is full, by other names for the journal and the moment
+pub full-here : {Is : Type 0} (was journal : UnitJournal) (moment other : Option ℕ) (next : Record) (place : ℕ) → journal ≡ was → moment ≡ other
+    → (Is ↔ ((place ≡ full_at was (entry_with moment next)) × (most_bytes < place)))
+    → (Is ↔ ((place ≡ full_at journal (entry_with other next)) × (most_bytes < place)))
+full-here {Is = Is} was journal moment other next place same same_too full =
+    subst (λ (n : ℕ). Is ↔ ((place ≡ n) × (most_bytes < place)))
+    (ap (λ (m : Option ℕ). full_at was (entry_with m next)) same_too ∙ ap (λ (j : UnitJournal). full_at j (entry_with other next)) (sym same)) full
+
 module _ {D : Type 0} (told : Type 0) (volume : D → ℕ → Volume) (old : D) (place : ℕ) (all : SystemJournals) (log : List Record) (was : UnitJournal)
     (here : slice_get all.journals place ≡ Some was) (disk : IsOnDisk told volume old place all log) where
   pub same-journal : disk.journal ≡ was
@@ -69,25 +78,25 @@ module _ {D : Type 0} (told : Type 0) (volume : D → ℕ → Volume) (old : D) 
   settled-here tells = subst (λ (journal : UnitJournal). IsSettled volume old journal (entries_at all place log)) same-journal (disk.settled tells)
 
   -- after an append that succeeded, and with the moment noted, the log on disk has the record
-  pub IsOnDisk-written : (new : D) (after : SystemJournals) (next : Record) (now : UnitJournal) → slice_get after.journals place ≡ Some now
-      → slice_get after.moments place ≡ Some (moments_at all place ++ all.moment ∷ [])
-      → EntryHasSpelling (entry_with all.moment next) → Moved was now (entry_with all.moment next)
-      → (told → (l : List Entry) → IsSettled volume old was l → IsSettled volume new now (l ++ entry_with all.moment next ∷ []))
+  pub IsOnDisk-written : (new : D) (after : SystemJournals) (next : Record) (moment : Option ℕ) (now : UnitJournal) → slice_get after.journals place ≡ Some now
+      → slice_get after.moments place ≡ Some (moments_at all place ++ moment ∷ [])
+      → EntryHasSpelling (entry_with moment next) → Moved was now (entry_with moment next)
+      → (told → (l : List Entry) → IsSettled volume old was l → IsSettled volume new now (l ++ entry_with moment next ∷ []))
       → IsOnDisk told volume new place after (log ++ next ∷ [])
-  IsOnDisk-written new after next now there noted spelled moved added =
-      let moments : moments_at after place ≡ moments_at all place ++ all.moment ∷ [] = ap (λ (found : Option (List (Option ℕ))). unwrap_or found []) noted in
-      let more : entries_at after place (log ++ next ∷ []) ≡ entries_at all place log ++ entry_with all.moment next ∷ [] =
-      ap (λ (l : List (Option ℕ)). entries_of l (log ++ next ∷ [])) moments ∙ entries_of-push (moments_at all place) log all.moment next disk.each in
+  IsOnDisk-written new after next moment now there noted spelled moved added =
+      let moments : moments_at after place ≡ moments_at all place ++ moment ∷ [] = ap (λ (found : Option (List (Option ℕ))). unwrap_or found []) noted in
+      let more : entries_at after place (log ++ next ∷ []) ≡ entries_at all place log ++ entry_with moment next ∷ [] =
+      ap (λ (l : List (Option ℕ)). entries_of l (log ++ next ∷ [])) moments ∙ entries_of-push (moments_at all place) log moment next disk.each in
       record {
         journal = now;
         here = there;
         noted = noted ∙ ap (λ (l : List (Option ℕ)). Some l) (sym moments);
         each = ap length moments
-            ∙ (let long = disk.each in omega (arith, long, length-append (moments_at all place) (all.moment ∷ []), length-append log (next ∷ [])));
+            ∙ (let long = disk.each in omega (arith, long, length-append (moments_at all place) (moment ∷ []), length-append log (next ∷ [])));
         on = subst (λ (l : List Entry). IsOn now place l) (sym more) (record {
           volume = moved.volume ∙ on-here.volume;
           at_end = moved.at_end (entries_at all place log) on-here.at_end;
-          entries = AllByRecursion-append EntryHasSpelling (entries_at all place log) (entry_with all.moment next ∷ []) on-here.entries (spelled, tt);
+          entries = AllByRecursion-append EntryHasSpelling (entries_at all place log) (entry_with moment next ∷ []) on-here.entries (spelled, tt);
         });
         settled = λ tells. subst (λ (l : List Entry). IsSettled volume new now l) (sym more) (added tells (entries_at all place log) (settled-here tells));
       }
@@ -97,13 +106,13 @@ module _ {D : Type 0} (told : Type 0) (volume : D → ℕ → Volume) (old : D) 
   IsOnDisk-unwritten new settled = record { journal = was; here = here; noted = disk.noted; each = disk.each; on = on-here; settled = settled }
 
   -- where a crash leaves the log from before an append or after it, the system is left with it and perhaps the record
-  pub IsLeft-torn : (moment : D → ℕ) (images_since : D → ℕ → ℕ → List ℕ → Type 0) (new : D) (next : Record)
+  pub IsLeft-torn : (moment : D → ℕ) (images_since : D → ℕ → ℕ → List ℕ → Type 0) (new : D) (next : Record) (written : Option ℕ)
       → (told → (image : List ℕ) → moment old ≤ moment new → IsImage (volume new place) image → images_since new place (moment old) image)
-      → (told → LeavesOnly moment images_since old new place (IsBeforeOrAfter (entries_at all place log) (entry_with all.moment next)))
+      → (told → LeavesOnly moment images_since old new place (IsBeforeOrAfter (entries_at all place log) (entry_with written next)))
       → IsLeftOnDisk told volume new place all log (Some next)
-  IsLeft-torn moment images_since new next counts_now leaves = record {
+  IsLeft-torn moment images_since new next written counts_now leaves = record {
     noted = disk.noted;
     each = disk.each;
-    left = λ tells image is. StandsFound-either image (entries_at all place log) all.moment next
+    left = λ tells image is. StandsFound-either image (entries_at all place log) written next
         ((leaves tells).each image (counts_now tells image (leaves tells).later is));
   }

@@ -1,5 +1,6 @@
 -- What the volumes of systems hold: of one that is up its log, of one that is down perhaps one record more.
-use Rattle.std.specs.Prelude.{◌≡◌, ◌⊎◌, ℕ, ◌+◌, Option, Some, None, List, [], ◌∷◌, ◌++◌, length, slice_get}
+use Rattle.std.specs.Prelude.{◌≡◌, ◌⊎◌, ℕ, ◌+◌, ◌-◌, ◌≤◌, max, Option, Some, None, List, [], ◌∷◌, ◌++◌, length, slice_get}
+use Rattle.std.specs.List.{AllByRecursion}
 use Rattle.std.specs.Option.{unwrap_or}
 use Rattle.ale_volumes.specs.declared.volume.Volume.{Volume}
 use Rattle.ale_volumes.specs.Volume.{IsImage}
@@ -19,13 +20,38 @@ count_of all = length all.journals
 abbrev pub HaveMoments : SystemJournals → Type 0
 HaveMoments all = length all.moments ≡ length all.journals
 
--- the moment for what is written next
+-- the moment that is set for what is written next
 abbrev pub moment_of : SystemJournals → Option ℕ
 moment_of all = all.moment
 
 -- the moments of the entries of the log at a place; none of them where there is no such place
 abbrev pub moments_at : SystemJournals → ℕ → List (Option ℕ)
 moments_at all place = unwrap_or (slice_get all.moments place) []
+
+-- the last of moments, and none where there are none
+abbrev pub last_moment : List (Option ℕ) → Option ℕ
+last_moment moments = unwrap_or (slice_get moments (length moments - 1)) None
+
+-- of two moments the larger; where only one is there, that one
+abbrev pub later : Option ℕ → Option ℕ → Option ℕ
+later None other = other
+later (Some one) None = Some one
+later (Some one) (Some other) = Some (max one other)
+
+-- the moment of the next record of the log at a place: the larger of the one that is set and the last of that log
+abbrev pub next_moment : SystemJournals → ℕ → Option ℕ
+next_moment all place = later (moment_of all) (last_moment (moments_at all place))
+
+-- the second moment may follow the first: it is not below it, and is there where the first is
+abbrev pub MayFollow : Option ℕ → Option ℕ → Type 0
+MayFollow None moment = Unit {0}
+MayFollow (Some before) None = ⊥
+MayFollow (Some before) (Some moment) = before ≤ moment
+
+-- no moment is below one before it, and none without a moment follows one with a moment
+abbrev pub AreInOrder : List (Option ℕ) → Type 0
+AreInOrder [] = Unit {0}
+AreInOrder (moment ∷ moments) = AllByRecursion (MayFollow moment) moments × AreInOrder moments
 
 -- each record with its moment, as many as there are of both
 abbrev pub entries_of : List (Option ℕ) → List Record → List Entry

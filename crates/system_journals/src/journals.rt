@@ -1,4 +1,4 @@
-//! The journals of all systems, and the moment for what is written next. `writing` has the write, `opening` the opening.
+//! The journals of all systems, and the moment that is set. `writing` has the write, `opening` the opening.
 
 ghost use Rattle.std.specs.Prelude.{◌≡◌, ◌-◌, None};
 
@@ -6,7 +6,7 @@ use ale_base::{Items, SystemNo};
 use std::alloc::Global;
 use unit_journal::UnitJournal;
 
-/// The journals of all systems, the moments of the entries of each log, and the moment for what is written next.
+/// The journals of all systems, the moments of the entries of each log, and the moment that is set for the next.
 ///
 /// System i, counted from 1, is at place i - 1, and so is its volume.
 #[derive(Drop)]
@@ -52,14 +52,15 @@ impl SystemJournals {
         }
     }
 
-    /// The moment for what is written next.
+    /// The moment that is set for what is written next.
     pub fn moment(&self) -> Option<u64>
         ensures { result ≡ moment_of self.now }
     {
         self.moment
     }
 
-    /// Sets the moment for what is written next; `None` where none is known. All else is as before.
+    /// Sets the moment for what is written next; `None` where none is known. A write takes the last of its log where that is
+    /// larger. All else is as before.
     pub fn set_moment(&mut self, moment: Option<u64>)
         ensures { self.new ≡ with_moment moment self.old }
     {

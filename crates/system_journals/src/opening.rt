@@ -18,12 +18,13 @@ use unit_journal::{LogFault, UnitJournal};
 impl SystemJournals {
     ghost use Rattle.system_journals.specs.OnDisk.{count_of, HaveMoments, IsOnDisk};
     ghost use Rattle.system_journals.specs.Changes.{with_system, IsNext};
-    ghost use Rattle.system_journals.specs.Opening.{Answers};
+    ghost use Rattle.system_journals.specs.Opening.{Answers, LeavesOpened};
 
     /// Opens the volume of the next system, whatever a crash left there: its journal and the moments of its entries are kept,
     /// and its records given, oldest first.
     ///
-    /// After every `Err` the journals are as before. `Damaged` comes where the volume stands for no log, and `Unread` where a
+    /// After every `Err` the journals are as before, and so are the bytes of the volume, but for a gate that is their last
+    /// byte. `Damaged` comes where the volume stands for no log, and `Unread` where a
     /// record of it is no entry: then the volume is to be given up or mended. After `Volume` and `OutOfMemory` the same call
     /// may succeed later.
     pub fn open<V: Volumes>(&mut self, vols: &mut V) -> Result<Items<Record>, LogFault>
@@ -35,6 +36,9 @@ impl SystemJournals {
         ensures opened { IfOk result (λ log. IsOnDisk V.told V.volume vols.new (count_of self.old) self.new log) }
         ensures next { OnOk result (IsNext self.old self.new) }
         ensures err { OnErr result (self.new ≡ self.old) }
+
+        // What a read gives is as before, but for a gate that is the last byte.
+        ensures leaves { V.told → LeavesOpened (V.volume vols.old (count_of self.old)) (V.volume vols.new (count_of self.old)) result }
 
         // A crash at any moment of the call leaves what was handed in, or what reads as it; from some moment on only the latter.
         ensures any_moment { V.told → LeavesOnly V.moment V.images_since vols.old vols.new (count_of self.old)

@@ -1,20 +1,18 @@
 use Rattle.std.specs.Prelude.{slice_get, slice_set}
 use Rattle.std.specs.Option.{unwrap_or}
-use Rattle.std.proofs.Common.{◌≡◌, ◌↔◌, ◌-◌, ◌<◌, inl, ℕ, Option, Some, List, [], Err, sym, ap, ◌∙◌, subst}
+use Rattle.std.proofs.Common.{◌≡◌, ◌-◌, ◌<◌, inl, ℕ, Option, Some, List, [], ◌∷◌, ◌++◌, sym, ap, ◌∙◌, subst}
 use Rattle.ale_volumes.specs.Clock.{LeavesOnly}
 use Rattle.ale_volumes.proofs.ClockLemmas.{started}
-use Rattle.byte_journal.specs.declared.fault.AppendFault.TheVariants.{Full}
-use Rattle.byte_journal.specs.Log.{most_bytes}
 use Rattle.unit_codec.specs.Entries.{entry_with}
 use Rattle.unit_journal.specs.declared.journal.UnitJournal.{UnitJournal}
 use Rattle.unit_journal.specs.Settled.{IsBeforeOrAfter, IsSettled}
 use Rattle.system_journals.specs.declared.journals.SystemJournals.{SystemJournals}
-use Rattle.system_journals.specs.OnDisk.{moments_at, entries_at, IsOnDisk, IsLeftOnDisk, full_at}
+use Rattle.system_journals.specs.OnDisk.{moments_at, next_moment, entries_at, IsOnDisk, IsLeftOnDisk}
 use Rattle.system_journals.specs.Changes.{OnlyAt}
 use Rattle.system_journals.proofs.PlaceLemmas.{got-set_at, set-got, noted-here, length-noted}
 use Rattle.system_journals.proofs.KeptLemmas.{IsOnDisk-stands}
 use Rattle.system_journals.proofs.WriteLemmas.{OnlyAt-none, OnlyAt-written, unchanged, within-place, same-journal, on-here, settled-here}
-use Rattle.system_journals.proofs.WriteLemmas.{IsOnDisk-written, IsOnDisk-unwritten, IsLeft-torn}
+use Rattle.system_journals.proofs.WriteLemmas.{IsOnDisk-written, IsOnDisk-unwritten, IsLeft-torn, full-here}
 use Rattle.system_journals.proofs.journals.SystemJournals.write.Goals as goal
 
 pub returns-in_err-note-clause-unwritten : goal.returns-in_err-note-clause-unwritten
@@ -44,18 +42,20 @@ at_mut-requires g c =
 pub take_back-requires : goal.take_back-requires
 take_back-requires g c =
     let all = c.args.self.now in
+    let moment = c.next_moment-moment.result in
     let place = c.args.system - 1 in
     let k = c.get.result - 1 in
     let at : k ≡ place = ap (λ (n : ℕ). n - 1) c.get.ensures.number in
     let up = c.requires.on_disk.1 in
     let within = within-place all.moments k place (moments_at all place) at up.noted in
-    subst (λ (n : ℕ). k < n) (sym (length-noted all.moments c.note.new.moments k all.moment c.in_ok-note.ensures.ok)) within
+    subst (λ (n : ℕ). k < n) (sym (length-noted all.moments c.note.new.moments k moment c.in_ok-note.ensures.ok)) within
 
 pub returns-in-Ok-clause-written : goal.returns-in-Ok-clause-written
 returns-in-Ok-clause-written g c = λ log disk.
     let V = g.V.Volumes in
     let old = c.args.vols.now in
     let all = c.args.self.now in
+    let moment = c.next_moment-moment.result in
     let place = c.args.system - 1 in
     let k = c.get.result - 1 in
     let at : k ≡ place = ap (λ (n : ℕ). n - 1) c.get.ensures.number in
@@ -66,30 +66,34 @@ returns-in-Ok-clause-written g c = λ log disk.
     let room = within-place all.journals k place up.journal at up.here in
     let now = c.append.new.self in
     let after : SystemJournals = record all { journals = slice_set all.journals k now; moments = c.note.new.moments } in
-    IsOnDisk-written V.told V.volume old place all log was here disk c.append.new.vols after c.args.next.now now (got-set_at all.journals k place now at room)
-    (noted-here all.moments c.note.new.moments k place all.moment at within c.in_ok-note.ensures.ok)
+    IsOnDisk-written V.told V.volume old place all log was here disk c.append.new.vols after c.args.next.now moment now
+    (got-set_at all.journals k place now at room)
+    (noted-here all.moments c.note.new.moments k place moment at within c.in_ok-note.ensures.ok)
     c.in-Ok.ensures.spelled (record { volume = c.in-Ok.ensures.moves_on.0; at_end = c.in-Ok.ensures.moves_on.1 }) c.in-Ok.ensures.added
 
 pub returns-in-Ok-clause-one : goal.returns-in-Ok-clause-one
 returns-in-Ok-clause-one g c =
     let all = c.args.self.now in
+    let moment = c.next_moment-moment.result in
     let place = c.args.system - 1 in
     let k = c.get.result - 1 in
     let at : k ≡ place = ap (λ (n : ℕ). n - 1) c.get.ensures.number in
     let now = c.append.new.self in
     subst (λ (i : ℕ). OnlyAt i all (record all { journals = slice_set all.journals k now; moments = c.note.new.moments })) at
-    (OnlyAt-written k all now c.note.new.moments all.moment c.in_ok-note.ensures.ok)
+    (OnlyAt-written k all now c.note.new.moments moment c.in_ok-note.ensures.ok)
 
 pub returns-in-Ok-clause-grown : goal.returns-in-Ok-clause-grown
 returns-in-Ok-clause-grown g c =
     let all = c.args.self.now in
+    let moment = c.next_moment-moment.result in
     let place = c.args.system - 1 in
     let k = c.get.result - 1 in
     let at : k ≡ place = ap (λ (n : ℕ). n - 1) c.get.ensures.number in
     let up = c.requires.on_disk.1 in
     let within = within-place all.moments k place (moments_at all place) at up.noted in
     ap (λ (found : Option (List (Option ℕ))). unwrap_or found [])
-    (noted-here all.moments c.note.new.moments k place all.moment at within c.in_ok-note.ensures.ok)
+    (noted-here all.moments c.note.new.moments k place moment at within c.in_ok-note.ensures.ok)
+    ∙ ap (λ (m : Option ℕ). moments_at all place ++ m ∷ []) c.next_moment-moment.ensures
 
 pub returns-in-Err-clause-torn : goal.returns-in-Err-clause-torn
 returns-in-Err-clause-torn g c = λ log disk is.
@@ -97,6 +101,7 @@ returns-in-Err-clause-torn g c = λ log disk is.
     let old = c.args.vols.now in
     let new = c.append.new.vols in
     let all = c.args.self.now in
+    let moment = c.next_moment-moment.result in
     let place = c.args.system - 1 in
     let k = c.get.result - 1 in
     let at : k ≡ place = ap (λ (n : ℕ). n - 1) c.get.ensures.number in
@@ -107,16 +112,16 @@ returns-in-Err-clause-torn g c = λ log disk is.
     let same =
     unchanged all (slice_set all.journals k c.append.new.self) c.take_back.new.moments
     (set-got all.journals k was c.append.new.self c.at_mut.ensures.value c.in-Err.ensures.moves_on)
-    (c.take_back.ensures all.moments all.moment within c.in_ok-note.ensures.ok) in
+    (c.take_back.ensures all.moments moment within c.in_ok-note.ensures.ok) in
     let entries = entries_at all place log in
     let settled = settled-here V.told V.volume old place all log was here disk in
-    let entry = entry_with all.moment c.args.next.now in
+    let entry = entry_with moment c.args.next.now in
     let leaves : V.told → LeavesOnly V.moment V.images_since old new place (IsBeforeOrAfter entries entry) =
     λ tells. subst (λ (n : ℕ). LeavesOnly V.moment V.images_since old new n (IsBeforeOrAfter entries entry))
     (on-here V.told V.volume old place all log was here disk).volume
     (c.append.ensures.any_moment tells entries (settled tells)) in
     subst (λ (after : SystemJournals). IsLeftOnDisk V.told V.volume new place after log (Some c.args.next.now)) (sym same)
-    (IsLeft-torn V.told V.volume old place all log was here disk V.moment V.images_since new c.args.next.now
+    (IsLeft-torn V.told V.volume old place all log was here disk V.moment V.images_since new c.args.next.now moment
     (λ tells image later image_is. g.met.V.Volumes.counts_now tells new place (V.moment old) image later image_is) leaves)
 
 pub returns-in-Err-clause-unwritten : goal.returns-in-Err-clause-unwritten
@@ -125,6 +130,7 @@ returns-in-Err-clause-unwritten g c = λ log disk is.
     let old = c.args.vols.now in
     let new = c.append.new.vols in
     let all = c.args.self.now in
+    let moment = c.next_moment-moment.result in
     let place = c.args.system - 1 in
     let k = c.get.result - 1 in
     let at : k ≡ place = ap (λ (n : ℕ). n - 1) c.get.ensures.number in
@@ -135,7 +141,7 @@ returns-in-Err-clause-unwritten g c = λ log disk is.
     let same =
     unchanged all (slice_set all.journals k c.append.new.self) c.take_back.new.moments
     (set-got all.journals k was c.append.new.self c.at_mut.ensures.value c.in-Err.ensures.moves_on)
-    (c.take_back.ensures all.moments all.moment within c.in_ok-note.ensures.ok) in
+    (c.take_back.ensures all.moments moment within c.in_ok-note.ensures.ok) in
     let entries = entries_at all place log in
     let settled = settled-here V.told V.volume old place all log was here disk in
     subst (λ (after : SystemJournals). IsOnDisk V.told V.volume new place after log) (sym same)
@@ -148,18 +154,19 @@ returns-in-Err-clause-full g c = λ log disk length not_memory.
     let V = g.V.Volumes in
     let old = c.args.vols.now in
     let all = c.args.self.now in
+    let moment = c.next_moment-moment.result in
     let place = c.args.system - 1 in
     let k = c.get.result - 1 in
     let at : k ≡ place = ap (λ (n : ℕ). n - 1) c.get.ensures.number in
     let was = c.at_mut.result.now in
     let here : slice_get all.journals place ≡ Some was = ap (λ (i : ℕ). slice_get all.journals i) (sym at) ∙ c.at_mut.ensures.value in
-    let entry = entry_with all.moment c.args.next.now in
-    subst (λ (journal : UnitJournal). (Err c.in-Err.fault ≡ Err (Full length)) ↔ ((length ≡ full_at journal entry) × (most_bytes < length)))
-    (sym (same-journal V.told V.volume old place all log was here disk)) (c.in-Err.ensures.full length not_memory)
+    full-here was disk.journal moment (next_moment all place) c.args.next.now length (same-journal V.told V.volume old place all log was here disk)
+    c.next_moment-moment.ensures (c.in-Err.ensures.full length not_memory)
 
 pub returns-in-Err-clause-err : goal.returns-in-Err-clause-err
 returns-in-Err-clause-err g c =
     let all = c.args.self.now in
+    let moment = c.next_moment-moment.result in
     let place = c.args.system - 1 in
     let k = c.get.result - 1 in
     let at : k ≡ place = ap (λ (n : ℕ). n - 1) c.get.ensures.number in
@@ -169,12 +176,13 @@ returns-in-Err-clause-err g c =
     let same =
     unchanged all (slice_set all.journals k c.append.new.self) c.take_back.new.moments
     (set-got all.journals k was c.append.new.self c.at_mut.ensures.value c.in-Err.ensures.moves_on)
-    (c.take_back.ensures all.moments all.moment within c.in_ok-note.ensures.ok) in
+    (c.take_back.ensures all.moments moment within c.in_ok-note.ensures.ok) in
     same
 
 pub returns-in-Err-clause-one : goal.returns-in-Err-clause-one
 returns-in-Err-clause-one g c =
     let all = c.args.self.now in
+    let moment = c.next_moment-moment.result in
     let place = c.args.system - 1 in
     let k = c.get.result - 1 in
     let at : k ≡ place = ap (λ (n : ℕ). n - 1) c.get.ensures.number in
@@ -184,5 +192,5 @@ returns-in-Err-clause-one g c =
     let same =
     unchanged all (slice_set all.journals k c.append.new.self) c.take_back.new.moments
     (set-got all.journals k was c.append.new.self c.at_mut.ensures.value c.in-Err.ensures.moves_on)
-    (c.take_back.ensures all.moments all.moment within c.in_ok-note.ensures.ok) in
+    (c.take_back.ensures all.moments moment within c.in_ok-note.ensures.ok) in
     subst (λ (after : SystemJournals). OnlyAt place all after) (sym same) (OnlyAt-none place all)
