@@ -1,0 +1,8 @@
+-- what the volumes hold of the logs of all systems
+pub mod OnVolumes
+-- the world kept with its tables, journals and volumes
+pub mod Kept
+-- how an append ends
+pub mod Appending
+-- what is answered by the logs and the claims
+pub mod Answers
