@@ -28,7 +28,7 @@ use Rattle.world_tables.specs.Claims.{claim_at, kind_of}
 use Rattle.world_tables.specs.InStep.{AreInStep}
 use Rattle.world_tables.specs.Answers.{IsAnswered}
 use Rattle.world_tables.proofs.InStepLemmas.{stands_up}
-use Rattle.kept_world.specs.Answers.{may_go_at, first_to_go, AreTablesAt, IsAnsweredBy}
+use Rattle.kept_world.specs.Answers.{may_go_at, first_to_go, AreTablesNow, IsAnsweredBy}
 
 -- the claims of a direction at a system
 way_claims : (way : Way) (system : ℕ) (claims : List Held) → claims_of way (claim_at Out system claims) (claim_at In system claims) ≡ claim_at (kind_of way) system claims
@@ -36,7 +36,7 @@ way_claims Outgoing system claims = refl
 way_claims Incoming system claims = refl
 
 module _ {R A : Type 0} (stands : A → List Record → Type 0) (rules : Meaning) (world : World R) (system : ℕ) (its : TablesOf A)
-    (are : AreTablesAt stands rules world system its) where
+    (are : AreTablesNow stands rules world system its) where
   -- an id is seen exactly where the log received its unit and has not forgotten it
   pub known-at : (tid : TidOf) → is_listed tid its.seen ≡ is_known tid (log_of world system)
   known-at tid =
@@ -90,7 +90,7 @@ module _ {R A : Type 0} (stands : A → List Record → Type 0) (rules : Meaning
       slice_get-within tables (system - 1) within
 
   -- and they are those of its log and of the claims at it
-  pub tables-at : (its : TablesOf A) → slice_get tables (system - 1) ≡ Some its → AreTablesAt stands rules world system its
+  pub tables-at : (its : TablesOf A) → slice_get tables (system - 1) ≡ Some its → AreTablesNow stands rules world system its
   tables-at its at =
       let standing = stands_up world.systems system up in
       let place = system - 1 in

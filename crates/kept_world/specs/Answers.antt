@@ -25,8 +25,8 @@ may_go_at rules world system way tid =
     (unit_named tid (units_of way (committed_by rules world system) (log_of world system))) false
 
 -- tables are those of the log of a system, and of the claims at it
-abbrev pub AreTablesAt : {R A : Type 0} → (A → List Record → Type 0) → Meaning → World R → ℕ → TablesOf A → Type 0
-AreTablesAt stands rules world system tables =
+abbrev pub AreTablesNow : {R A : Type 0} → (A → List Record → Type 0) → Meaning → World R → ℕ → TablesOf A → Type 0
+AreTablesNow stands rules world system tables =
     AreTablesOf stands (committed_by rules world system) (log_of world system) (claim_at Out system world.claims) (claim_at In system world.claims) tables
 
 -- the id of the first unit that waits in the queues of a direction at a system and may go

@@ -47,11 +47,10 @@ impl<R: Rules, A: Application, V: Volumes> Model for KeptWorld<R, A, V> {
 }
 
 impl<R: Rules, A: Application, V: Volumes> KeptWorld<R, A, V> {
-    ghost use Rattle.std.specs.Prelude.{◌≡◌, ◌-◌, ℕ, List, [], ◌∷◌, ◌++◌, slice_get, None, Some, true, IfOk, OnErr, IsErrOf};
+    ghost use Rattle.std.specs.Prelude.{◌≡◌, ◌-◌, [], slice_get, None, Some, true, IfOk, OnErr, IsErrOf};
     ghost use Rattle.std.specs.Option.{option_copied, option_map};
     ghost use Rattle.ale_volumes.specs.Clock.{LeavesOnly, KeepsOthers};
     ghost use Rattle.ale_volumes.specs.Faults.{CountsFault};
-    ghost use Rattle.unit_codec.specs.Condition.{IsWritable};
     ghost use Rattle.unit_codec.specs.Entries.{entry_with};
     ghost use Rattle.unit_journal.specs.Settled.{IsBeforeOrAfter};
     ghost use Rattle.trfc_protocol.specs.Worlds.{log_of, is_up, committed_by, with_fall, with_claim, without_claim};
@@ -60,7 +59,6 @@ impl<R: Rules, A: Application, V: Volumes> KeptWorld<R, A, V> {
     ghost use Rattle.plain_queues.specs.LogQueues.{HaveOneSender, units_of};
     ghost use Rattle.system_tables.specs.Tables.{TablesOf};
     ghost use Rattle.world_tables.specs.Claims.{kind_of};
-    ghost use Rattle.world_tables.specs.Joining.{JoinsAt};
     ghost use Rattle.system_journals.specs.OnDisk.{next_moment, moments_at, entries_at};
     ghost use Rattle.system_journals.specs.Changes.{with_moment};
     ghost use Rattle.world_tables.specs.Answers.{IsAnswered};

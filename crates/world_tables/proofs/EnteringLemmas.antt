@@ -87,13 +87,6 @@ last-entered world system next up =
     let known = is_up-known world system up in
     ap (λ found. last_of (log_or_none found)) (state_of-here world system (state_with next) known.0 known.1) ∙ last-push (known.0).log next
 
--- and the log is the one before it and this record
-pub log-entered : {R : Type 0} (world : World R) (system : ℕ) (next : Record) → is_up world system ≡ true
-    → log_of (with_record world system next) system ≡ log_of world system ++ next ∷ []
-log-entered world system next up =
-    let known = is_up-known world system up in
-    ap log_or_none (state_of-here world system (state_with next) known.0 known.1) ∙ ap (λ found. log_or_none found ++ next ∷ []) (sym known.1)
-
 -- ---- systems
 
 got_at : (systems : List SystemState) (system : ℕ) (state : SystemState) → state_of systems system ≡ Some state → slice_get systems (system - 1) ≡ Some state

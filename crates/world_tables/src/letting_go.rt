@@ -1,6 +1,6 @@
 //! Claims that are given up, in the tables of their systems.
 
-ghost use Rattle.std.specs.Prelude.{◌≡◌, ◌≤◌, ◌-◌, ◌<◌, true, Some, List, [], length, slice_get, is_some};
+ghost use Rattle.std.specs.Prelude.{◌≡◌, ◌≤◌, ◌-◌, true, Some, List, [], length, slice_get, is_some};
 ghost use Rattle.trfc_protocol.specs.declared.held.Held.{Held};
 ghost use Rattle.trfc_protocol.specs.declared.world.World.{World};
 ghost use Rattle.trfc_protocol.specs.Safe.{AreApart};

@@ -31,7 +31,7 @@ pub struct WorldTables<R: Rules, A: Application> {
 }
 
 impl<R: Rules, A: Application> WorldTables<R, A> {
-    ghost use Rattle.std.specs.Prelude.{◌≡◌, ◌≤◌, ◌-◌, ℕ, [], ◌++◌, length, slice_get, Some, true, IfOk, OnOk, OnErr};
+    ghost use Rattle.std.specs.Prelude.{◌≡◌, ◌≤◌, ◌-◌, [], length, slice_get, Some, true, IfOk, OnOk, OnErr};
     ghost use Rattle.std.specs.Option.{option_copied};
     ghost use Rattle.unit_core.specs.declared.records.Record.{Record};
     ghost use Rattle.trfc_protocol.specs.Worlds.{log_of, is_up, last_of, state_down, state_without_last, with_state, with_record, with_fall, with_claim, without_claim};

@@ -8,17 +8,15 @@ use trfc_protocol::Rules;
 use unit_core::AleUnit;
 
 impl<R: Rules, A: Application, V: Volumes> KeptWorld<R, A, V> {
-    ghost use Rattle.std.specs.Prelude.{◌≡◌, ◌≤◌, ◌-◌, true, false, find, length, slice_get, Some};
-    ghost use Rattle.std.specs.Option.{option_copied, option_map, option_map_or};
-    ghost use Rattle.unit_core.specs.declared.ale_unit.AleUnit.{AleUnit};
+    ghost use Rattle.std.specs.Prelude.{◌≡◌, ◌-◌, true, false, length, slice_get, Some};
+    ghost use Rattle.std.specs.Option.{option_copied, option_map_or};
     ghost use Rattle.unit_core.specs.Queues.{unit_named, is_outstanding};
     ghost use Rattle.tid_table.specs.LogTids.{is_known};
-    ghost use Rattle.plain_queues.specs.LogQueues.{HaveOneSender, units_of, through, may_go};
+    ghost use Rattle.plain_queues.specs.LogQueues.{HaveOneSender, units_of, through};
     ghost use Rattle.trfc_protocol.specs.Legal.{IsLegal};
     ghost use Rattle.trfc_protocol.specs.Worlds.{log_of, is_up, committed_by, committed_unit};
     ghost use Rattle.system_tables.specs.OfLog.{is_unconfirmed};
-    ghost use Rattle.world_tables.specs.Claims.{claim_at, kind_of};
-    ghost use Rattle.kept_world.specs.Answers.{may_go_at, first_to_go, AreTablesAt};
+    ghost use Rattle.kept_world.specs.Answers.{may_go_at, first_to_go, AreTablesNow};
 
     /// The unit of this id, as its sender committed it, in constant time. None exactly where it committed none.
     pub fn unit(&self, tid: Tid) -> Option<&AleUnit>
@@ -87,7 +85,7 @@ impl<R: Rules, A: Application, V: Volumes> KeptWorld<R, A, V> {
     pub fn tables(&self, system: SystemNo) -> &SystemTables<A>
         requires { is_up self.now.world system ≡ true }
         ensures tables { slice_get self.now.tables (system - 1) ≡ Some result.now }
-        ensures agree { AreTablesAt A.stands (R.meaning self.now.world.rules) self.now.world system result.now }
+        ensures agree { AreTablesNow A.stands (R.meaning self.now.world.rules) self.now.world system result.now }
     {
         &self.both.tables[system.get() as usize - 1]
     }

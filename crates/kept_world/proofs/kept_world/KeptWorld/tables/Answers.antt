@@ -1,7 +1,7 @@
 use Rattle.std.proofs.Common.{◌≡◌, sym, ap, subst, ◌∙◌}
 use Rattle.std.specs.Prelude.{slice_get, ◌-◌}
 use Rattle.trfc_protocol.specs.Worlds.{is_up}
-use Rattle.kept_world.specs.Answers.{AreTablesAt}
+use Rattle.kept_world.specs.Answers.{AreTablesNow}
 use Rattle.kept_world.proofs.AnswersLemmas.{tables-at}
 use Rattle.kept_world.proofs.kept_world.KeptWorld.tables.Goals as goal
 
@@ -9,6 +9,6 @@ pub returns-clause-agree : goal.returns-clause-agree
 returns-clause-agree g c =
     let world = c.self.inside.both.world in
     let same : world ≡ c.args.self.now.world = ap (λ k. k.world) c.self.view_is in
-    subst (λ w. AreTablesAt g.A.Application.stands (g.R.Rules.meaning w.rules) w c.args.system c.index.result.now) same
+    subst (λ w. AreTablesNow g.A.Application.stands (g.R.Rules.meaning w.rules) w c.args.system c.index.result.now) same
     (tables-at g.A.Application.stands (g.R.Rules.meaning world.rules) world c.self.inside.both.tables c.self.invariant.in_step c.args.system
     (ap (λ w. is_up w c.args.system) same ∙ c.requires) c.index.result.now (ap (λ n. slice_get c.self.inside.both.tables (n - 1)) (sym c.get.ensures.number) ∙ c.index.ensures))
