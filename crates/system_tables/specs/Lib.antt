@@ -8,3 +8,5 @@ pub mod CanNote
 pub mod OfLog
 -- what is known of a record that joins a log
 pub mod Joins
+-- which records say something to an application
+pub mod Concerns

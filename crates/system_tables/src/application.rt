@@ -6,8 +6,9 @@ use unit_core::Record;
 
 /// The tables of an application over a system's log, which each record of the log is noted in.
 pub trait Application: Drop {
-    ghost use Rattle.std.specs.Prelude.{List, [], ◌∷◌, ◌++◌, OnOk};
+    ghost use Rattle.std.specs.Prelude.{◌≡◌, List, [], ◌∷◌, ◌++◌, OnOk, false};
     ghost use Rattle.unit_core.specs.declared.records.Record.{Record};
+    ghost use Rattle.system_tables.specs.Concerns.{concerns_application};
 
     /// What was made for a record before it was written.
     type Extra: Drop;
@@ -17,6 +18,10 @@ pub trait Application: Drop {
 
     // Whether this is what was made for a record at these tables.
     ghost goes_with: { Self → Record → Self.Extra → Type 0 };
+
+    /// What goes with a record that says nothing to an application.
+    fn nothing() -> Self::Extra
+        ensures { (application : Self) (next : Record) → concerns_application next ≡ false → goes_with application next result };
 
     /// Notes one more record, with what was made for it. After an `Err` nothing is known of the tables.
     fn note(&mut self, alloc: Global, next: &Record, extra: Self::Extra) -> Result<(), OutOfMemory>
@@ -36,6 +41,8 @@ impl Application for NoApplication {
     ghost stands = { λ none log. ⊤ };
 
     ghost goes_with = { λ none next extra. ⊤ };
+
+    fn nothing() {}
 
     fn note(&mut self, _alloc: Global, _next: &Record, _extra: ()) -> Result<(), OutOfMemory> {
         Ok(())

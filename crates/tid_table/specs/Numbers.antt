@@ -1,4 +1,4 @@
--- Ids as the table keeps them. Only the view of `Tids` cites this.
+-- Ids as the table keeps them.
 use Rattle.std.specs.Prelude.{ℕ}
 use Rattle.ale_base.specs.Tid.{TidOf}
 

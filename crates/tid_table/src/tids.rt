@@ -26,8 +26,9 @@ impl Model for Tids {
 }
 
 impl Tids {
-    ghost use Rattle.std.specs.Prelude.{◌≡◌, [], OnOk, OnErr};
+    ghost use Rattle.std.specs.Prelude.{◌≡◌, [], map, OnOk, OnErr};
     ghost use Rattle.unit_core.specs.Queues.{is_listed};
+    ghost use Rattle.tid_table.specs.Numbers.{tid_of};
     ghost use Rattle.tid_table.specs.Tids.{Enters, Forgets};
 
     /// No ids. It takes no memory.
@@ -44,6 +45,13 @@ impl Tids {
         ensures { result ≡ is_listed tid self.now }
     {
         self.numbers.contains(&number_of(tid))
+    }
+
+    /// The numbers of each id that is seen: its system and its unit there.
+    pub fn numbers(&self) -> &BTreeSet<(u8, u32)>
+        ensures { map tid_of result.now.keys ≡ self.now }
+    {
+        &self.numbers
     }
 
     /// Enters an id: from now on it is seen. All others stay. After an `Err` all is as before.

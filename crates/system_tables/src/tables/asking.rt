@@ -4,6 +4,7 @@ use super::SystemTables;
 use crate::Application;
 use ale_base::{Tid, Way};
 use multi_queue::{NotOffered, QueueKey, QueueStatus, Queues};
+use tid_table::Tids;
 use unit_core::AleUnit;
 
 impl<A: Application> SystemTables<A> {
@@ -44,6 +45,13 @@ impl<A: Application> SystemTables<A> {
         ensures { result ≡ is_listed tid self.now.unconfirmed }
     {
         self.unconfirmed.seen(tid)
+    }
+
+    /// The ids of the units that are done and not ended.
+    pub fn unconfirmed(&self) -> &Tids
+        ensures { result.now ≡ self.now.unconfirmed }
+    {
+        &self.unconfirmed
     }
 
     /// Whether the unit of this id is in the queues of a direction, whatever keeps it there.
