@@ -14,9 +14,10 @@ use Rattle.world_tables.specs.Changed.{ChangedAt}
 use Rattle.world_tables.proofs.InStepLemmas.{ChangedAt-same, stands_up}
 use Rattle.world_tables.proofs.EnteringLemmas.{systems-changed}
 use Rattle.system_journals.specs.declared.journals.SystemJournals.{SystemJournals}
-use Rattle.system_journals.specs.OnDisk.{IsOnDisk, IsLeftOnDisk}
+use Rattle.system_journals.specs.OnDisk.{moments_at, AreInOrder, IsOnDisk, IsLeftOnDisk}
 use Rattle.system_journals.specs.Changes.{OnlyAt, with_moment}
 use Rattle.system_journals.proofs.KeptLemmas.{HaveMoments-one, IsLeft-of, IsOnDisk-same, IsLeftOnDisk-same, IsOnDisk-with_moment, IsLeftOnDisk-with_moment}
+use Rattle.system_journals.proofs.OrderLemmas.{AreInOrder-same}
 use Rattle.kept_world.specs.OnVolumes.{AreOnVolumes}
 
 -- a claim that goes leaves the systems
@@ -34,13 +35,18 @@ module _ {D : Type 0} (told : Type 0) (volume : D → ℕ → Volume) where
   -- of one system the state, the journal and the volume change, and of no other
   on_volumes-changed : (old new : D) (systems after : List SystemState) (before journals : SystemJournals) (place : ℕ) (StateChange : SystemState → SystemState → Type 0)
       → AreOnVolumes told volume old systems before → ChangedAt StateChange place systems after → OnlyAt place before journals
+      → AreInOrder (moments_at journals place)
       → ((other : ℕ) → other ≢ place → told → volume new other ≡ volume old other)
       → ((state now : SystemState) → slice_get systems place ≡ Some state → StateChange state now
       → (now.up ≡ true → IsOnDisk told volume new place journals now.log) × (now.up ≡ false → IsLeftOnDisk told volume new place journals now.log now.rest))
       → AreOnVolumes told volume new after journals
-  on_volumes-changed old new systems after before journals place StateChange are changed one others here = record {
+  on_volumes-changed old new systems after before journals place StateChange are changed one order others here = record {
     count = one.journals ∙ are.count ∙ sym changed.long;
     moments = HaveMoments-one place before journals one are.moments;
+    order = λ other. elim (cases_eq other place) [
+      | inl same ↦ subst (λ k. AreInOrder (moments_at journals k)) (sym same) order
+      | inr differs ↦ AreInOrder-same other before journals (one.others other differs).moments (are.order other)
+    ];
     few = subst (λ n. n ≤ 16) (sym changed.long) are.few;
     up = λ other now at up. elim (cases_eq other place) [
       | inl same ↦
@@ -70,6 +76,7 @@ module _ {D : Type 0} (told : Type 0) (volume : D → ℕ → Volume) where
 
   module _ {R : Type 0} (old new : D) (world : World R) (before journals : SystemJournals) (system : ℕ) (up : is_up world system ≡ true)
       (are : AreOnVolumes told volume old world.systems before) (one : OnlyAt (system - 1) before journals)
+      (order : AreInOrder (moments_at journals (system - 1)))
       (others : (other : ℕ) → other ≢ system - 1 → told → volume new other ≡ volume old other) where
     -- the state of a system that is up
     its_log : (state : SystemState) → slice_get world.systems (system - 1) ≡ Some state → (log_of world system ≡ state.log) × (state.up ≡ true)
@@ -83,7 +90,7 @@ module _ {D : Type 0} (told : Type 0) (volume : D → ℕ → Volume) where
         → AreOnVolumes told volume new (with_record world system next).systems journals
     on_volumes-written next disk =
         on_volumes-changed old new world.systems (with_record world system next).systems before journals (system - 1) (λ s now. now ≡ state_with next s)
-        are (systems-changed world system (state_with next) up) one others
+        are (systems-changed world system (state_with next) up) one order others
         (λ state now at change.
         let its = its_log state at in (
           λ _. subst (λ (s : SystemState). IsOnDisk told volume new (system - 1) journals s.log) (sym change)
@@ -95,7 +102,7 @@ module _ {D : Type 0} (told : Type 0) (volume : D → ℕ → Volume) where
     pub on_volumes-stays : IsOnDisk told volume new (system - 1) journals (log_of world system) → AreOnVolumes told volume new world.systems journals
     on_volumes-stays disk =
         on_volumes-changed old new world.systems world.systems before journals (system - 1) (λ s now. now ≡ s)
-        are (ChangedAt-same (λ s now. now ≡ s) (system - 1) world.systems (λ s. refl)) one others
+        are (ChangedAt-same (λ s now. now ≡ s) (system - 1) world.systems (λ s. refl)) one order others
         (λ state now at change.
         let its = its_log state at in (
           λ _. subst (λ (s : SystemState). IsOnDisk told volume new (system - 1) journals s.log) (sym change)
@@ -108,7 +115,7 @@ module _ {D : Type 0} (told : Type 0) (volume : D → ℕ → Volume) where
         → AreOnVolumes told volume new (with_state world system (state_down rest)).systems journals
     on_volumes-down rest left =
         on_volumes-changed old new world.systems (with_state world system (state_down rest)).systems before journals (system - 1) (λ s now. now ≡ state_down rest s)
-        are (systems-changed world system (state_down rest) up) one others
+        are (systems-changed world system (state_down rest) up) one order others
         (λ state now at change.
         let its = its_log state at in (
           λ is. absurd (both_ways now.up (ap (λ (s : SystemState). s.up) change) is),
@@ -118,12 +125,12 @@ module _ {D : Type 0} (told : Type 0) (volume : D → ℕ → Volume) where
 
   -- a system that was up fell, with what its volume may have behind its log
   pub on_volumes-fell : {R : Type 0} (old new : D) (world : World R) (before journals : SystemJournals) (system : ℕ) (rest : Option Record) → is_up world system ≡ true
-      → AreOnVolumes told volume old world.systems before → OnlyAt (system - 1) before journals
+      → AreOnVolumes told volume old world.systems before → OnlyAt (system - 1) before journals → AreInOrder (moments_at journals (system - 1))
       → ((other : ℕ) → other ≢ system - 1 → told → volume new other ≡ volume old other)
       → IsLeftOnDisk told volume new (system - 1) journals (log_of world system) rest
       → AreOnVolumes told volume new (with_fall world system rest).systems journals
-  on_volumes-fell old new world before journals system rest up are one others left =
-      on_volumes-down old new (record world { claims = []; falls = one_fall_more world.falls }) before journals system up are one others rest left
+  on_volumes-fell old new world before journals system rest up are one order others left =
+      on_volumes-down old new (record world { claims = []; falls = one_fall_more world.falls }) before journals system up are one order others rest left
 
   -- what is as it was is so at each place
   pub OnlyAt-same : (place : ℕ) (all : SystemJournals) → OnlyAt place all all
@@ -142,7 +149,8 @@ module _ {D : Type 0} (told : Type 0) (volume : D → ℕ → Volume) where
       subst (λ (systems : List SystemState). AreOnVolumes told volume vols systems journals) (sym (ap (λ w. w.systems) is ∙ named_systems world claim)) are
   on_volumes-after vols world after journals system claim (Err end) up is fell are =
       subst (λ w. AreOnVolumes told volume vols w.systems journals) (sym fell)
-      (on_volumes-fell vols vols world journals journals system None up are (OnlyAt-same (system - 1) journals) (λ other differs tells. refl)
+      (on_volumes-fell vols vols world journals journals system None up are (OnlyAt-same (system - 1) journals) (are.order (system - 1))
+      (λ other differs tells. refl)
       (IsLeft-of told volume vols (system - 1) journals (log_of world system) None (on_disk-up vols world journals system up are)))
 
   -- another moment for what is written next leaves what the volumes hold
@@ -151,6 +159,7 @@ module _ {D : Type 0} (told : Type 0) (volume : D → ℕ → Volume) where
   on_volumes-with_moment vols systems journals moment are = record {
     count = are.count;
     moments = are.moments;
+    order = are.order;
     few = are.few;
     up = λ place state at up. IsOnDisk-with_moment told volume vols place journals state.log moment (are.up place state at up);
     down = λ place state at down. IsLeftOnDisk-with_moment told volume vols place journals state.log state.rest moment (are.down place state at down);

@@ -3,13 +3,14 @@ use Rattle.std.specs.Prelude.{◌≡◌, ℕ, ◌≤◌, true, false, Some, List
 use Rattle.ale_volumes.specs.declared.volume.Volume.{Volume}
 use Rattle.trfc_protocol.specs.declared.world.SystemState.{SystemState}
 use Rattle.system_journals.specs.declared.journals.SystemJournals.{SystemJournals}
-use Rattle.system_journals.specs.OnDisk.{count_of, HaveMoments, IsOnDisk, IsLeftOnDisk}
+use Rattle.system_journals.specs.OnDisk.{count_of, HaveMoments, moments_at, AreInOrder, IsOnDisk, IsLeftOnDisk}
 
 -- the log of each system that is up is on the disk for good; of one that is down, a crash leaves the log, perhaps with the record that
--- it was writing as it fell
+-- it was writing as it fell; of both the moments of the log are in order
 pub record AreOnVolumes {D : Type 0} (told : Type 0) (volume : D → ℕ → Volume) (vols : D) (systems : List SystemState) (journals : SystemJournals) : Type 0 where
   pub count : count_of journals ≡ length systems
   pub moments : HaveMoments journals
+  pub order : (place : ℕ) → AreInOrder (moments_at journals place)
   pub few : length systems ≤ 16
   pub up : (place : ℕ) (state : SystemState) → slice_get systems place ≡ Some state → state.up ≡ true
       → IsOnDisk told volume vols place journals state.log

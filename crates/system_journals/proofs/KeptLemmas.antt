@@ -12,7 +12,8 @@ use Rattle.unit_journal.specs.Log.{Stands}
 use Rattle.unit_journal.specs.Settled.{IsOn, IsSettled, IsBeforeOrAfter}
 use Rattle.unit_journal.proofs.SettledLemmas.{IsSettled-stands, IsSettled-kept}
 use Rattle.system_journals.specs.declared.journals.SystemJournals.{SystemJournals}
-use Rattle.system_journals.specs.OnDisk.{HaveMoments, moments_at, entries_of, entries_at, IsOnDisk, StandsFound, IsLeftOnDisk}
+use Rattle.system_journals.specs.OnDisk.{HaveMoments, moments_at, last_moment, MayFollow, moments_of, entries_of, entries_at}
+use Rattle.system_journals.specs.OnDisk.{IsOnDisk, StandsFound, IsLeftOnDisk}
 use Rattle.system_journals.specs.Changes.{with_moment, SameAt, OnlyAt}
 use Rattle.system_journals.proofs.PlaceLemmas.{entries_of-push}
 
@@ -22,10 +23,10 @@ StandsFound-none_more image entries None stands = stands
 StandsFound-none_more image entries (Some next) stands = inl stands
 
 -- What stands for the log from before an append or after it stands for it and perhaps one more.
-pub StandsFound-either : (image : List ℕ) (entries : List Entry) (moment : Option ℕ) (next : Record)
+pub StandsFound-either : (image : List ℕ) (entries : List Entry) (moment : Option ℕ) (next : Record) → MayFollow (last_moment (moments_of entries)) moment
     → IsBeforeOrAfter entries (entry_with moment next) image → StandsFound image entries (Some next)
-StandsFound-either image entries moment next (inl before) = inl before
-StandsFound-either image entries moment next (inr after) = inr (moment, after)
+StandsFound-either image entries moment next follows (inl before) = inl before
+StandsFound-either image entries moment next follows (inr after) = inr (moment, follows, after)
 
 -- Another moment that is set is of no matter to what is at a place.
 pub SameAt-with_moment : (place : ℕ) (moment : Option ℕ) (all : SystemJournals) → SameAt place all (with_moment moment all)

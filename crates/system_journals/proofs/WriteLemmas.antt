@@ -15,11 +15,12 @@ use Rattle.unit_codec.specs.Entries.{EntryHasSpelling, entry_with}
 use Rattle.unit_journal.specs.declared.journal.UnitJournal.{UnitJournal}
 use Rattle.unit_journal.specs.Settled.{bodies, IsAtEnd, IsOn, IsSettled, IsBeforeOrAfter}
 use Rattle.system_journals.specs.declared.journals.SystemJournals.{SystemJournals}
-use Rattle.system_journals.specs.OnDisk.{moments_at, entries_of, entries_at, IsOnDisk, IsLeftOnDisk, full_at}
+use Rattle.system_journals.specs.OnDisk.{moments_at, last_moment, next_moment, MayFollow, moments_of, entries_of, entries_at, IsOnDisk, IsLeftOnDisk, full_at}
 use Rattle.system_journals.specs.Changes.{OnlyAt}
 use Rattle.system_journals.specs.steps.Moments.{with_one_more}
 use Rattle.system_journals.proofs.PlaceLemmas.{entries_of-push, got-set_other}
 use Rattle.system_journals.proofs.KeptLemmas.{StandsFound-either}
+use Rattle.system_journals.proofs.OrderLemmas.{next-follows}
 
 -- what an append that succeeded does to a journal, as `MovesOn` says it
 pub record Moved (was now : UnitJournal) (entry : Entry) : Type 0 where
@@ -107,12 +108,14 @@ module _ {D : Type 0} (told : Type 0) (volume : D → ℕ → Volume) (old : D) 
 
   -- where a crash leaves the log from before an append or after it, the system is left with it and perhaps the record
   pub IsLeft-torn : (moment : D → ℕ) (images_since : D → ℕ → ℕ → List ℕ → Type 0) (new : D) (next : Record) (written : Option ℕ)
+      → written ≡ next_moment all place
       → (told → (image : List ℕ) → moment old ≤ moment new → IsImage (volume new place) image → images_since new place (moment old) image)
       → (told → LeavesOnly moment images_since old new place (IsBeforeOrAfter (entries_at all place log) (entry_with written next)))
       → IsLeftOnDisk told volume new place all log (Some next)
-  IsLeft-torn moment images_since new next written counts_now leaves = record {
+  IsLeft-torn moment images_since new next written set counts_now leaves = record {
     noted = disk.noted;
     each = disk.each;
     left = λ tells image is. StandsFound-either image (entries_at all place log) written next
+        (subst (λ (m : Option ℕ). MayFollow (last_moment (moments_of (entries_at all place log))) m) (sym set) (next-follows place all log disk.each))
         ((leaves tells).each image (counts_now tells image (leaves tells).later is));
   }

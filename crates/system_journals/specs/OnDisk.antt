@@ -1,5 +1,5 @@
 -- What the volumes of systems hold: of one that is up its log, of one that is down perhaps one record more.
-use Rattle.std.specs.Prelude.{◌≡◌, ◌⊎◌, ℕ, ◌+◌, ◌-◌, ◌≤◌, max, Option, Some, None, List, [], ◌∷◌, ◌++◌, length, slice_get}
+use Rattle.std.specs.Prelude.{◌≡◌, ◌⊎◌, ℕ, ◌+◌, ◌-◌, ◌≤◌, max, Option, Some, None, List, [], ◌∷◌, ◌++◌, length, map, slice_get}
 use Rattle.std.specs.List.{AllByRecursion}
 use Rattle.std.specs.Option.{unwrap_or}
 use Rattle.ale_volumes.specs.declared.volume.Volume.{Volume}
@@ -59,6 +59,10 @@ entries_of [] log = []
 entries_of (moment ∷ moments) [] = []
 entries_of (moment ∷ moments) (what ∷ log) = entry_with moment what ∷ entries_of moments log
 
+-- the moments of entries
+abbrev pub moments_of : List Entry → List (Option ℕ)
+moments_of entries = map (λ (entry : Entry). entry.moment) entries
+
 -- the entries of the log at a place
 abbrev pub entries_at : SystemJournals → ℕ → List Record → List Entry
 entries_at all place log = entries_of (moments_at all place) log
@@ -77,10 +81,12 @@ pub record IsOnDisk {D : Type 0} (told : Type 0) (volume : D → ℕ → Volume)
   pub on : IsOn journal place (entries_at all place log)
   pub settled : told → IsSettled volume vols journal (entries_at all place log)
 
--- the bytes stand for these entries, or for them and one of this record, at whatever moment it was written
+-- the bytes stand for these entries, or for them and one of this record, whose moment may follow the last of theirs
 abbrev pub StandsFound : List ℕ → List Entry → Option Record → Type 0
 StandsFound image entries None = Stands image entries
-StandsFound image entries (Some next) = Stands image entries ⊎ ((moment : Option ℕ) × Stands image (entries ++ entry_with moment next ∷ []))
+StandsFound image entries (Some next) =
+    Stands image entries
+    ⊎ ((moment : Option ℕ) × MayFollow (last_moment (moments_of entries)) moment × Stands image (entries ++ entry_with moment next ∷ []))
 
 -- Of a system that is down: moments are at its place, one for each record, and where the disk tells what it holds, each
 -- crash leaves the log, perhaps with this record more.

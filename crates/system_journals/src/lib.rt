@@ -8,7 +8,8 @@
 //! leaves of the volume). Lemmas for who builds on them are in `proofs/`. `KeptLemmas` has that what is on disk stays so
 //! (`IsOnDisk-kept`, `IsLeftOnDisk-kept`, `IsOnDisk-with_moment`, `IsLeftOnDisk-with_moment`, `HaveMoments-one`), what a crash
 //! leaves (`IsOnDisk-stands`, `IsOnDisk-any_moment`, `IsLeftOnDisk-any_moment`, `IsLeft-of`) and what a record more does
-//! (`entries_at-push`); `OrderLemmas` has that moments stay in order (`AreInOrder-grown`).
+//! (`entries_at-push`); `OrderLemmas` has that moments stay in order (`AreInOrder-grown`, `AreInOrder-same`), and are where there
+//! are none (`AreInOrder-none`, `AreInOrder-past`).
 #![tactic(auto)]
 
 mod journals;

@@ -11,8 +11,9 @@ use Rattle.world_tables.specs.declared.world_tables.WorldTables.{WorldTables}
 use Rattle.world_tables.specs.InStep.{AreInStep}
 use Rattle.world_tables.proofs.InStepLemmas.{stands_up}
 use Rattle.world_tables.proofs.EnteringLemmas.{last-entered, read-back, all_taken_back}
-use Rattle.system_journals.specs.OnDisk.{next_moment, entries_at, full_at, IsOnDisk, IsLeftOnDisk}
+use Rattle.system_journals.specs.OnDisk.{moments_at, next_moment, AreInOrder, entries_at, full_at, IsOnDisk, IsLeftOnDisk}
 use Rattle.system_journals.proofs.KeptLemmas.{IsOnDisk-stands}
+use Rattle.system_journals.proofs.OrderLemmas.{AreInOrder-grown}
 use Rattle.kept_world.specs.Kept.{IsKept, kept_of}
 use Rattle.kept_world.specs.OnVolumes.{AreOnVolumes}
 use Rattle.kept_world.proofs.OnVolumesLemmas.{on_disk-up, on_volumes-written, on_volumes-stays, on_volumes-fell}
@@ -87,13 +88,16 @@ returns-in-Ok-write-clause-written g c =
     let world = c.args.both.now.world in
     let log = log_of world c.args.system in
     let disk = on_disk-up told volume c.args.vols.now world c.args.journals.now c.args.system c.requires.can.up c.requires.kept.on_volumes in
+    let order = AreInOrder-grown (c.args.system - 1) c.args.journals.now c.write.new.self c.in-Ok-write.ensures.grown
+    (c.requires.kept.on_volumes.order (c.args.system - 1)) in
     let written = subst (λ n. IsOnDisk told volume c.write.new.vols (c.args.system - 1) c.write.new.self (log ++ n ∷ [])) same (c.in-Ok-write.ensures.written log disk) in
     record {
       world = c.in-Ok.ensures.world;
       entered = c.in-Ok.ensures.entered;
       on_volumes = subst (λ w. AreOnVolumes told volume c.write.new.vols w.systems c.write.new.self) (sym c.in-Ok.ensures.world)
           (on_volumes-written told volume c.args.vols.now c.write.new.vols world c.args.journals.now c.write.new.self c.args.system c.requires.can.up
-          c.requires.kept.on_volumes c.write.ensures.one (λ other differs tells. (c.write.ensures.others tells).known other differs) c.args.next written);
+          c.requires.kept.on_volumes c.write.ensures.one order (λ other differs tells. (c.write.ensures.others tells).known other differs)
+          c.args.next written);
     }
 
 pub returns-in-Ok-write-clause-any_moment : goal.returns-in-Ok-write-clause-any_moment
@@ -125,8 +129,11 @@ returns-in-Err-OutOfMemory-clause-kept g c =
     let disk = on_disk-up told volume c.args.vols.now world c.args.journals.now c.args.system c.requires.can.up c.requires.kept.on_volumes in
     let back : c.undo.new.both ≡ c.args.both.now =
     c.undo.ensures c.args.both.now c.args.next c.args.more.now (record { world = c.in-Ok.ensures.world; tables = c.in-Ok.ensures.entered }) c.count-count.ensures in
+    let order = subst (λ j. AreInOrder (moments_at j (c.args.system - 1))) (sym c.in-Err-OutOfMemory.ensures.err)
+    (c.requires.kept.on_volumes.order (c.args.system - 1)) in
     let stays = on_volumes-stays told volume c.args.vols.now c.write.new.vols world c.args.journals.now c.write.new.self c.args.system c.requires.can.up
-    c.requires.kept.on_volumes c.write.ensures.one (λ other differs tells. (c.write.ensures.others tells).known other differs) (c.in-Err-OutOfMemory.ensures.unwritten log disk (ap Err c.in-Err-OutOfMemory.field-0-is)) in
+    c.requires.kept.on_volumes c.write.ensures.one order (λ other differs tells. (c.write.ensures.others tells).known other differs)
+    (c.in-Err-OutOfMemory.ensures.unwritten log disk (ap Err c.in-Err-OutOfMemory.field-0-is)) in
     subst (λ (b : WorldTables g.row.R.Denot g.row.A.Denot g.row.A-Extra.Denot).
     IsKept g.R.Rules.meaning g.A.Application.stands told volume (kept_of b c.write.new.self c.write.new.vols)) (sym back)
     (record { in_step = c.requires.kept.in_step; on_volumes = stays })
@@ -179,11 +186,13 @@ returns-in-Err-Volume-clause-kept g c =
     ∙ ap (with_fall world c.args.system) rest in
     let left = subst (λ n. IsLeftOnDisk told volume c.write.new.vols (c.args.system - 1) c.write.new.self log (Some n)) same
     (c.in-Err-Volume.ensures.torn log disk (ap Err c.in-Err-Volume.field-0-is)) in
+    let order = subst (λ j. AreInOrder (moments_at j (c.args.system - 1))) (sym c.in-Err-Volume.ensures.err)
+    (c.requires.kept.on_volumes.order (c.args.system - 1)) in
     record {
       in_step = c.fall.ensures.in_step;
       on_volumes = subst (λ w. AreOnVolumes told volume c.write.new.vols w.systems c.write.new.self) (sym fell)
           (on_volumes-fell told volume c.args.vols.now c.write.new.vols world c.args.journals.now c.write.new.self c.args.system (Some c.args.next) c.requires.can.up
-          c.requires.kept.on_volumes c.write.ensures.one (λ other differs tells. (c.write.ensures.others tells).known other differs) left);
+          c.requires.kept.on_volumes c.write.ensures.one order (λ other differs tells. (c.write.ensures.others tells).known other differs) left);
     }
 
 pub returns-in-Err-Volume-clause-any_moment : goal.returns-in-Err-Volume-clause-any_moment

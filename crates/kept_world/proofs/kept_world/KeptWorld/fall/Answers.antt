@@ -24,6 +24,6 @@ invariant_of-self g c =
       in_step = c.fall.ensures.in_step;
       on_volumes = subst (λ w. AreOnVolumes told volume vols w.systems journals) (sym c.fall.ensures.world)
           (on_volumes-fell told volume vols vols world journals journals c.args.system None up c.self.invariant.on_volumes
-          (OnlyAt-same told volume (c.args.system - 1) journals) (λ other differs tells. refl)
+          (OnlyAt-same told volume (c.args.system - 1) journals) (c.self.invariant.on_volumes.order (c.args.system - 1)) (λ other differs tells. refl)
           (IsLeft-of told volume vols (c.args.system - 1) journals (log_of world c.args.system) None disk));
     }

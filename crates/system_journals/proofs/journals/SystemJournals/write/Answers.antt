@@ -121,7 +121,7 @@ returns-in-Err-clause-torn g c = λ log disk is.
     (on-here V.told V.volume old place all log was here disk).volume
     (c.append.ensures.any_moment tells entries (settled tells)) in
     subst (λ (after : SystemJournals). IsLeftOnDisk V.told V.volume new place after log (Some c.args.next.now)) (sym same)
-    (IsLeft-torn V.told V.volume old place all log was here disk V.moment V.images_since new c.args.next.now moment
+    (IsLeft-torn V.told V.volume old place all log was here disk V.moment V.images_since new c.args.next.now moment c.next_moment-moment.ensures
     (λ tells image later image_is. g.met.V.Volumes.counts_now tells new place (V.moment old) image later image_is) leaves)
 
 pub returns-in-Err-clause-unwritten : goal.returns-in-Err-clause-unwritten
