@@ -1,0 +1,120 @@
+-- The first unit that is offered is found, and claimed.
+use Rattle.std.specs.Prelude.{IfOk, OnErr, Result, Ok, Err}
+use Rattle.std.proofs.Common.{◌≡◌, ℕ, true, false, Option, Some, None, inr, refl, sym, ap, subst, ◌∙◌}
+use Rattle.std.proofs.lemmas.Bool.{both_ways}
+use Rattle.std.proofs.lemmas.Option.{none-some}
+use Rattle.ale_base.specs.Tid.{TidOf}
+use Rattle.ale_base.specs.declared.way.Way.TheVariants.{Outgoing, Incoming}
+use Rattle.unit_core.specs.declared.ale_unit.AleUnit.{AleUnit}
+use Rattle.plain_queues.specs.LogQueues.{HaveOneSender, units_of}
+use Rattle.plain_queues.specs.declared.not_offered.NotOffered.{NotOffered as Why}
+use Rattle.trfc_protocol.specs.declared.world.World.{World}
+use Rattle.trfc_protocol.specs.declared.held.HeldKind.TheVariants.{Out, In}
+use Rattle.trfc_protocol.specs.declared.event.Event.TheVariants as event
+use Rattle.trfc_protocol.specs.Meaning.{Meaning}
+use Rattle.trfc_protocol.specs.Legal.{IsLawful}
+use Rattle.trfc_protocol.specs.Worlds.{log_of, is_up, committed_by, committed_unit, with_claim}
+use Rattle.trfc_protocol.specs.Offered.{is_offered_outbound}
+use Rattle.trfc_protocol.specs.Safe.{Safe}
+use Rattle.trfc_protocol.proofs.SafeLemmas.{committed_unit-is}
+use Rattle.world_tables.specs.declared.claim_end.ClaimEnd.{ClaimEnd}
+use Rattle.world_tables.specs.declared.claim_end.ClaimEnd.TheVariants.{NotOffered}
+use Rattle.kept_world.specs.Kept.{KeptOf}
+use Rattle.kept_world.specs.Answers.{may_go_at, first_to_go, IsAnsweredBy, KeepsVolumes}
+use Rattle.unit_landscape.specs.Kept.{IsLandscape}
+use Rattle.unit_landscape.specs.Claiming.{IsFirstOut, IsNextOut, IsFirstIn, IsNextIn}
+use Rattle.unit_landscape.specs.declared.claims.InClaim.{InClaim}
+use Rattle.unit_landscape.specs.Calls.{ClaimedIn}
+use Rattle.unit_landscape.proofs.HappenedLemmas.{happened-none}
+use Rattle.unit_landscape.proofs.EndsLemmas.{landscape-step, landscape-same}
+use Rattle.unit_landscape.proofs.OfferedLemmas.{one-sender, may_go-outbound, may_go-inbound, first-outbound, none-outbound, first-inbound, none-inbound, outbound_unit, claim-after, run-after}
+
+module _ {R : Type 0} (rules : Meaning) (lawful : IsLawful rules) (world : World R) (safe : Safe rules world) where
+  -- a unit that is found by the id of the first to go outbound is the first that is offered
+  pub next_out-found : (system : ℕ) (tid : TidOf) (found : Option AleUnit) → is_up world system ≡ true → first_to_go rules world system Outgoing ≡ Some tid
+      → found ≡ committed_unit rules world tid → IsNextOut rules world system found
+  next_out-found system tid None up first none =
+      let is = first-outbound rules lawful world safe system tid up first in
+      let unit = outbound_unit rules lawful world safe tid is.1 in
+      absurd (none-some unit.0 (none ∙ unit.1))
+  next_out-found system tid (Some unit) up first named =
+      let is = first-outbound rules lawful world safe system tid up first in
+      let its : tid ≡ unit.tid = sym (committed_unit-is rules lawful world safe tid unit (sym named)).1 in
+      record {
+        up = up;
+        first = first ∙ ap Some its;
+        offered = subst (λ t. is_offered_outbound rules world t ≡ true) its is.1;
+        here = sym (ap (λ (t : TidOf). t.system) its) ∙ is.0;
+        named = subst (λ t. committed_unit rules world t ≡ Some unit) its (sym named);
+      }
+
+  -- where none may go outbound, none is offered
+  pub next_out-none : (system : ℕ) → is_up world system ≡ true → first_to_go rules world system Outgoing ≡ None → IsNextOut rules world system None
+  next_out-none system up none = inr (none-outbound rules lawful world safe system up none)
+
+  -- the first to go inbound is the first that is offered
+  pub next_in-found : (system : ℕ) (found : Option TidOf) → is_up world system ≡ true → found ≡ first_to_go rules world system Incoming
+      → IsNextIn rules world system found
+  next_in-found system None up none = inr (none-inbound rules lawful world safe system up (sym none))
+  next_in-found system (Some tid) up first = record {
+    up = up;
+    first = sym first;
+    offered = first-inbound rules lawful world safe system tid up (sym first);
+  }
+
+  -- the first unit that is offered outbound is not refused
+  pub out_not_refused : {T : Type 0} (system : ℕ) (unit : AleUnit) (why : Why) (result : Result T ClaimEnd) → IsFirstOut rules world system unit
+      → result ≡ Err (NotOffered why)
+      → (HaveOneSender Outgoing (units_of Outgoing (committed_by rules world system) (log_of world system))
+      → IsAnsweredBy rules world system Outgoing unit.tid result) → ⊥
+  out_not_refused system unit why result is refused answer =
+      let no : may_go_at rules world system Outgoing unit.tid ≡ false =
+      subst (IsAnsweredBy rules world system Outgoing unit.tid) refused (answer (one-sender rules lawful world safe Outgoing system)) in
+      let up : is_up world (unit.tid).system ≡ true = ap (is_up world) is.here ∙ is.up in
+      both_ways (may_go_at rules world system Outgoing unit.tid) no
+      (ap (λ s. may_go_at rules world s Outgoing unit.tid) (sym is.here) ∙ may_go-outbound rules lawful world safe unit.tid up ∙ is.offered)
+
+  -- nor is the first that is offered inbound
+  pub in_not_refused : {T : Type 0} (system : ℕ) (tid : TidOf) (why : Why) (result : Result T ClaimEnd) → IsFirstIn rules world system tid
+      → result ≡ Err (NotOffered why)
+      → (HaveOneSender Incoming (units_of Incoming (committed_by rules world system) (log_of world system))
+      → IsAnsweredBy rules world system Incoming tid result) → ⊥
+  in_not_refused system tid why result is refused answer =
+      let no : may_go_at rules world system Incoming tid ≡ false =
+      subst (IsAnsweredBy rules world system Incoming tid) refused (answer (one-sender rules lawful world safe Incoming system)) in
+      both_ways (may_go_at rules world system Incoming tid) no (may_go-inbound rules lawful world safe system tid is.up ∙ is.offered)
+
+module _ {R A V : Type 0} (meaning : R → Meaning) (lawful : (r : R) → IsLawful (meaning r)) (before after : KeptOf R A V) (system : ℕ)
+    (is : IsLandscape meaning (before.world)) where
+  -- a landscape stays one where its first unit that is offered outbound is claimed, or is not
+  pub landscape-claimed_out : {T : Type 0} (unit : AleUnit) (result : Result ℕ T) → IsFirstOut (meaning (before.world).rules) before.world system unit
+      → IfOk result (λ number. (number ≡ (before.world).next_number) × (after.world ≡ with_claim before.world unit.tid system Out))
+      → OnErr result (after ≡ before) → IsLandscape meaning (after.world)
+  landscape-claimed_out unit (Ok number) first made kept =
+      landscape-step meaning lawful before.world after.world (event.Claim unit.tid) is
+      (made.1 ∙ ap (λ s. with_claim before.world unit.tid s Out) (sym first.here)
+      ∙ sym (claim-after (meaning (before.world).rules) (lawful (before.world).rules) before.world is.safe unit.tid first.offered))
+  landscape-claimed_out unit (Err end) first made kept = landscape-same meaning before.world after.world (ap (λ (k : KeptOf R A V). k.world) kept) is
+
+  -- and so inbound
+  pub landscape-claimed_in : {T : Type 0} (tid : TidOf) (result : Result ℕ T) → IsFirstIn (meaning (before.world).rules) before.world system tid
+      → IfOk result (λ number. (number ≡ (before.world).next_number) × (after.world ≡ with_claim before.world tid system In))
+      → OnErr result (after ≡ before) → IsLandscape meaning (after.world)
+  landscape-claimed_in tid (Ok number) first made kept =
+      landscape-step meaning lawful before.world after.world (event.Run tid) is
+      (made.1 ∙ sym (run-after (meaning (before.world).rules) (lawful (before.world).rules) before.world is.safe system tid first.offered))
+  landscape-claimed_in tid (Err end) first made kept = landscape-same meaning before.world after.world (ap (λ (k : KeptOf R A V). k.world) kept) is
+
+-- what a call answers that claimed the first unit that is offered inbound
+pub claimed_in : {R A V : Type 0} (rules : Meaning) (lawful : IsLawful rules) (faults : V → ℕ → ℕ) (before after : KeptOf R A V) → Safe rules before.world
+    → (system : ℕ) (claim : InClaim) → IsFirstIn rules before.world system claim.tid
+    → (claim.number ≡ (before.world).next_number) × (after.world ≡ with_claim before.world claim.tid system In) → claim.system ≡ system
+    → claim.opening ≡ (before.world).falls → KeepsVolumes before after → ClaimedIn rules faults before after system (Some claim)
+claimed_in rules lawful faults before now safe system claim first made here since keeps = (
+  happened-none rules faults before now (event.Run claim.tid) refl
+      (made.1 ∙ sym (run-after rules lawful before.world safe system claim.tid first.offered)) keeps,
+  first.offered,
+  first.first,
+  here,
+  record { next = made.0; falls = since },
+)

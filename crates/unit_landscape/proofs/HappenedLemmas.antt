@@ -1,0 +1,72 @@
+-- Calls that append nothing, and what a call leaves on the volumes.
+use Rattle.std.proofs.Common.{◌≡◌, ℕ, ◌-◌, true, Option, Some, None, List, inl, refl, sym, ap, subst, ◌∙◌}
+use Rattle.std.proofs.lemmas.Option.{none-some}
+use Rattle.ale_volumes.specs.declared.volume.Volume.{Volume}
+use Rattle.ale_volumes.specs.Volume.{IsImage}
+use Rattle.ale_volumes.specs.Clock.{LeavesOnly, KeepsOthers}
+use Rattle.ale_volumes.proofs.ClockLemmas.{started, others_kept}
+use Rattle.unit_codec.specs.Entries.{entry_with}
+use Rattle.unit_journal.specs.Settled.{IsBeforeOrAfter}
+use Rattle.trfc_protocol.specs.declared.event.Event.{Event}
+use Rattle.trfc_protocol.specs.Meaning.{Meaning}
+use Rattle.trfc_protocol.specs.Legal.{IsLawful}
+use Rattle.trfc_protocol.specs.Worlds.{log_of, is_up}
+use Rattle.trfc_protocol.specs.RecordOf.{Writing, record_of}
+use Rattle.trfc_protocol.specs.Happens.{happens}
+use Rattle.trfc_protocol.specs.Safe.{Safe}
+use Rattle.trfc_protocol.proofs.RecordLemmas.{MayWrite-record}
+use Rattle.system_journals.specs.OnDisk.{next_moment, entries_at}
+use Rattle.system_journals.proofs.KeptLemmas.{IsOnDisk-stands}
+use Rattle.kept_world.specs.OnVolumes.{AreOnVolumes}
+use Rattle.kept_world.proofs.OnVolumesLemmas.{on_disk-up}
+use Rattle.kept_world.specs.Kept.{KeptOf}
+use Rattle.kept_world.specs.Answers.{KeepsVolumes}
+use Rattle.unit_landscape.specs.Writes.{MomentsAs, WritesOnly, DiskAs}
+use Rattle.unit_landscape.specs.Ends.{Happened}
+
+-- an event that appends nothing happened, where the world is its and the journals and volumes are as before
+pub happened-none : {R A V : Type 0} (rules : Meaning) (faults : V → ℕ → ℕ) (before after : KeptOf R A V) (e : Event) → record_of rules before.world e ≡ None
+    → after.world ≡ happens rules before.world e → KeepsVolumes before after → Happened rules faults before after e
+happened-none rules faults before now e none world keeps = record {
+  world = world;
+  moments = subst (MomentsAs before.journals now.journals) (sym none) keeps.journals;
+  fits = λ it same size long. absurd (none-some it (sym none ∙ same));
+  no_faults = λ place. ap (λ vols. faults vols place) keeps.vols;
+}
+
+module _ {R A V : Type 0} (told : Type 0) (volume : V → ℕ → Volume) (moment : V → ℕ) (images_since : V → ℕ → ℕ → List ℕ → Type 0) (before after : KeptOf R A V) where
+  -- a call that appends nothing calls no volume
+  pub disk-none : (found : Option Writing) → found ≡ None → KeepsVolumes before after → DiskAs told volume moment images_since before after found
+  disk-none found none keeps = subst (DiskAs told volume moment images_since before after) (sym none) keeps
+
+  -- a call that appends a record writes it, and nothing else
+  pub disk-some : (found : Option Writing) (it : Writing) → found ≡ Some it → WritesOnly told volume moment images_since before after it
+      → DiskAs told volume moment images_since before after found
+  disk-some found it some writes = subst (DiskAs told volume moment images_since before after) (sym some) writes
+
+  -- a call that was to append a record, and called no volume, leaves what it found
+  pub writes-nothing : (told → (vols : V) (n : ℕ) (image : List ℕ) → images_since vols n (moment vols) image → IsImage (volume vols n) image)
+      → AreOnVolumes told volume before.vols (before.world).systems before.journals → (it : Writing) → is_up before.world it.system ≡ true → KeepsVolumes before after
+      → WritesOnly told volume moment images_since before after it
+  writes-nothing only_now on_volumes it up keeps =
+      let disk = on_disk-up told volume before.vols before.world before.journals it.system up on_volumes in
+      let place = it.system - 1 in
+      let log = log_of before.world it.system in
+      record {
+        any_moment = λ tells. subst (λ vols. LeavesOnly moment images_since before.vols vols place
+            (IsBeforeOrAfter (entries_at before.journals place log) (entry_with (next_moment before.journals place) it.next))) (sym keeps.vols)
+            (started moment images_since before.vols place (IsBeforeOrAfter (entries_at before.journals place log) (entry_with (next_moment before.journals place) it.next))
+            (λ image left. inl (IsOnDisk-stands told volume before.vols place before.journals log tells disk image (only_now tells before.vols place image left))));
+        others = λ tells. subst (λ vols. KeepsOthers volume moment images_since before.vols vols place) (sym keeps.vols)
+            (others_kept moment images_since volume before.vols place);
+      }
+
+  -- whatever an event was to append: where no volume was called all are as they were
+  pub disk-still : (told → (vols : V) (n : ℕ) (image : List ℕ) → images_since vols n (moment vols) image → IsImage (volume vols n) image)
+      → AreOnVolumes told volume before.vols (before.world).systems before.journals → (rules : Meaning) → IsLawful rules → Safe rules before.world → (e : Event) → KeepsVolumes before after
+      → DiskAs told volume moment images_since before after (record_of rules before.world e)
+  disk-still only_now on_volumes rules lawful safe e keeps = at (record_of rules before.world e) refl
+    where
+      at : (found : Option Writing) → record_of rules before.world e ≡ found → DiskAs told volume moment images_since before after found
+      at None is = keeps
+      at (Some it) is = writes-nothing only_now on_volumes it (MayWrite-record rules lawful before.world safe e it is).up keeps

@@ -1,0 +1,270 @@
+-- What comes of a late request, by the answer of its receiver and by how its record was appended.
+use Rattle.std.specs.Prelude.{◌≢◌, Contains, filter, Result, Ok, Err}
+use Rattle.std.specs.Option.{option_and_then}
+use Rattle.std.proofs.Common.{◌≡◌, ℕ, ◌+◌, ◌<◌, Bool, true, false, not, cond, ◌==◌, Option, Some, None, List, [], ◌∷◌, ◌++◌, inl, inr, refl, sym, ap, subst, ◌∙◌, arith}
+use Rattle.std.proofs.lemmas.Bool.{cases_Bool, eq-eqb}
+use Rattle.std.proofs.lemmas.List.{append-nil}
+use Rattle.std.proofs.lemmas.List.Elements.{filter-append}
+use Rattle.ale_base.specs.Tid.{TidOf}
+use Rattle.ale_base.proofs.MemberLemmas.{Contains-here, Contains-there}
+use Rattle.ale_base.proofs.OptionLemmas.{none_or_some}
+use Rattle.ale_volumes.specs.declared.volume.Volume.{Volume as OneVolume}
+use Rattle.ale_volumes.specs.Volume.{IsImage}
+use Rattle.unit_core.specs.declared.ale_unit.AleUnit.{AleUnit}
+use Rattle.unit_core.specs.declared.records.Record.TheVariants as log
+use Rattle.unit_core.specs.Filters.{received}
+use Rattle.unit_core.specs.Queues.{is_among}
+use Rattle.trfc_protocol.specs.declared.world.World.{World}
+use Rattle.trfc_protocol.specs.declared.held.Held.{Held}
+use Rattle.trfc_protocol.specs.declared.held.HeldKind.TheVariants.{Direct}
+use Rattle.trfc_protocol.specs.declared.answer.Answer.{Answer}
+use Rattle.trfc_protocol.specs.declared.answer.Answer.TheVariants as answer
+use Rattle.trfc_protocol.specs.declared.event.Event.TheVariants as event
+use Rattle.trfc_protocol.specs.Meaning.{Meaning}
+use Rattle.trfc_protocol.specs.Legal.{IsLawful, is_empty}
+use Rattle.trfc_protocol.specs.Worlds.{log_of, is_up, offers_now, committed_unit, is_claimed, claim_of, with_claim, without_claim}
+use Rattle.trfc_protocol.specs.Offered.{answer_to}
+use Rattle.trfc_protocol.specs.RecordOf.{record_of_answer}
+use Rattle.trfc_protocol.specs.Happens.{written, with_run}
+use Rattle.trfc_protocol.specs.Safe.{Safe}
+use Rattle.trfc_protocol.proofs.ClaimLemmas.{claim_of-Some, claim_of-Contains}
+use Rattle.trfc_protocol.proofs.SafeLemmas.{committed_unit-is, hold}
+use Rattle.trfc_protocol.proofs.NextLemmas.{Next-without_claim}
+use Rattle.world_tables.proofs.ClaimsLemmas.{none-gone}
+use Rattle.kept_world.specs.declared.append_end.AppendEnd.{AppendEnd}
+use Rattle.kept_world.specs.declared.append_end.AppendEnd.TheVariants.{Volume, Full as TooLong, Before, After}
+use Rattle.kept_world.specs.OnVolumes.{AreOnVolumes}
+use Rattle.kept_world.specs.Kept.{KeptOf}
+use Rattle.unit_landscape.specs.Kept.{IsLandscape}
+use Rattle.unit_landscape.specs.Writes.{DiskAs, Appends}
+use Rattle.unit_landscape.specs.Ends.{Happened, AppendsAs}
+use Rattle.unit_landscape.specs.Appending.{at, Arrives}
+use Rattle.unit_landscape.specs.Late.{IsLate, ComesLate, record_of_late, late_record, begun_by, number_used, LateAs, late_of, GivesUp}
+use Rattle.unit_landscape.specs.declared.answers.Late.TheVariants.{New, Down}
+use Rattle.unit_landscape.proofs.HappenedLemmas.{happened-none, writes-nothing}
+use Rattle.unit_landscape.proofs.ArrivingLemmas.{arrival-record, arrival-after}
+use Rattle.unit_landscape.proofs.FinishingLemmas.{direct-appends}
+use Rattle.unit_landscape.proofs.LateLemmas.{late_may_arrive}
+
+-- ---- the answer of the receiver
+
+-- where there is no direct run no receiver is busy
+never_busy : (up among direct offers : Bool)
+    → cond (not up) answer.Down (cond among answer.Known (cond false answer.Busy (cond direct
+    (cond offers answer.Run answer.SysFail) answer.New))) ≡ answer.Busy → ⊥
+never_busy false among direct offers is = cc
+never_busy true true direct offers is = cc
+never_busy true false true true is = cc
+never_busy true false true false is = cc
+never_busy true false false offers is = cc
+
+module _ {R : Type 0} (rules : Meaning) (world : World R) (unit : AleUnit) where
+  -- no direct run is claimed, so the receiver is not busy
+  pub not_busy : is_claimed Direct unit.tid world.claims ≡ false → answer_to rules world unit ≡ answer.Busy → ⊥
+  not_busy alone is =
+      let up = is_up world unit.receiver in
+      let among = is_among unit.tid (received (log_of world unit.receiver)) in
+      let offers = offers_now rules world unit.receiver unit.function in
+      never_busy up among (is_empty unit.inq) offers
+      (sym (ap (λ b. cond (not up) answer.Down (cond among answer.Known
+      (cond b answer.Busy (cond (is_empty unit.inq) (cond offers answer.Run answer.SysFail) answer.New)))) alone) ∙ is)
+
+  -- a receiver that does not answer that it is down is up
+  answer-up : (given : Answer) → answer_to rules world unit ≡ given → given ≢ answer.Down → is_up world unit.receiver ≡ true
+  answer-up given is other =
+      elim (cases_Bool (is_up world unit.receiver)) [
+        | inl up ↦ up
+        | inr down ↦ absurd (other (sym is ∙ ap (λ b. cond (not b) answer.Down (cond (is_among unit.tid (received (log_of world unit.receiver))) answer.Known
+            (cond (is_claimed Direct unit.tid world.claims) answer.Busy
+            (cond (is_empty unit.inq) (cond (offers_now rules world unit.receiver unit.function) answer.Run answer.SysFail) answer.New)))) down))
+      ]
+
+  -- the record of a late request is that of its answer
+  pub late-recorded : (tid : TidOf) (given : Answer) → committed_unit rules world tid ≡ Some unit → answer_to rules world unit ≡ given
+      → late_record rules world tid ≡ record_of_late unit given
+  late-recorded tid given named is =
+      ap (option_and_then (λ (u : AleUnit). record_of_late u (answer_to rules world u))) named ∙ ap (record_of_late unit) is
+
+module _ {R : Type 0} (rules : Meaning) (lawful : IsLawful rules) (world : World R) (safe : Safe rules world) where
+  -- the unit of a late request has its id
+  pub late-its : (tid : TidOf) (unit : AleUnit) → IsLate rules world tid unit → unit.tid ≡ tid
+  late-its tid unit late = (committed_unit-is rules lawful world safe tid unit late.committed).1
+
+  pub late-comes : (tid : TidOf) (unit : AleUnit) (given : Answer) → IsLate rules world tid unit → answer_to rules world unit ≡ given
+      → ComesLate rules world unit given
+  late-comes tid unit given late is = record { late = subst (λ t. IsLate rules world t unit) (sym (late-its tid unit late)) late; answers = is }
+
+  -- a unit that comes late arrives
+  pub comes-arrives : (unit : AleUnit) (given : Answer) → ComesLate rules world unit given → Arrives rules world unit given
+  comes-arrives unit given comes = record {
+    committed = comes.late.committed;
+    may = late_may_arrive rules lawful world safe unit.tid unit comes.late;
+    answer = comes.answers;
+  }
+
+-- where no volume was called all are as they were, whatever may come late
+pub late-still : {R A V : Type 0} (told : Type 0) (volume : V → ℕ → OneVolume) (moment : V → ℕ) (images_since : V → ℕ → ℕ → List ℕ → Type 0)
+    (before : KeptOf R A V)
+    → (told → (vols : V) (n : ℕ) (image : List ℕ) → images_since vols n (moment vols) image → IsImage (volume vols n) image)
+    → AreOnVolumes told volume before.vols (before.world).systems before.journals → (rules : Meaning) (tid : TidOf)
+    → DiskAs told volume moment images_since before before (late_record rules before.world tid)
+late-still told volume moment images before only_now on_volumes rules tid = by_unit (committed_unit rules before.world tid)
+  where
+    by_answer : (unit : AleUnit) (given : Answer) → answer_to rules before.world unit ≡ given
+        → DiskAs told volume moment images before before (record_of_late unit given)
+    by_answer unit answer.New is =
+        writes-nothing told volume moment images before before only_now on_volumes (at unit.receiver (log.Accept unit))
+        (answer-up rules before.world unit answer.New is (λ same. cc)) (record { journals = refl; vols = refl })
+    by_answer unit answer.Run is =
+        writes-nothing told volume moment images before before only_now on_volumes (at unit.receiver (log.Direct unit))
+        (answer-up rules before.world unit answer.Run is (λ same. cc)) (record { journals = refl; vols = refl })
+    by_answer unit answer.Down is = record { journals = refl; vols = refl }
+    by_answer unit answer.Known is = record { journals = refl; vols = refl }
+    by_answer unit answer.Busy is = record { journals = refl; vols = refl }
+    by_answer unit answer.SysFail is = record { journals = refl; vols = refl }
+
+    by_unit : (found : Option AleUnit) → DiskAs told volume moment images before before
+        (option_and_then (λ unit. record_of_late unit (answer_to rules before.world unit)) found)
+    by_unit None = record { journals = refl; vols = refl }
+    by_unit (Some unit) = by_answer unit (answer_to rules before.world unit) refl
+
+-- an arrival that appends nothing and claims nothing leaves all as it is
+pub arrived-still : {R A V : Type 0} (rules : Meaning) (faults : V → ℕ → ℕ) (before : KeptOf R A V) (unit : AleUnit) (given : Answer)
+    → Arrives rules before.world unit given
+    → record_of_answer unit given ≡ None → with_run before.world unit given ≡ before.world → Happened rules faults before before (event.Arrive unit.tid)
+arrived-still rules faults before unit given arrives none stays =
+    happened-none rules faults before before (event.Arrive unit.tid) (arrival-record rules before.world unit given arrives ∙ none)
+    (sym (arrival-after rules before.world unit given arrives ∙ ap (λ found. written found (with_run before.world unit given)) none ∙ stays))
+    (record { journals = refl; vols = refl })
+
+-- ---- a unit is taken in
+
+-- what comes of a unit that is taken in, by how its record was appended
+pub taken-as : {R A V T : Type 0} (rules : Meaning) (faults : V → ℕ → ℕ) (before after : KeptOf R A V) (unit : AleUnit)
+    → ComesLate rules before.world unit answer.New
+    → (result : Result T AppendEnd) → AppendsAs rules faults before after (event.Arrive unit.tid) (at unit.receiver (log.Accept unit)) result
+    → LateAs rules faults before after unit.tid (late_of result)
+taken-as rules faults before then unit comes (Ok done) ends = (unit, comes.late, inl (comes.answers, ends))
+taken-as rules faults before then unit comes (Err Volume) ends = (unit, comes.late, inr (inl (comes.answers, ends)))
+taken-as rules faults before then unit comes (Err (TooLong size)) ends = (unit, comes.late, inl (comes.answers, ends))
+taken-as rules faults before then unit comes (Err Before) ends = inl ends
+taken-as rules faults before then unit comes (Err After) ends = inr (unit, comes.late, inl (comes.answers, ends))
+
+-- ---- a unit is run
+
+module _ {R : Type 0} (rules : Meaning) (lawful : IsLawful rules) (world : World R) (safe : Safe rules world) where
+  -- no claim has the next number
+  none_next : claim_of world.next_number world.claims ≡ None
+  none_next =
+      elim (none_or_some (claim_of world.next_number world.claims)) [
+        | inl none ↦ none
+        | inr some ↦
+            let held : Held = some.0 in
+            let is = claim_of-Some world.next_number world.claims held some.1 in
+            let below : held.number < world.next_number = (hold rules lawful world safe held is.0).number in
+            let same : held.number ≡ world.next_number = is.1 in
+            absurd (omega (arith, below, same))
+      ]
+
+  -- a claim that is made and given up uses up its number, and no more
+  pub made-given_up : (tid : TidOf) (system : ℕ) → without_claim (with_claim world tid system Direct) world.next_number ≡ number_used world
+  made-given_up tid system =
+      let n = world.next_number in
+      let new : Held = record { number = n; tid = tid; system = system; kind = Direct } in
+      let test = λ (held : Held). not (held.number == n) in
+      let gone : filter test (new ∷ []) ≡ [] = ap (λ b. cond (not b) (new ∷ []) []) (eq-eqb n n refl) in
+      ap (λ claims. let w : World R = record world { claims = claims; next_number = n + 1 } in w)
+      (filter-append test world.claims (new ∷ []) ∙ ap (λ rest. filter test world.claims ++ rest) gone
+      ∙ append-nil (filter test world.claims) ∙ none-gone n world.claims none_next)
+
+-- a landscape stays one where a claim goes
+pub landscape-without : {R : Type 0} (meaning : R → Meaning) → ((r : R) → IsLawful (meaning r)) → (world : World R) (number : ℕ) → IsLandscape meaning world
+    → IsLandscape meaning (without_claim world number)
+landscape-without meaning lawful world number is = record {
+  safe = (Next-without_claim (meaning world.rules) (lawful world.rules) world is.safe number).0;
+  writable = is.writable;
+}
+
+contains_last : {X : Type 0} (xs : List X) (x : X) → Contains (xs ++ x ∷ []) x
+contains_last [] x = Contains-here x []
+contains_last (y ∷ ys) x = Contains-there y (ys ++ x ∷ []) x (contains_last ys x)
+
+module _ {R A V : Type 0} (before : KeptOf R A V) (unit : AleUnit) where
+  abbrev with_run_claimed : World R
+  with_run_claimed = with_claim before.world unit.tid unit.receiver Direct
+
+  -- what is kept as the claim of a run was made
+  abbrev pub claimed_by : KeptOf R A V
+  claimed_by = record before { world = with_run_claimed }
+
+  -- a claim that was made leaves all else
+  pub claimed-is : (mid : KeptOf R A V) → mid.world ≡ with_run_claimed → mid.tables ≡ before.tables → mid.journals ≡ before.journals
+      → mid.vols ≡ before.vols → mid ≡ claimed_by
+  claimed-is mid world tables journals vols =
+      ap (λ w. let k : KeptOf R A V = record { world = w; tables = mid.tables; journals = mid.journals; vols = mid.vols } in k) world
+      ∙ ap (λ t. let k : KeptOf R A V = record { world = with_run_claimed; tables = t; journals = mid.journals; vols = mid.vols } in k) tables
+      ∙ ap (λ j. let k : KeptOf R A V = record { world = with_run_claimed; tables = before.tables; journals = j; vols = mid.vols } in k) journals
+      ∙ ap (λ v. let k : KeptOf R A V = record { world = with_run_claimed; tables = before.tables; journals = before.journals; vols = v } in k) vols
+
+  -- it is what is kept as the run begins
+  pub claimed-begun : (rules : Meaning) → Arrives rules before.world unit answer.Run → claimed_by ≡ begun_by rules before unit.tid
+  claimed-begun rules arrives = ap (λ w. let k : KeptOf R A V = record before { world = w } in k)
+      (sym (arrival-after rules before.world unit answer.Run arrives))
+
+  -- the record of the run ends its claim
+  pub run-appends : (rules : Meaning) → IsLawful rules → Safe rules with_run_claimed → ComesLate rules before.world unit answer.Run
+      → Appends rules with_run_claimed unit.receiver (log.Direct unit) (Some before.world.next_number) (event.Finish before.world.next_number)
+  run-appends rules lawful safe comes =
+      let held : Held = record { number = before.world.next_number; tid = unit.tid; system = unit.receiver; kind = Direct } in
+      direct-appends rules lawful with_run_claimed safe held
+      (claim_of-Contains with_run_claimed.claims held safe.apart (contains_last before.world.claims held)) refl unit comes.late.committed
+
+module _ {R A V : Type 0} (rules : Meaning) (lawful : IsLawful rules) (faults : V → ℕ → ℕ) (before last after : KeptOf R A V)
+    (safe : Safe rules before.world) (unit : AleUnit)
+    (comes : ComesLate rules before.world unit answer.Run) where
+  abbrev begun : KeptOf R A V
+  begun = begun_by rules before unit.tid
+
+  used : last.world ≡ begun.world → after.world ≡ without_claim last.world before.world.next_number → after.world ≡ number_used before.world
+  used same gone =
+      gone ∙ ap (λ (w : World R). without_claim w before.world.next_number)
+      (same ∙ arrival-after rules before.world unit answer.Run (comes-arrives rules lawful before.world safe unit answer.Run comes))
+      ∙ made-given_up rules lawful before.world safe unit.tid unit.receiver
+
+  -- what comes of a unit that is run, by how its record was appended
+  pub ran-as : {T : Type 0} → (result : Result T AppendEnd) → AppendsAs rules faults begun last (event.Finish before.world.next_number)
+      (at unit.receiver (log.Direct unit)) result
+      → GivesUp last after before.world.next_number result → LateAs rules faults before after unit.tid (late_of result)
+  ran-as (Ok done) ends gives = subst (λ k. LateAs rules faults before k unit.tid (Ok New)) (sym gives) (unit, comes.late, inr (comes.answers, ends))
+  ran-as (Err Volume) ends gives = subst (λ k. LateAs rules faults before k unit.tid (Ok Down)) (sym gives)
+      (unit, comes.late, inr (inr (comes.answers, ends)))
+  ran-as (Err (TooLong size)) ends gives = (
+    unit,
+    comes.late,
+    inr (
+      comes.answers,
+      record {
+        given_up = record {
+          world = used (ap (λ (k : KeptOf R A V). k.world) ends.same) gives.0;
+          journals = gives.1.journals ∙ ap (λ (k : KeptOf R A V). k.journals) ends.same;
+          no_faults = λ place. ap (λ vols. faults vols place) (gives.1.vols ∙ ap (λ (k : KeptOf R A V). k.vols) ends.same);
+        };
+        vols = gives.1.vols ∙ ap (λ (k : KeptOf R A V). k.vols) ends.same;
+        long = ends.long;
+      },
+    ),
+  )
+  ran-as (Err Before) ends gives = inr (
+    unit,
+    comes.late,
+    inr (
+      comes.answers,
+      inl (record {
+        world = used ends.world gives.0;
+        journals = gives.1.journals ∙ ends.journals;
+        no_faults = λ place. ap (λ vols. faults vols place) gives.1.vols ∙ ends.no_faults place;
+      }),
+    ),
+  )
+  ran-as {T} (Err After) ends gives =
+      subst (λ k. LateAs rules faults before k unit.tid (late_of {T = T} (Err After))) (sym gives) (inr (unit, comes.late, inr (comes.answers, inr ends)))

@@ -1,0 +1,60 @@
+use Rattle.std.proofs.Common.{Some, [], cond, refl, sym, ap, subst, ◌∙◌}
+use Rattle.trfc_protocol.specs.declared.event.Event.TheVariants as event
+use Rattle.trfc_protocol.specs.RecordOf.{record_of}
+use Rattle.unit_landscape.specs.Kept.{IsLandscape}
+use Rattle.unit_landscape.specs.Writes.{DiskAs, WritesOnly}
+use Rattle.unit_landscape.specs.Calls.{FinishedAs, finish_event}
+use Rattle.unit_landscape.specs.Appending.{at, IsDue, EndsSo}
+use Rattle.unit_landscape.proofs.HappenedLemmas.{disk-still, disk-some}
+use Rattle.unit_landscape.proofs.EventLemmas.{event-none_more}
+use Rattle.unit_landscape.proofs.FinishingLemmas.{in-found, executed-as, executed-record}
+use Rattle.unit_landscape.proofs.landscape.UnitLandscape.execute.Goals as goal
+
+pub work_record-requires-clause-found : goal.work_record-requires-clause-found
+work_record-requires-clause-found g c = in-found c.args.self.now.world c.args.claim c.args.held c.requires.holds
+
+pub returns-in-Err-clause-disk : goal.returns-in-Err-clause-disk
+returns-in-Err-clause-disk g c =
+    subst (λ k. DiskAs g.V.Volumes.told g.V.Volumes.volume g.V.Volumes.moment g.V.Volumes.images_since k k
+    (record_of (g.R.Rules.meaning k.world.rules) k.world (finish_event (g.R.Rules.meaning k.world.rules) k.world c.args.claim))) c.self.view_is
+    (disk-still g.V.Volumes.told g.V.Volumes.volume g.V.Volumes.moment g.V.Volumes.images_since c.self.inside.kept c.self.inside.kept g.met.V.Volumes.only_now
+    c.world.ensures.kept.on_volumes (g.R.Rules.meaning c.self.inside.kept.world.rules) (g.met.R.Rules.lawful c.self.inside.kept.world.rules) c.self.invariant.safe
+    (finish_event (g.R.Rules.meaning c.self.inside.kept.world.rules) c.self.inside.kept.world c.args.claim) (record { journals = refl; vols = refl }))
+
+pub append-appended-requires-clause-due : goal.append-appended-requires-clause-due
+append-appended-requires-clause-due g c =
+    let now = c.args.self.now in
+    let rules = g.R.Rules.meaning c.args.self.now.world.rules in
+    let is = subst (λ k. IsLandscape g.R.Rules.meaning k.world) c.self.view_is c.self.invariant in
+    let does = c.in-Ok.ensures.appends in
+    subst (λ k. IsDue g.R.Rules.meaning g.A.Application.goes_with k c.args.held.system c.in-Ok.next [] (Some c.args.held.number) c.args.extra) (sym c.self.view_is)
+    (record {
+      event = event.Finish c.args.held.number;
+      appends = does;
+      commits = event-none_more rules (g.met.R.Rules.lawful c.args.self.now.world.rules) c.args.self.now.world is.safe is.writable (event.Finish c.args.held.number)
+          c.args.held.system c.in-Ok.next (Some c.args.held.number) does c.in-Ok.ensures.plain;
+      goes = c.requires.goes (at c.args.held.system c.in-Ok.next)
+          (executed-record rules c.args.self.now.world c.args.claim c.args.held c.requires.holds c.in-Ok.next does);
+    })
+
+pub returns-clause-ends : goal.returns-clause-ends
+returns-clause-ends g c =
+    let rules = g.R.Rules.meaning c.args.self.now.world.rules in
+    let faults = g.V.Volumes.faults in
+    subst (FinishedAs rules faults c.args.self.now c.append-appended.new.kept c.args.claim) (sym c.finished.ensures)
+    (executed-as rules faults c.args.self.now c.append-appended.new.kept c.args.claim c.args.held c.requires.holds c.in-Ok.next c.append-appended.result
+    (subst (λ k. EndsSo (g.R.Rules.meaning k.world.rules) faults k c.append-appended.new.kept c.args.held.system c.in-Ok.next (Some c.args.held.number) c.append-appended.result)
+    c.self.view_is c.append-appended.ensures.ends)
+    (record { tid = c.args.held.tid }) c.requires.holds.its c.requires.offers c.in-Ok.ensures.appends)
+
+pub returns-clause-disk : goal.returns-clause-disk
+returns-clause-disk g c =
+    let rules = g.R.Rules.meaning c.args.self.now.world.rules in
+    let told = g.V.Volumes.told in
+    let volume = g.V.Volumes.volume in
+    let moment = g.V.Volumes.moment in
+    let images = g.V.Volumes.images_since in
+    disk-some told volume moment images c.args.self.now c.append-appended.new.kept _ (at c.args.held.system c.in-Ok.next)
+    (ap (λ b. record_of rules c.args.self.now.world (cond b (event.Finish c.args.claim.number) (event.Fail c.args.claim.number))) c.requires.offers
+    ∙ executed-record rules c.args.self.now.world c.args.claim c.args.held c.requires.holds c.in-Ok.next c.in-Ok.ensures.appends)
+    (subst (λ k. WritesOnly told volume moment images k c.append-appended.new.kept (at c.args.held.system c.in-Ok.next)) c.self.view_is c.append-appended.ensures.disk)

@@ -1,0 +1,46 @@
+use Rattle.std.proofs.Common.{◌≡◌, true, false, refl, ap, sym, subst, ◌∙◌}
+use Rattle.unit_core.specs.declared.records.Record.TheVariants as log
+use Rattle.trfc_protocol.specs.declared.event.Event.TheVariants as event
+use Rattle.trfc_protocol.specs.declared.event.Action.TheVariants.{Append}
+use Rattle.trfc_protocol.specs.declared.world.World.{World}
+use Rattle.trfc_protocol.specs.Legal.{may_follow}
+use Rattle.trfc_protocol.specs.Worlds.{log_of, is_up}
+use Rattle.trfc_protocol.specs.RecordOf.{record_of}
+use Rattle.kept_world.specs.Kept.{KeptOf}
+use Rattle.unit_landscape.specs.Writes.{DiskAs}
+use Rattle.unit_landscape.proofs.HappenedLemmas.{disk-still}
+use Rattle.unit_landscape.proofs.OperatingLemmas.{retry-may}
+use Rattle.unit_landscape.proofs.landscape.UnitLandscape.retry.Goals as goal
+
+pub asked-requires-clause-may : goal.asked-requires-clause-may
+asked-requires-clause-may g c =
+    let world = c.self.inside.kept.world in
+    let rules = g.R.Rules.meaning c.self.inside.kept.world.rules in
+    let up : is_up world c.args.system ≡ true =
+    ap (λ (w : World g.row.R.Denot). is_up w c.args.system) (sym c.world.ensures.world) ∙ sym c.is_up.ensures ∙ c.if-not-is_up.false in
+    subst (λ (k : KeptOf g.row.R.Denot g.row.A.Denot g.row.V.Denot).
+    may_follow (g.R.Rules.meaning k.world.rules) c.args.system (log_of k.world c.args.system) (log.Retry c.args.way c.args.tid) ≡ true) c.self.view_is
+    (retry-may rules (g.met.R.Rules.lawful c.self.inside.kept.world.rules) world c.self.invariant.safe c.args.system c.args.way c.args.tid up
+    ∙ sym c.is_outstanding.ensures ∙ c.if-not-is_outstanding.false)
+
+pub returns-then-not-is_outstanding-clause-ends : goal.returns-then-not-is_outstanding-clause-ends
+returns-then-not-is_outstanding-clause-ends g c =
+    let world = c.self.inside.kept.world in
+    let rules = g.R.Rules.meaning c.self.inside.kept.world.rules in
+    let up : is_up world c.args.system ≡ true =
+    ap (λ (w : World g.row.R.Denot). is_up w c.args.system) (sym c.world.ensures.world) ∙ sym c.is_up.ensures ∙ c.if-not-is_up.false in
+    subst (λ (k : KeptOf g.row.R.Denot g.row.A.Denot g.row.V.Denot). (is_up k.world c.args.system ≡ true)
+    × (may_follow (g.R.Rules.meaning k.world.rules) c.args.system (log_of k.world c.args.system) (log.Retry c.args.way c.args.tid) ≡ false) × (k ≡ k)) c.self.view_is (
+      up,
+      retry-may rules (g.met.R.Rules.lawful c.self.inside.kept.world.rules) world c.self.invariant.safe c.args.system c.args.way c.args.tid up
+          ∙ sym c.is_outstanding.ensures ∙ c.if-not-is_outstanding.true,
+      refl,
+    )
+
+pub returns-then-not-is_outstanding-clause-disk : goal.returns-then-not-is_outstanding-clause-disk
+returns-then-not-is_outstanding-clause-disk g c =
+    subst (λ k. DiskAs g.V.Volumes.told g.V.Volumes.volume g.V.Volumes.moment g.V.Volumes.images_since k k
+    (record_of (g.R.Rules.meaning k.world.rules) k.world (event.Operator (Append c.args.system (log.Retry c.args.way c.args.tid))))) c.self.view_is
+    (disk-still g.V.Volumes.told g.V.Volumes.volume g.V.Volumes.moment g.V.Volumes.images_since c.self.inside.kept c.self.inside.kept g.met.V.Volumes.only_now
+    c.world.ensures.kept.on_volumes (g.R.Rules.meaning c.self.inside.kept.world.rules) (g.met.R.Rules.lawful c.self.inside.kept.world.rules) c.self.invariant.safe
+    (event.Operator (Append c.args.system (log.Retry c.args.way c.args.tid))) (record { journals = refl; vols = refl }))

@@ -1,0 +1,80 @@
+-- How a call ends that is an event.
+use Rattle.std.specs.Prelude.{◌≡◌, ◌≢◌, ◌⊎◌, ℕ, ◌-◌, Some, None, Result, Ok, Err}
+use Rattle.ale_base.specs.Faults.{Rose}
+use Rattle.trfc_protocol.specs.declared.event.Event.{Event}
+use Rattle.trfc_protocol.specs.declared.event.Event.TheVariants.{Fall}
+use Rattle.trfc_protocol.specs.Meaning.{Meaning}
+use Rattle.trfc_protocol.specs.RecordOf.{Writing, record_of}
+use Rattle.trfc_protocol.specs.Happens.{happens}
+use Rattle.kept_world.specs.declared.append_end.AppendEnd.{AppendEnd}
+use Rattle.kept_world.specs.declared.append_end.AppendEnd.TheVariants.{Volume, Full, Before, After}
+use Rattle.kept_world.specs.Kept.{KeptOf}
+use Rattle.kept_world.specs.Appending.{HasOneMore}
+use Rattle.unit_landscape.specs.Writes.{IsTooLong, MomentsAs}
+
+module _ {R A V : Type 0} (rules : Meaning) (faults : V → ℕ → ℕ) (before after : KeptOf R A V) where
+  -- no volume failed
+  abbrev pub NoFaults : Type 0
+  NoFaults = (place : ℕ) → faults after.vols place ≡ faults before.vols place
+
+  -- a record fits on the volume of its system
+  abbrev pub Fits : Writing → Type 0
+  Fits it = (size : ℕ) → ¬ IsTooLong before.journals it size
+
+  -- the event happened: the world is that of the event, and its record fits and has its moment
+  pub record Happened (e : Event) : Type 0 where
+    pub world : after.world ≡ happens rules before.world e
+    pub moments : MomentsAs before.journals after.journals (record_of rules before.world e)
+    pub fits : (it : Writing) → record_of rules before.world e ≡ Some it → Fits it
+    pub no_faults : NoFaults
+
+  -- a volume failed as it was to take a record that fits: the count of its faults rose, and its system fell, and may find the record
+  pub record Failed (it : Writing) : Type 0 where
+    pub world : after.world ≡ happens rules before.world (Fall it.system (Some it.next))
+    pub journals : after.journals ≡ before.journals
+    pub fits : Fits it
+    pub rose : Rose (faults before.vols (it.system - 1)) (faults after.vols (it.system - 1))
+    pub others : (place : ℕ) → place ≢ it.system - 1 → faults after.vols place ≡ faults before.vols place
+
+  -- a record does not fit, and its system fell; no volume was called
+  pub record Overflowed (it : Writing) : Type 0 where
+    pub world : after.world ≡ happens rules before.world (Fall it.system None)
+    pub journals : after.journals ≡ before.journals
+    pub vols : after.vols ≡ before.vols
+    pub size : ℕ
+    pub long : IsTooLong before.journals it size
+
+  -- a record does not fit, and nothing has changed; this long the volume would be
+  pub record IsFull (it : Writing) (size : ℕ) : Type 0 where
+    pub same : after ≡ before
+    pub long : IsTooLong before.journals it size
+
+  -- memory was wanting, and the world, the tables and the journals are as before
+  pub record Stays : Type 0 where
+    pub world : after.world ≡ before.world
+    pub tables : after.tables ≡ before.tables
+    pub journals : after.journals ≡ before.journals
+    pub no_faults : NoFaults
+
+  -- memory was wanting behind the record of an event, and its system fell there
+  pub record FellBehind (e : Event) (it : Writing) : Type 0 where
+    pub world : after.world ≡ happens rules (happens rules before.world e) (Fall it.system None)
+    pub moments : HasOneMore (it.system - 1) before.journals after.journals
+    pub fits : Fits it
+    pub no_faults : NoFaults
+
+  -- the system that was to append the record of an event fell in its place
+  abbrev pub FellInstead : Event → Type 0
+  FellInstead e = (it : Writing) × (record_of rules before.world e ≡ Some it) × (Failed it ⊎ Overflowed it)
+
+  -- memory was wanting: nothing has changed, or the system of the event's record fell behind it
+  abbrev pub IsShort : Event → Type 0
+  IsShort e = Stays ⊎ ((it : Writing) × (record_of rules before.world e ≡ Some it) × FellBehind e it)
+
+  -- how a record of an event is appended
+  abbrev pub AppendsAs : {T : Type 0} → Event → Writing → Result T AppendEnd → Type 0
+  AppendsAs e it (Ok done) = Happened e
+  AppendsAs e it (Err Volume) = Failed it
+  AppendsAs e it (Err (Full size)) = IsFull it size
+  AppendsAs e it (Err Before) = Stays
+  AppendsAs e it (Err After) = FellBehind e it

@@ -1,0 +1,118 @@
+//! The landscape: what is kept, and the record of an event.
+
+ghost use Rattle.std.specs.Prelude.{◌≡◌};
+
+mod arriving;
+mod claiming;
+mod confirming;
+mod finishing;
+mod late;
+mod operating;
+mod quiet;
+mod replying;
+
+use ale_base::{SystemNo, Tid};
+use ale_volumes::Volumes;
+use kept_world::KeptWorld;
+use std::alloc::Global;
+use std::marker::Model;
+use system_tables::Application;
+use trfc_protocol::{Rules, World};
+use unit_core::{AleUnit, Record};
+
+/// The systems of a landscape: their logs, which of them are up, and the claims on their units, with the tables that follow the logs
+/// and the volumes that hold them.
+#[derive(Drop)]
+pub struct UnitLandscape<R: Rules, A: Application, V: Volumes> {
+    alloc: Global,
+    kept: KeptWorld<R, A, V>,
+}
+
+impl<R: Rules, A: Application, V: Volumes> Model for UnitLandscape<R, A, V> {
+    ghost use Rattle.kept_world.specs.Kept.{KeptOf};
+    ghost use Rattle.unit_landscape.specs.Kept.{IsLandscape};
+
+    ghost Value = { KeptOf R A V };
+
+    ghost view = { λ landscape. landscape.kept };
+
+    ghost invariant = { λ landscape. IsLandscape R.meaning landscape.kept.world };
+}
+
+impl<R: Rules, A: Application, V: Volumes> UnitLandscape<R, A, V> {
+    ghost use Rattle.std.specs.Prelude.{◌≡◌, ◌-◌, true, slice_get};
+    ghost use Rattle.std.specs.Option.{option_copied, option_map};
+    ghost use Rattle.trfc_protocol.specs.Worlds.{log_of, is_up, committed_unit};
+    ghost use Rattle.system_tables.specs.Tables.{TablesOf};
+    ghost use Rattle.system_journals.specs.OnDisk.{moments_at};
+    ghost use Rattle.system_journals.specs.Changes.{with_moment};
+    ghost use Rattle.kept_world.specs.Kept.{IsKept};
+    ghost use Rattle.unit_landscape.specs.Kept.{IsLandscape};
+
+    /// A landscape of a world that is kept, is safe, and commits what can be written.
+    pub fn new(alloc: Global, kept: KeptWorld<R, A, V>) -> UnitLandscape<R, A, V>
+        requires { IsLandscape R.meaning kept.world }
+        ensures { result ≡ kept }
+    {
+        UnitLandscape { alloc, kept }
+    }
+
+    /// The world. It is safe; the tables are in step with it, and the volumes hold its logs.
+    pub fn world(&self) -> &World<R>
+        ensures world { result.now ≡ self.now.world }
+        ensures safe { IsLandscape R.meaning self.now.world }
+        ensures kept { IsKept R.meaning A.stands V.told V.volume self.now }
+    {
+        self.kept.world()
+    }
+
+    /// The log of a system. It is empty where the landscape has no system of this number.
+    pub fn log(&self, system: SystemNo) -> &[Record]
+        ensures { result.now ≡ log_of self.now.world system }
+    {
+        self.kept.world().log(system)
+    }
+
+    /// Whether a system is up.
+    pub fn is_up(&self, system: SystemNo) -> bool
+        ensures { result ≡ is_up self.now.world system }
+    {
+        self.kept.world().is_up(system)
+    }
+
+    /// The unit of this id, as its sender committed it, in constant time. None exactly where it committed none.
+    pub fn unit(&self, tid: Tid) -> Option<&AleUnit>
+        ensures { option_copied result ≡ committed_unit (R.meaning self.now.world.rules) self.now.world tid }
+    {
+        self.kept.unit(tid)
+    }
+
+    /// The moments of the entries of a system's log, oldest first: none of them where there is no such system.
+    pub fn moments(&self, system: SystemNo) -> &[Option<u64>]
+        ensures { result.now ≡ moments_at self.now.journals (system - 1) }
+    {
+        self.kept.moments(system)
+    }
+
+    /// Sets the moment with which records are written from now on; `None` where none is known.
+    pub fn set_moment(&mut self, moment: Option<u64>)
+        ensures { self.new ≡ record self.old { journals = with_moment moment self.old.journals } }
+    {
+        self.kept.set_moment(moment);
+    }
+
+    /// The application's tables of a system. None exactly where the landscape has no such system.
+    pub fn application(&self, system: SystemNo) -> Option<&A>
+        ensures { option_copied result ≡ option_map (λ (its : TablesOf A). its.application) (slice_get self.now.tables (system - 1)) }
+    {
+        self.kept.application(system)
+    }
+
+    /// The volumes.
+    pub fn into_volumes(self) -> V
+        ensures { result ≡ self.vols }
+    {
+        let UnitLandscape { kept, .. } = self;
+        kept.into_volumes()
+    }
+}

@@ -1,0 +1,162 @@
+//! An earlier request of a unit comes to its receiver now, and nothing is told to its sender.
+
+ghost use Rattle.std.specs.Prelude.{◌≡◌};
+ghost use Rattle.unit_landscape.specs.Kept.{IsLandscape};
+ghost use Rattle.unit_landscape.specs.Late.{is_marked_lost, late_of, GivesUp};
+
+use super::UnitLandscape;
+use crate::appending::record;
+use crate::{Late, LateEnd};
+use ale_base::{Mark, OutOfMemory, Tid, Way};
+use ale_volumes::Volumes;
+use kept_world::{AppendEnd, KeptWorld};
+use plain_queues::NotOffered;
+use system_tables::Application;
+use trfc_protocol::{Answer, Rules};
+use unit_core::{AleUnit, Record};
+
+impl<R: Rules, A: Application, V: Volumes> UnitLandscape<R, A, V> {
+    ghost use Rattle.std.specs.Prelude.{◌≡◌, ◌-◌, Some, true, false, IfOk, is_some, slice_get};
+    ghost use Rattle.unit_core.specs.declared.ale_unit.AleUnit.{AleUnit};
+    ghost use Rattle.unit_core.specs.declared.records.Record.TheVariants as log;
+    ghost use Rattle.trfc_protocol.specs.declared.answer.Answer.TheVariants as answer;
+    ghost use Rattle.trfc_protocol.specs.declared.held.HeldKind.TheVariants.{Direct};
+    ghost use Rattle.trfc_protocol.specs.Worlds.{is_up, committed_unit, is_claimed};
+    ghost use Rattle.trfc_protocol.specs.Offered.{may_arrive, answer_to};
+    ghost use Rattle.system_tables.specs.Tables.{TablesOf};
+    ghost use Rattle.unit_landscape.specs.Writes.{DiskAs};
+    ghost use Rattle.unit_landscape.specs.Late.{LateAs, late_record, is_lost, IsLateUnit, ComesLate};
+
+    /// An earlier request of a unit comes to its receiver now: the unit arrives, and one that is to run at once is run. Nothing is told
+    /// to its sender. What was made for the application goes with the record of a run.
+    ///
+    /// Every refusal leaves all as it was, but that on `Full` of a run the number of its claim is used up. After `OutOfMemory` nothing
+    /// else has changed, or the record stands in its log and the receiver is down behind it.
+    pub fn late(&mut self, tid: Tid, extra: A::Extra) -> Result<Late, LateEnd>
+        requires alone { is_claimed Direct tid self.old.world.claims ≡ false }
+        requires goes { (unit : AleUnit) → committed_unit (R.meaning self.old.world.rules) self.old.world tid ≡ Some unit
+            → answer_to (R.meaning self.old.world.rules) self.old.world unit ≡ answer.Run
+            → (its : TablesOf A) → slice_get self.old.tables (unit.receiver - 1) ≡ Some its → A.goes_with its.application (log.Direct unit) extra }
+        ensures ends { LateAs (R.meaning self.old.world.rules) V.faults self.old self.new tid result }
+        ensures disk { DiskAs V.told V.volume V.moment V.images_since self.old self.new
+            (late_record (R.meaning self.old.world.rules) self.old.world tid) }
+    {
+        let _ = self.kept.world();
+        let unit = match self.late_unit(tid) {
+            Ok(unit) => unit,
+            Err(why) => return Err(why),
+        };
+        let given = match self.answer_to(&unit) {
+            Ok(given) => given,
+            Err(_) => return Err(LateEnd::OutOfMemory),
+        };
+        match given {
+            Answer::New => self.take_late(unit),
+            Answer::Run => self.run_late(unit, extra),
+            Answer::Known => Ok(Late::Known),
+            Answer::SysFail => Ok(Late::SysFail),
+            Answer::Down => Ok(Late::Down),
+            Answer::Busy => unreachable!(),
+        }
+    }
+
+    /// The unit of an id of which a late request may come, or the first reason why none may.
+    fn late_unit(&self, tid: Tid) -> Result<AleUnit, LateEnd>
+        ensures { IsLateUnit (R.meaning self.now.world.rules) self.now.world tid result }
+    {
+        let sender = tid.system();
+        let world = self.kept.world();
+        if !world.is_known(sender) {
+            return Err(LateEnd::NoSuchSystem);
+        }
+        if !world.is_up(sender) {
+            return Err(LateEnd::SenderDown);
+        }
+        let Some(unit) = self.unit(tid) else {
+            return Err(LateEnd::NotCommitted);
+        };
+        if !self.is_lost(tid) {
+            return Err(LateEnd::NotMarked);
+        }
+        match unit.clone() {
+            Ok(unit) => Ok(unit),
+            Err(_) => Err(LateEnd::OutOfMemory),
+        }
+    }
+
+    /// Whether the sender of a unit that is up has marked it CPICERR since its last Retry, and it is not done.
+    fn is_lost(&self, tid: Tid) -> bool
+        requires up { is_up self.now.world tid.system ≡ true }
+        requires committed { is_some (committed_unit (R.meaning self.now.world.rules) self.now.world tid) ≡ true }
+        ensures { result ≡ is_lost self.now.world tid }
+    {
+        is_marked_lost(self.kept.tables(tid.system()).why_not(Way::Outgoing, tid))
+    }
+
+    /// A unit that comes late is taken in.
+    fn take_late(&mut self, unit: AleUnit) -> Result<Late, LateEnd>
+        requires { ComesLate (R.meaning self.old.world.rules) self.old.world unit answer.New }
+        ensures ends { LateAs (R.meaning self.old.world.rules) V.faults self.old self.new unit.tid result }
+        ensures disk { DiskAs V.told V.volume V.moment V.images_since self.old self.new
+            (late_record (R.meaning self.old.world.rules) self.old.world unit.tid) }
+    {
+        let receiver = unit.receiver;
+        let next = Record::Accept { unit };
+        came_late(record(&mut self.kept, receiver, next, &[], None, A::nothing()))
+    }
+
+    /// A unit that comes late is run. Its claim is made for its record, and given up where that is not appended.
+    fn run_late(&mut self, unit: AleUnit, extra: A::Extra) -> Result<Late, LateEnd>
+        requires comes { ComesLate (R.meaning self.old.world.rules) self.old.world unit answer.Run }
+        requires goes { (its : TablesOf A) → slice_get self.old.tables (unit.receiver - 1) ≡ Some its → A.goes_with its.application (log.Direct unit) extra }
+        ensures ends { LateAs (R.meaning self.old.world.rules) V.faults self.old self.new unit.tid result }
+        ensures disk { DiskAs V.told V.volume V.moment V.images_since self.old self.new
+            (late_record (R.meaning self.old.world.rules) self.old.world unit.tid) }
+    {
+        let _ = self.kept.world();
+        let (tid, receiver) = (unit.tid, unit.receiver);
+        let number = match self.kept.claim_direct(receiver, tid) {
+            Ok(number) => number,
+            Err(_) => return Err(LateEnd::OutOfMemory),
+        };
+        let next = Record::Direct { unit };
+        let appended = record(&mut self.kept, receiver, next, &[], Some(number), extra);
+        give_up(&mut self.kept, number, &appended);
+        came_late(appended)
+    }
+}
+
+/// Gives up the claim of a run whose record was not appended, where no system fell.
+fn give_up<R: Rules, A: Application, V: Volumes>(
+    kept: &mut KeptWorld<R, A, V>,
+    number: u64,
+    appended: &Result<(), AppendEnd>,
+)
+    requires { IsLandscape R.meaning kept.old.world }
+    ensures landscape { IsLandscape R.meaning kept.new.world }
+    ensures gives { GivesUp kept.old kept.new number appended.now }
+{
+    match appended {
+        Err(AppendEnd::Full(_) | AppendEnd::Before) => kept.release(number),
+        _ => {}
+    }
+}
+
+/// What came of a late request, by how its record was appended.
+fn came_late(appended: Result<(), AppendEnd>) -> Result<Late, LateEnd>
+    ensures { result ≡ late_of appended }
+{
+    match appended {
+        Ok(()) => Ok(Late::New),
+        Err(AppendEnd::Volume) => Ok(Late::Down),
+        Err(AppendEnd::Full(length)) => Err(LateEnd::Full(length)),
+        Err(AppendEnd::Before | AppendEnd::After) => Err(LateEnd::OutOfMemory),
+    }
+}
+
+/// Whether the reason why a unit is not offered is that it is marked CPICERR.
+fn is_marked_lost(why: Option<NotOffered>) -> bool
+    ensures { result ≡ is_marked_lost why }
+{
+    matches!(why, Some(NotOffered::Failed(Mark::Cpicerr)))
+}
