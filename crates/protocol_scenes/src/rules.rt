@@ -27,3 +27,13 @@ pub(crate) const BAD_EVENT: Rule = Rule("there is no such event");
 pub(crate) const BAD_WALK: Rule = Rule("walks are COUNT events COUNT seed NUMBER least COUNT");
 
 pub(crate) const REFUSED: Rule = Rule("these units are refused by the rules that list them");
+
+pub(crate) const NOT_WRITABLE: Rule = Rule("a unit of a landscape has a document");
+
+pub(crate) const BAD_CALL: Rule = Rule("there is no such call");
+
+pub(crate) const NOT_ALLOWED: Rule = Rule("this call is not allowed now");
+
+pub(crate) const NO_CLAIM: Rule = Rule("no claim of this number was made, or it was used");
+
+pub(crate) const NO_RECEIPT: Rule = Rule("there is no receipt of this unit, or it was used");

@@ -1,5 +1,6 @@
 //! The suite of scenes, logs made by hand and walks.
 
+use crate::calls::steps_of_calls;
 use crate::given::steps_of_logs;
 use crate::scene::steps_of_scene;
 use crate::words::ItemWord;
@@ -19,14 +20,17 @@ impl Suite for ProtocolScenes {
     }
 }
 
-/// The steps of a case: of logs made by hand where it gives some, and else of a scene.
+/// The steps of a case: of logs made by hand where it gives some, of calls where it makes some, and else of a scene.
 fn steps_of(alloc: Global, items: &[Item]) -> Result<Items<Step>, CaseFault> {
-    if items
-        .iter()
-        .any(|item| ItemWord::of(item) == Some(ItemWord::Given))
-    {
+    if has(items, ItemWord::Given) {
         steps_of_logs(alloc, items)
+    } else if has(items, ItemWord::Call) {
+        steps_of_calls(alloc, items)
     } else {
         steps_of_scene(alloc, items)
     }
+}
+
+fn has(items: &[Item], word: ItemWord) -> bool {
+    items.iter().any(|item| ItemWord::of(item) == Some(word))
 }

@@ -18,6 +18,8 @@ pub(crate) enum ItemWord {
     Unit,
     Refused,
     Event,
+    Call,
+    Fails,
     Ask,
     Again,
     Law,
@@ -32,11 +34,13 @@ pub(crate) enum ItemWord {
 }
 
 impl ItemWord {
-    const WORDS: [(&'static [u8], ItemWord); 15] = [
+    const WORDS: [(&'static [u8], ItemWord); 17] = [
         (b"systems", ItemWord::Systems),
         (b"unit", ItemWord::Unit),
         (b"refused", ItemWord::Refused),
         (b"event", ItemWord::Event),
+        (b"call", ItemWord::Call),
+        (b"fails", ItemWord::Fails),
         (b"ask", ItemWord::Ask),
         (b"again", ItemWord::Again),
         (b"law", ItemWord::Law),

@@ -1,0 +1,2 @@
+-- what rules that list units commit
+mod CommitLemmas

@@ -1,0 +1,26 @@
+//! What a call did, as an event of the protocol.
+
+use ale_base::SystemNo;
+use trfc_protocol::Event;
+
+/// What a call did.
+#[derive(Drop)]
+pub(crate) enum Deed {
+    /// Nothing has changed.
+    Nothing,
+    /// This event happened.
+    Happens(Event),
+    /// The system fell in place of the event.
+    Falls(SystemNo),
+}
+
+impl Deed {
+    /// A system is down that was up before, or was not.
+    pub(crate) fn down(was_up: bool, system: SystemNo) -> Deed {
+        if was_up {
+            Deed::Falls(system)
+        } else {
+            Deed::Nothing
+        }
+    }
+}

@@ -1,0 +1,144 @@
+//! The calls of an operator, a system that falls, and what a landscape says of itself.
+
+use super::Caller;
+use super::deeds::Deed;
+use super::handed::take_out;
+use crate::rules;
+use crate::text::Text;
+use crate::words::Words;
+use ale_base::SystemNo;
+use case_form::LineEnd;
+use trfc_protocol::{Action, Event};
+use unit_core::Record;
+use unit_landscape::OperatorEnd;
+
+impl Caller {
+    /// `stop SYSTEM WAY DESTINATION QUEUE` and `start ..`: a queue is stopped, or started.
+    pub(crate) fn switch(
+        &mut self,
+        words: &mut Words,
+        stops: bool,
+        found: &mut Text,
+    ) -> Result<Deed, LineEnd> {
+        let Some(system) = words.system() else {
+            return Err(rules::NO_SYSTEM.into());
+        };
+        let way = words.way()?;
+        let destination = words.byte()?;
+        let Some(name) = words.name() else {
+            return Err(rules::BAD_UNIT.into());
+        };
+        if stops {
+            let end = self.landscape.stop(system, way, destination, name);
+            operated(
+                end,
+                system,
+                Record::Stop {
+                    way,
+                    destination,
+                    name,
+                },
+                found,
+            )
+        } else {
+            let end = self.landscape.start(system, way, destination, name);
+            operated(
+                end,
+                system,
+                Record::Start {
+                    way,
+                    destination,
+                    name,
+                },
+                found,
+            )
+        }
+    }
+
+    /// `retry SYSTEM WAY UNIT`: the mark of a unit is removed.
+    pub(crate) fn retry(&mut self, words: &mut Words, found: &mut Text) -> Result<Deed, LineEnd> {
+        let Some(system) = words.system() else {
+            return Err(rules::NO_SYSTEM.into());
+        };
+        let way = words.way()?;
+        let Some(tid) = words.tid() else {
+            return Err(rules::NO_TID.into());
+        };
+        let end = self.landscape.retry(system, way, tid);
+        operated(end, system, Record::Retry { way, tid }, found)
+    }
+
+    /// `revoke`: all claims are given up.
+    pub(crate) fn revoke(&mut self, found: &mut Text) -> Result<Deed, LineEnd> {
+        self.landscape.revoke();
+        found.put_line(b"revoked")?;
+        Ok(Deed::Happens(Event::Operator {
+            action: Action::Revoke,
+        }))
+    }
+
+    /// `crash SYSTEM`: a system falls.
+    pub(crate) fn crash(&mut self, words: &mut Words, found: &mut Text) -> Result<Deed, LineEnd> {
+        let Some(system) = words.system() else {
+            return Err(rules::NO_SYSTEM.into());
+        };
+        if self.landscape.crash(system) {
+            found.put_line(b"crashed")?;
+            Ok(Deed::Happens(Event::Fall { system, kept: None }))
+        } else {
+            found.put_line(b"down")?;
+            Ok(Deed::Nothing)
+        }
+    }
+
+    /// `holds NUMBER`: whether a claim to ship a unit stands.
+    pub(crate) fn holds(&mut self, words: &mut Words, found: &mut Text) -> Result<Deed, LineEnd> {
+        let number = words.number()?;
+        let Some(claim) = take_out(&mut self.outs, number) else {
+            return Err(rules::NO_CLAIM.into());
+        };
+        let holds = self.landscape.holds(&claim);
+        self.outs.push(claim)?;
+        found.put_line(if holds {
+            b"holds".as_slice()
+        } else {
+            b"does not hold".as_slice()
+        })?;
+        Ok(Deed::Nothing)
+    }
+
+    /// `quiet`: whether nothing is left to do.
+    pub(crate) fn quiet(&self, found: &mut Text) -> Result<Deed, LineEnd> {
+        found.put_line(if self.landscape.quiet() {
+            b"quiet".as_slice()
+        } else {
+            b"not quiet".as_slice()
+        })?;
+        Ok(Deed::Nothing)
+    }
+}
+
+/// Puts how an operator's record was appended.
+fn operated(
+    end: Result<(), OperatorEnd>,
+    system: SystemNo,
+    next: Record,
+    found: &mut Text,
+) -> Result<Deed, LineEnd> {
+    let (word, deed) = match end {
+        Ok(()) => (b"appended".as_slice(), appended(system, next)),
+        Err(OperatorEnd::Down) => (b"down".as_slice(), Deed::Nothing),
+        Err(OperatorEnd::NotAllowed) => (b"not allowed".as_slice(), Deed::Nothing),
+        Err(OperatorEnd::Full(_)) => (b"full".as_slice(), Deed::Nothing),
+        Err(OperatorEnd::Volume) => (b"volume fault".as_slice(), Deed::Falls(system)),
+        Err(OperatorEnd::OutOfMemory) => return Err(LineEnd::OutOfMemory),
+    };
+    found.put_line(word)?;
+    Ok(deed)
+}
+
+fn appended(system: SystemNo, next: Record) -> Deed {
+    Deed::Happens(Event::Operator {
+        action: Action::Append(system, next),
+    })
+}

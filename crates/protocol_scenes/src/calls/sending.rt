@@ -1,0 +1,229 @@
+//! The calls of a unit's sender: it commits, claims, hears the reply, and hears that the unit is forgotten.
+
+use super::Caller;
+use super::deeds::Deed;
+use super::handed::{take_out, take_receipt};
+use crate::text::Text;
+use crate::words::{Words, meaning_of};
+use crate::{conditions, rules};
+use ale_base::{OutOfMemory, SystemNo, Tid};
+use case_form::LineEnd;
+use kept_world::AppendEnd;
+use trfc_protocol::{CoreAnswer, Event, ListedRules, ReplyTo};
+use unit_core::Record;
+use unit_landscape::{Closed, OutClaim, Replied, Reply, WorkEnd};
+
+/// What a sender hears of a shipment.
+#[derive(Clone, Copy)]
+enum Heard {
+    Done,
+    SysFail,
+    Lost,
+    Busy,
+}
+
+const HEARD: [(&'static [u8], Heard); 4] = [
+    (b"done", Heard::Done),
+    (b"sysfail", Heard::SysFail),
+    (b"lost", Heard::Lost),
+    (b"busy", Heard::Busy),
+];
+
+impl Caller {
+    /// `commit SYSTEM`: the system commits its next unit.
+    pub(crate) fn commit(&mut self, words: &mut Words, found: &mut Text) -> Result<Deed, LineEnd> {
+        let Some(system) = words.system() else {
+            return Err(rules::NO_SYSTEM.into());
+        };
+        match conditions::commit(self.alloc, &mut self.landscape, system)? {
+            Some(Ok(())) => {
+                found.put_line(b"committed")?;
+                Ok(Deed::Happens(Event::Commit {
+                    system,
+                    what: self.last_record(system)?,
+                }))
+            }
+            Some(Err(end)) => put_append_end(end, system, found),
+            None => Err(rules::NOT_ALLOWED.into()),
+        }
+    }
+
+    /// A copy of the last record of a system.
+    fn last_record(&self, system: SystemNo) -> Result<Record, LineEnd> {
+        match self.landscape.log(system).last() {
+            Some(last) => Ok(last.copied()?),
+            None => Err(rules::BAD_RECORD.into()),
+        }
+    }
+
+    /// A system claims the first unit that is offered there to be shipped.
+    pub(crate) fn claim_out(
+        &mut self,
+        system: SystemNo,
+        found: &mut Text,
+    ) -> Result<Deed, LineEnd> {
+        let Some(claim) = self.landscape.claim_out(system)? else {
+            found.put_line(b"none")?;
+            return Ok(Deed::Nothing);
+        };
+        let tid = claim.tid();
+        put_claimed(claim.number(), tid, b" to ", claim.receiver(), found)?;
+        self.outs.push(claim)?;
+        Ok(Deed::Happens(Event::Claim { tid }))
+    }
+
+    /// `reply NUMBER`, and what the sender hears of the shipment under this claim; behind `done` the unit whose receipt it gets, if it
+    /// is another one.
+    pub(crate) fn reply(&mut self, words: &mut Words, found: &mut Text) -> Result<Deed, LineEnd> {
+        let number = words.number()?;
+        let Some(heard) = meaning_of(&HEARD, words.word()) else {
+            return Err(rules::BAD_CALL.into());
+        };
+        let Some(claim) = take_out(&mut self.outs, number) else {
+            return Err(rules::NO_CLAIM.into());
+        };
+        match heard {
+            Heard::Done => self.reply_done(claim, words, found),
+            Heard::SysFail => self.reply_refused(claim, found),
+            Heard::Lost => self.reply_lost(claim, found),
+            Heard::Busy => self.reply_busy(claim, found),
+        }
+    }
+
+    fn reply_done(
+        &mut self,
+        claim: OutClaim,
+        words: &mut Words,
+        found: &mut Text,
+    ) -> Result<Deed, LineEnd> {
+        let tid = claim.tid();
+        let named = if words.is_at_end() {
+            Some(tid)
+        } else {
+            words.tid()
+        };
+        let Some(of) = named else {
+            return Err(rules::NO_TID.into());
+        };
+        let Some(receipt) = take_receipt(&mut self.receipts, of) else {
+            return Err(rules::NO_RECEIPT.into());
+        };
+        let event = if of == tid {
+            answered(claim.number(), CoreAnswer::Done)
+        } else {
+            lost(claim.number())
+        };
+        self.replied(claim, Reply::Done(receipt), event, found)
+    }
+
+    fn reply_refused(&mut self, claim: OutClaim, found: &mut Text) -> Result<Deed, LineEnd> {
+        let event = if self.is_refused(claim.tid()) {
+            answered(claim.number(), CoreAnswer::SysFail)
+        } else {
+            lost(claim.number())
+        };
+        self.replied(claim, Reply::SysFail, event, found)
+    }
+
+    fn reply_lost(&mut self, claim: OutClaim, found: &mut Text) -> Result<Deed, LineEnd> {
+        let event = lost(claim.number());
+        self.replied(claim, Reply::Lost, event, found)
+    }
+
+    fn reply_busy(&mut self, claim: OutClaim, found: &mut Text) -> Result<Deed, LineEnd> {
+        let event = answered(claim.number(), CoreAnswer::Busy);
+        self.replied(claim, Reply::Busy, event, found)
+    }
+
+    /// Whether a unit has no inbound queue, and a function that is not offered.
+    fn is_refused(&self, tid: Tid) -> bool {
+        match self.landscape.unit(tid) {
+            Some(unit) => unit.inq.is_empty() && unit.function.trimmed() != ListedRules::FUNCTION,
+            None => false,
+        }
+    }
+
+    /// The reply comes to its claim. This event it is, where it is one.
+    fn replied(
+        &mut self,
+        claim: OutClaim,
+        given: Reply,
+        event: Event,
+        found: &mut Text,
+    ) -> Result<Deed, LineEnd> {
+        let sender = claim.tid().system();
+        let (word, deed) = match self.landscape.reply(claim, given) {
+            Ok(Replied::Recorded) => (b"recorded".as_slice(), Deed::Happens(event)),
+            Ok(Replied::Released) => (b"released".as_slice(), Deed::Happens(event)),
+            Ok(Replied::Down) => (b"down".as_slice(), Deed::Falls(sender)),
+            Err(WorkEnd::Stale) => (b"stale".as_slice(), Deed::Nothing),
+            Err(WorkEnd::OutOfMemory) => return Err(LineEnd::OutOfMemory),
+        };
+        found.put_line(word)?;
+        Ok(deed)
+    }
+
+    /// `ended UNIT`: its sender hears that its id is forgotten.
+    pub(crate) fn ended(&mut self, words: &mut Words, found: &mut Text) -> Result<Deed, LineEnd> {
+        let Some(tid) = words.tid() else {
+            return Err(rules::NO_TID.into());
+        };
+        let was_up = self.landscape.is_up(tid.system());
+        let (word, deed) = match conditions::end(self.alloc, &mut self.landscape, tid)? {
+            Some(Closed::Recorded) => (b"recorded".as_slice(), forgotten(tid)),
+            Some(Closed::Already) => (b"already".as_slice(), Deed::Nothing),
+            Some(Closed::Down) => (b"down".as_slice(), Deed::down(was_up, tid.system())),
+            None => return Err(rules::NOT_ALLOWED.into()),
+        };
+        found.put_line(word)?;
+        Ok(deed)
+    }
+}
+
+fn answered(number: u64, given: CoreAnswer) -> Event {
+    Event::Reply {
+        to: ReplyTo::Claim(number, given),
+    }
+}
+
+fn lost(number: u64) -> Event {
+    Event::LoseReply { number }
+}
+
+fn forgotten(tid: Tid) -> Deed {
+    Deed::Happens(Event::Reply {
+        to: ReplyTo::Forgotten(tid),
+    })
+}
+
+/// Puts what was claimed: the claim, its unit, and a system.
+pub(crate) fn put_claimed(
+    number: u64,
+    tid: Tid,
+    word: &[u8],
+    system: SystemNo,
+    found: &mut Text,
+) -> Result<(), OutOfMemory> {
+    found.put(b"claimed ")?;
+    found.put_number(number)?;
+    found.put(b": ")?;
+    found.put_tid(tid)?;
+    found.put(word)?;
+    found.put_number(u64::from(system.get()))?;
+    found.end_line()
+}
+
+/// Puts why a record was not appended.
+fn put_append_end(end: AppendEnd, system: SystemNo, found: &mut Text) -> Result<Deed, LineEnd> {
+    match end {
+        AppendEnd::Volume => {
+            found.put_line(b"volume fault")?;
+            Ok(Deed::Falls(system))
+        }
+        AppendEnd::Full(_) => {
+            found.put_line(b"full")?;
+            Ok(Deed::Nothing)
+        }
+        AppendEnd::Before | AppendEnd::After => Err(LineEnd::OutOfMemory),
+    }
+}
