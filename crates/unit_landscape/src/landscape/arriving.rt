@@ -13,17 +13,17 @@ use trfc_protocol::{Answer, HeldKind, Rules};
 use unit_core::{AleUnit, Record};
 
 impl<R: Rules, A: Application, V: Volumes> UnitLandscape<R, A, V> {
-    ghost use Rattle.std.specs.Prelude.{◌≡◌, Some, None, true, IfOk, OnErr};
+    ghost use Rattle.std.specs.Prelude.{◌≡◌, Some, true, IfOk, OnErr};
     ghost use Rattle.trfc_protocol.specs.declared.answer.Answer.TheVariants as answer;
     ghost use Rattle.trfc_protocol.specs.declared.event.Event.TheVariants as event;
     ghost use Rattle.trfc_protocol.specs.Worlds.{committed_unit};
     ghost use Rattle.trfc_protocol.specs.Offered.{may_arrive, answer_to};
     ghost use Rattle.trfc_protocol.specs.RecordOf.{record_of};
     ghost use Rattle.kept_world.specs.Answers.{KeepsVolumes};
-    ghost use Rattle.unit_landscape.specs.Writes.{DiskAs, WritesOnly};
+    ghost use Rattle.unit_landscape.specs.Writes.{DiskAs};
     ghost use Rattle.unit_landscape.specs.Ends.{IsShort};
     ghost use Rattle.unit_landscape.specs.Calls.{Arrived};
-    ghost use Rattle.unit_landscape.specs.Appending.{Arrives, at};
+    ghost use Rattle.unit_landscape.specs.Appending.{Arrives};
 
     /// A unit arrives at its receiver, which answers by its log and the claims. The unit is one that its sender committed, and that its
     /// receiver has not forgotten; and it was received, or it heads its outbound queues.

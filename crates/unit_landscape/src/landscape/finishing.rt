@@ -61,7 +61,7 @@ impl<R: Rules, A: Application, V: Volumes> UnitLandscape<R, A, V> {
     }
 
     /// Whether the receiver of the unit of an id offers its function.
-    pub(crate) fn offers_function(&self, tid: Tid) -> Result<bool, OutOfMemory>
+    fn offers_function(&self, tid: Tid) -> Result<bool, OutOfMemory>
         ensures { IfOk result (λ offers. offers ≡ is_offered_function (R.meaning self.now.world.rules) self.now.world tid) }
     {
         match self.unit(tid) {

@@ -20,7 +20,6 @@ impl<R: Rules, A: Application, V: Volumes> UnitLandscape<R, A, V> {
     ghost use Rattle.system_tables.specs.Concerns.{concerns_application};
     ghost use Rattle.trfc_protocol.specs.Offered.{may_arrive};
     ghost use Rattle.trfc_protocol.specs.RecordOf.{record_of};
-    ghost use Rattle.kept_world.specs.Answers.{KeepsVolumes};
     ghost use Rattle.unit_landscape.specs.declared.answers.Reply.TheVariants.{Busy};
     ghost use Rattle.unit_landscape.specs.Writes.{DiskAs, Appends};
     ghost use Rattle.unit_landscape.specs.Calls.{RepliedAs, reply_event, stands_out, was_received, is_refused};
@@ -53,7 +52,7 @@ impl<R: Rules, A: Application, V: Volumes> UnitLandscape<R, A, V> {
     }
 
     /// The claim to ship a unit, where it stands.
-    pub(crate) fn held_out(&self, claim: &OutClaim) -> Option<Held>
+    fn held_out(&self, claim: &OutClaim) -> Option<Held>
         ensures some { IfSome result (HoldsOut self.now.world claim.now) }
         ensures none { IsNone result → stands_out self.now.world claim.now ≡ false }
     {
