@@ -2,7 +2,7 @@
 use Rattle.std.specs.Prelude.{not, slice_get, slice_set, slice_index_or, Contains}
 use Rattle.std.specs.Bool.{MatchBool}
 use Rattle.std.specs.List.{AllByRecursion, AllWithin, HoldsAt, IsDistinct, list_all, flat_map}
-use Rattle.std.proofs.Common.{◌≡◌, ◌↔◌, ◌⊎◌, inl, inr, ℕ, zero, suc, ◌<◌, Bool, true, false, Some, List, [], ◌∷◌, ◌++◌, length, drop, map, refl, subst, arith, ◌≢◌, ap}
+use Rattle.std.proofs.Common.{◌≡◌, ◌↔◌, ◌⊎◌, inl, inr, ℕ, zero, suc, ◌<◌, ◌≤◌, ◌-◌, Bool, true, false, Some, List, [], ◌∷◌, ◌++◌, length, drop, map, refl, sym, ◌∙◌, subst, arith, ◌≢◌, ap}
 use Rattle.std.proofs.lemmas.Bool.{false≢true, and_parts, not-true}
 use Rattle.std.proofs.lemmas.Option.{same_Some, slice_get_within, get_or_from_slice_get}
 use Rattle.std.proofs.lemmas.List.Concat.{flat_map-cons}
@@ -114,6 +114,17 @@ pub slice_get-within : {A : Type 0} (xs : List A) (i : ℕ) → i < length xs �
 slice_get-within [] i within = absurd (omega arith)
 slice_get-within (x ∷ xs) zero within = (x, refl)
 slice_get-within (x ∷ xs) (suc i) within = slice_get-within xs i (omega arith)
+
+-- a list and another behind it, by places
+pub slice_get-front : {A : Type 0} (xs ys : List A) (i : ℕ) → i < length xs → slice_get (xs ++ ys) i ≡ slice_get xs i
+slice_get-front [] ys i within = absurd (omega arith)
+slice_get-front (x ∷ xs) ys zero within = refl
+slice_get-front (x ∷ xs) ys (suc i) within = slice_get-front xs ys i (omega arith)
+
+pub slice_get-behind : {A : Type 0} (xs ys : List A) (i : ℕ) → length xs ≤ i → slice_get (xs ++ ys) i ≡ slice_get ys (i - length xs)
+slice_get-behind [] ys i behind = let same : i - 0 ≡ i = omega arith in ap (slice_get ys) (sym same)
+slice_get-behind (x ∷ xs) ys zero behind = absurd (omega arith)
+slice_get-behind (x ∷ xs) ys (suc i) behind = slice_get-behind xs ys i (omega arith) ∙ ap (slice_get ys) (omega arith)
 
 -- a list with a first element, and what is behind it
 pub slice_get-first : {A : Type 0} (xs : List A) (x : A) → slice_get xs 0 ≡ Some x → (rest : List A) × (xs ≡ x ∷ rest)

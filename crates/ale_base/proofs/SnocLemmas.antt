@@ -32,6 +32,13 @@ last-injective (a ∷ more) (b ∷ bs) x y same =
     let behind : more ≡ bs = parts.0 in
     (cc, parts.1)
 
+-- the last element is at the place of the length of those before it
+pub slice_get-last : {A : Type 0} (xs : List A) (place : ℕ) (x : A) → place ≡ length xs → slice_get (xs ++ x ∷ []) place ≡ Some x
+slice_get-last [] zero x is = refl
+slice_get-last [] (suc k) x is = absurd (omega arith)
+slice_get-last (y ∷ ys) zero x is = absurd (omega arith)
+slice_get-last (y ∷ ys) (suc k) x is = slice_get-last ys k x (omega arith)
+
 pub AllByRecursion-snoc : {A : Type 0} (P : A → Type 0) (xs : List A) (x : A) → AllByRecursion P xs → P x → AllByRecursion P (xs ++ x ∷ [])
 AllByRecursion-snoc P [] x all here = (here, tt)
 AllByRecursion-snoc P (y ∷ ys) x all here = (all.0, AllByRecursion-snoc P ys x all.1 here)

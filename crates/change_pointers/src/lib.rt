@@ -15,6 +15,6 @@ mod pointers;
 mod renumbering;
 
 pub use master::master_of;
-pub use noting::noted;
+pub use noting::{name_at, noted};
 pub use pointer::{ObjectKey, Pointer};
 pub use pointers::Pointers;

@@ -130,8 +130,8 @@ fn has_field(definitions: &Definitions, segment: TypeNo, name: &[u8], places: &[
     places.iter().any(|place| name_at(fields, *place) == name)
 }
 
-/// The name of the field at a place.
-fn name_at(fields: &[Field], place: u16) -> &[u8]
+/// The name of the field at a place; no bytes where there is none. It takes no memory.
+pub fn name_at(fields: &[Field], place: u16) -> &[u8]
     ensures { result.now ≡ name_at fields.now place }
 {
     match fields.get(usize::from(place)) {

@@ -2,14 +2,14 @@
 use Rattle.std.specs.Prelude.{Contains, filter, nat_eq, nat_lt, option_and_then, position, slice_get, ◌↔◌}
 use Rattle.std.specs.List.{AllByRecursion, find}
 use Rattle.std.specs.Option.{option_map, option_map_or}
-use Rattle.std.proofs.Common.{◌≡◌, ℕ, zero, suc, ◌+◌, ◌-◌, ◌<◌, ◌≤◌, ◌&&◌, Bool, true, false, cond, Option, Some, None, List, [], ◌∷◌, ◌++◌, length, map, refl, sym, ap, ◌∙◌, append_assoc, inl, inr, arith}
+use Rattle.std.proofs.Common.{◌≡◌, ℕ, suc, ◌+◌, ◌-◌, ◌<◌, ◌≤◌, ◌&&◌, Bool, true, false, cond, Option, Some, None, List, [], ◌∷◌, ◌++◌, length, map, refl, sym, ap, ◌∙◌, append_assoc, inl, inr, arith}
 use Rattle.std.proofs.lemmas.Bool.{cases_Bool}
 use Rattle.std.proofs.lemmas.Bool.Decides.{nat_tests}
 use Rattle.std.proofs.lemmas.List.{length-append, length-map}
 use Rattle.std.proofs.lemmas.List.Quantifiers.{position-Some}
 use Rattle.std.proofs.lemmas.Option.{slice_get-map, slice_get_within}
 use Rattle.ale_base.specs.Text.{is_text}
-use Rattle.ale_base.proofs.ListLemmas.{Contains-at, slice_get-within}
+use Rattle.ale_base.proofs.ListLemmas.{Contains-at, slice_get-behind, slice_get-front, slice_get-within}
 use Rattle.ale_base.proofs.MemberLemmas.{Contains-cons, Contains-nil}
 use Rattle.ale_base.proofs.OptionLemmas.{none_or_some, option_map-Some}
 use Rattle.segment_defs.proofs.NameLemmas.{position-name, position-none, position-only}
@@ -26,17 +26,6 @@ use Rattle.dist_model.specs.Way.{outbound_way, outbound_ways, row_way, same_way,
 use Rattle.dist_model.specs.Model.{all_names, basic_at, goes_from, IsModel, IsReducedName, message_named, places_from, StandsForMessage}
 use Rattle.dist_model.specs.Index.{AreProfilesOf, inbound_triple, is_from, is_of}
 use Rattle.dist_model.proofs.IndexLemmas.{find-position, inbound-place, some_same}
-
--- a list and another behind it, by places
-slice_get-front : {A : Type 0} (xs ys : List A) (i : ℕ) → i < length xs → slice_get (xs ++ ys) i ≡ slice_get xs i
-slice_get-front [] ys i less = absurd (omega (arith, less))
-slice_get-front (x ∷ xs) ys zero less = refl
-slice_get-front (x ∷ xs) ys (suc i) less = slice_get-front xs ys i (omega (arith, less))
-
-slice_get-behind : {A : Type 0} (xs ys : List A) (i : ℕ) → length xs ≤ i → slice_get (xs ++ ys) i ≡ slice_get ys (i - length xs)
-slice_get-behind [] ys i less = let same : i - 0 ≡ i = omega arith in ap (slice_get ys) (sym same)
-slice_get-behind (x ∷ xs) ys zero less = absurd (omega (arith, less))
-slice_get-behind (x ∷ xs) ys (suc i) less = slice_get-behind xs ys i (omega (arith, less)) ∙ ap (slice_get ys) (omega arith)
 
 place_in : {A : Type 0} (xs : List A) (x : A) → Contains xs x → (i : ℕ) × (slice_get xs i ≡ Some x)
 place_in [] x among = absurd (Contains-nil x among)

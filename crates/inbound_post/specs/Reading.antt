@@ -1,7 +1,7 @@
 -- What a received document is to make of an object: the posting of its root segment. SAP Library, ALE: inbound processing hands a
 -- document to the application; what that makes of it is this project's own rule.
 use Rattle.std.specs.Prelude.{ℕ, suc, ◌==◌, ◌||◌, Bool, true, false, List, [], ◌∷◌, map, Option, Some, None, option_and_then, slice_get, codes, Result, Ok, Err, if◌then◌else◌}
-use Rattle.std.specs.Option.{option_map, option_map_or}
+use Rattle.std.specs.Option.{option_map}
 use Rattle.ale_base.specs.Text.{is_text}
 use Rattle.ale_base.specs.declared.change.FieldValue.{FieldValue}
 use Rattle.idoc_record.specs.declared.control_field.ControlField.TheVariants.{Mestyp}
@@ -22,6 +22,7 @@ use Rattle.idoc_tree.specs.declared.fault.SyntaxFault.{SyntaxFault}
 use Rattle.idoc_tree.specs.Forest.{Segment, Forest, no_trees, tree}
 use Rattle.idoc_tree.specs.FromRecords.{built}
 use Rattle.unit_core.specs.declared.raw_unit_doc.RawUnitDoc.{RawUnitDoc}
+use Rattle.change_pointers.specs.Noted.{name_at}
 use Rattle.object_store.specs.declared.posting.Posting.{Posting}
 
 -- whether a text is no data: `/` alone, as a reduced message has it
@@ -40,10 +41,6 @@ posted_fields key place sdata (field ∷ fields) =
     if (place == key) || is_no_data (field_text sdata field)
     then posted_fields key (suc place) sdata fields
     else record { field = field.name; value = field_text sdata field } ∷ posted_fields key (suc place) sdata fields
-
--- the name of the field at a place
-abbrev pub name_at : List Field → ℕ → List ℕ
-name_at fields place = option_map_or (λ field. field.name) (slice_get fields place) []
 
 -- whether a posting is to make its object
 abbrev pub is_insert : PostingMode → Bool

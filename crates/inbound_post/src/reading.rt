@@ -9,9 +9,11 @@ ghost use Rattle.dist_model.specs.Model.{IsModel};
 ghost use Rattle.idoc_tree.specs.FromRecords.{built};
 ghost use Rattle.idoc_tree.specs.Lines.{IsNode};
 ghost use Rattle.idoc_tree.specs.Nodes.{tree_of};
-ghost use Rattle.inbound_post.specs.Reading.{is_no_data, key_text, name_at, posted_fields, posting, posting_as, posting_by, posting_made, posting_of, posting_with, root_built};
+ghost use Rattle.change_pointers.specs.Noted.{name_at};
+ghost use Rattle.inbound_post.specs.Reading.{is_no_data, key_text, posted_fields, posting, posting_as, posting_by, posting_made, posting_of, posting_with, root_built};
 
 use ale_base::{FieldValue, Items, OutOfMemory};
+use change_pointers::name_at;
 use dist_model::{Kind, Lists, Message, MessageNo, Model, PostingMode, all_fields};
 use idoc_record::ControlField;
 use idoc_tree::{Node, SyntaxFault, build};
@@ -211,14 +213,4 @@ fn names_at(
         names.push(Items::from_slice(alloc, name_at(fields, *place))?)?;
     }
     Ok(names)
-}
-
-/// The name of the field at a place.
-fn name_at(fields: &[Field], place: u16) -> &[u8]
-    ensures { result.now ≡ name_at fields.now place }
-{
-    match fields.get(usize::from(place)) {
-        None => &[],
-        Some(field) => field.name.as_slice(),
-    }
 }

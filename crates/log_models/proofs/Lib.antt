@@ -1,4 +1,4 @@
 -- Lemmas on the models of a log.
 
--- one more record
+-- one more record, and more models
 pub mod InForceLemmas

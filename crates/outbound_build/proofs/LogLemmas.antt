@@ -1,14 +1,15 @@
 -- What a log stands for, from record to record.
-use Rattle.std.specs.Prelude.{fold, map, slice_get}
+use Rattle.std.specs.Prelude.{fold, map}
 use Rattle.std.specs.Option.{option_map_or}
-use Rattle.std.proofs.Common.{◌≡◌, ℕ, zero, suc, ◌<◌, ◌≤◌, Option, Some, None, List, [], ◌∷◌, ◌++◌, length, false, refl, ap, sym, ◌∙◌, arith, length-append}
+use Rattle.std.proofs.Common.{◌≡◌, ℕ, ◌≤◌, Option, Some, None, List, [], ◌∷◌, ◌++◌, length, false, refl, ap, sym, ◌∙◌, arith, length-append}
 use Rattle.std.proofs.lemmas.List.{append-nil, map-append}
 use Rattle.std.proofs.lemmas.List.Sums.{fold_push}
 use Rattle.ale_base.specs.Prefix.{IsPrefix}
 use Rattle.dist_model.specs.declared.lists.Lists.{Lists}
 use Rattle.unit_core.specs.declared.records.Record.{Record}
-use Rattle.unit_core.specs.declared.records.Record.TheVariants.{Commit, Dispatch, Genesis, Model}
+use Rattle.unit_core.specs.declared.records.Record.TheVariants.{Commit, Dispatch}
 use Rattle.log_models.specs.InForce.{in_force, models_after, models_in}
+use Rattle.log_models.proofs.InForceLemmas.{in_force-before, models-grow}
 use Rattle.outbound_build.specs.declared.added.Added.{Added}
 use Rattle.outbound_build.specs.declared.added.OutUnit.{OutUnit}
 use Rattle.outbound_build.specs.declared.outbox.Outbox.{Outbox}
@@ -85,24 +86,6 @@ committed-grows models log next =
     let unit = λ (one : OutUnit). one.unit in
     let more = (adds models (past_of models log) next).units in
     (map unit more, sym (ap (map unit) (grown models log next).1 ∙ map-append unit (units_of models log) more))
-
-slice_get-before : {A : Type 0} (xs more : List A) (i : ℕ) → i < length xs → slice_get (xs ++ more) i ≡ slice_get xs i
-slice_get-before [] more i within = absurd (omega arith)
-slice_get-before (x ∷ xs) more zero within = refl
-slice_get-before (x ∷ xs) more (suc i) within = slice_get-before xs more i (omega arith)
-
-in_force-before : (models more : List Lists) (count : ℕ) → count ≤ length models → in_force (models ++ more) count ≡ in_force models count
-in_force-before models more zero within = refl
-in_force-before models more (suc last) within = slice_get-before models more last (omega arith)
-
-models-grow : (models : ℕ) (log : List Record) → models ≤ fold models_after models log
-models-grow models [] = omega arith
-models-grow models (next ∷ rest) = omega (arith, models-grow (models_after models next) rest, models-least models next)
-  where
-    models-least : (models : ℕ) (next : Record) → models ≤ models_after models next
-    models-least models (Genesis system text) = omega arith
-    models-least models (Model text) = omega arith
-    models-least models _ = omega arith
 
 past-before : (models more : List Lists) (log : List Record) (past : Past) → fold models_after past.models log ≤ length models
     → fold (past_after (models ++ more)) past log ≡ fold (past_after models) past log

@@ -26,6 +26,8 @@ mod types;
 pub use added::{Added, Fate, OutDocument, OutUnit, Waiting};
 pub use committing::committed;
 pub use fault::{AddFault, BuildFault};
+pub use masters::may_be_of;
 pub use outbox::Outbox;
 pub use queue_lists::{QueueLists, queues};
 pub use sending::sent;
+pub use types::type_of;

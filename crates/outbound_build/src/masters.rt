@@ -71,8 +71,9 @@ fn read_as(
     }
 }
 
-/// Whether IDOCTYP of a control record is blank or names an IDoc type.
-fn may_be_of(control: &Control, name: &[u8]) -> bool
+/// Whether a document with this control record may be one of the IDoc type of a name: IDOCTYP is blank or names it. It takes no
+/// memory.
+pub fn may_be_of(control: &Control, name: &[u8]) -> bool
     ensures { result ≡ may_be_of control.now name.now }
 {
     let idoctyp = control.get(ControlField::Idoctyp);

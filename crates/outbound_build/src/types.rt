@@ -9,8 +9,8 @@ ghost use Rattle.outbound_build.specs.ControlRecord.{type_name};
 use dist_model::{Lists, MessageNo};
 use segment_defs::IdocType;
 
-/// The IDoc type of a message type of a model.
-pub(crate) fn type_of(lists: &Lists, message: MessageNo) -> &IdocType
+/// The IDoc type of a message type of a model. It takes no memory.
+pub fn type_of(lists: &Lists, message: MessageNo) -> &IdocType
     requires model { IsModel lists.now }
     requires known { message < length lists.now.messages }
     ensures entries { result.now.segments ≡ message_entries lists.now.types lists.now.messages message }

@@ -1,6 +1,8 @@
 -- What the opening of a system's journal leaves, from what the opening of its volume gives.
 use Rattle.std.specs.Option.{unwrap_or}
 use Rattle.std.proofs.Common.{◌≡◌, ℕ, Option, Some, List, [], ◌∷◌, length, refl, sym, ap, ◌∙◌, subst, arith, length-append}
+use Rattle.ale_base.proofs.ListLemmas.{slice_get-front}
+use Rattle.ale_base.proofs.SnocLemmas.{slice_get-last}
 use Rattle.ale_volumes.specs.declared.volume.Volume.{Volume}
 use Rattle.unit_core.specs.declared.records.Record.{Record}
 use Rattle.unit_codec.specs.declared.entry.Entry.{Entry}
@@ -9,7 +11,6 @@ use Rattle.unit_journal.specs.Settled.{IsOn, IsSettled}
 use Rattle.system_journals.specs.declared.journals.SystemJournals.{SystemJournals}
 use Rattle.system_journals.specs.OnDisk.{count_of, HaveMoments, moments_at, entries_of, entries_at, IsOnDisk}
 use Rattle.system_journals.specs.Changes.{with_system, IsNext}
-use Rattle.system_journals.proofs.PlaceLemmas.{got-last, got-front}
 
 -- one system more leaves all others as they are
 pub IsNext-with_system : (all after : SystemJournals) (journal : UnitJournal) (moments : List (Option ℕ)) → after ≡ with_system all journal moments
@@ -18,8 +19,8 @@ IsNext-with_system all after journal moments is have = subst (λ (a : SystemJour
   count = length-append all.journals (journal ∷ []);
   moments = omega (arith, have, length-append all.journals (journal ∷ []), length-append all.moments (moments ∷ []));
   others = λ other before. record {
-    journal = got-front all.journals other journal before;
-    moments = got-front all.moments other moments (omega (arith, have, before));
+    journal = slice_get-front all.journals (journal ∷ []) other before;
+    moments = slice_get-front all.moments (moments ∷ []) other (omega (arith, have, before));
   };
   moment = refl;
 })
@@ -31,12 +32,12 @@ pub IsOnDisk-opened : {D : Type 0} (told : Type 0) (volume : D → ℕ → Volum
     → IsOn journal (count_of all) entries → (told → IsSettled volume vols journal entries)
     → IsOnDisk told volume vols (count_of all) after log
 IsOnDisk-opened told volume vols all after journal moments log entries is have each are on settled =
-    let there = got-last all.moments (count_of all) moments (sym have) in
+    let there = slice_get-last all.moments (count_of all) moments (sym have) in
     let here : moments_at (with_system all journal moments) (count_of all) ≡ moments = ap (λ (found : Option (List (Option ℕ))). unwrap_or found []) there in
     let same : entries_at (with_system all journal moments) (count_of all) log ≡ entries = ap (λ (l : List (Option ℕ)). entries_of l log) here ∙ are in
     subst (λ (a : SystemJournals). IsOnDisk told volume vols (count_of all) a log) (sym is) (record {
       journal = journal;
-      here = got-last all.journals (count_of all) journal refl;
+      here = slice_get-last all.journals (count_of all) journal refl;
       noted = there ∙ ap (λ (l : List (Option ℕ)). Some l) (sym here);
       each = ap (λ (l : List (Option ℕ)). length l) here ∙ each;
       on = subst (λ (l : List Entry). IsOn journal (count_of all) l) (sym same) on;

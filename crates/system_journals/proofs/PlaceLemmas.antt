@@ -100,15 +100,3 @@ pub length-noted : (moments noted : List (List (Option ℕ))) (k : ℕ) (moment 
     → length noted ≡ length moments
 length-noted moments noted k moment is = ap (λ (l : List (List (Option ℕ))). length l) is
     ∙ length-set moments k (unwrap_or (slice_get moments k) [] ++ moment ∷ [])
-
--- what is added behind a list is at the place of its length, and all before is as it was
-pub got-last : {A : Type 0} (xs : List A) (place : ℕ) (x : A) → place ≡ length xs → slice_get (xs ++ x ∷ []) place ≡ Some x
-got-last [] zero x is = refl
-got-last [] (suc k) x is = absurd (omega arith)
-got-last (z ∷ zs) zero x is = absurd (omega arith)
-got-last (z ∷ zs) (suc k) x is = got-last zs k x (omega arith)
-
-pub got-front : {A : Type 0} (xs : List A) (k : ℕ) (x : A) → k < length xs → slice_get (xs ++ x ∷ []) k ≡ slice_get xs k
-got-front [] k x within = absurd (omega arith)
-got-front (z ∷ zs) zero x within = refl
-got-front (z ∷ zs) (suc k) x within = got-front zs k x (omega arith)

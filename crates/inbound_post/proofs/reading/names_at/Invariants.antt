@@ -1,5 +1,5 @@
 use Rattle.std.proofs.Common.{◌≡◌, ◌++◌, map, drop}
-use Rattle.inbound_post.specs.Reading.{name_at}
+use Rattle.change_pointers.specs.Noted.{name_at}
 use Rattle.inbound_post.proofs.reading.names_at.Given as goal
 
 abbrev pub invariant-loop-place : goal.invariant-loop-place
