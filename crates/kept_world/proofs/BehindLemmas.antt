@@ -44,7 +44,7 @@ without_named-is : {R : Type 0} (world : World R) (claim : Option ℕ) → witho
 without_named-is world None = refl
 without_named-is world (Some number) = refl
 
-module _ {R A E Extra : Type 0} (meaning : R → Meaning) (stands : A → List Record → Type 0) (goes_with : A → Record → Extra → Type 0) (now : WorldTables R A E)
+module _ {R A E Extra : Type 0} (meaning : R → Meaning) (stands : A → List Record → Type 0) (goes_with : A → List Record → Record → Extra → Type 0) (now : WorldTables R A E)
     (system : ℕ) (more : List AleUnit) (claim : Option ℕ) (extra : Extra) (is : IsBehind meaning stands goes_with now system more claim extra) where
   standing : StandsUp (is.world).systems system
   standing = stands_up (is.world).systems system is.up
@@ -81,7 +81,7 @@ module _ {R A E Extra : Type 0} (meaning : R → Meaning) (stands : A → List R
   last-behind = ap (λ w. last_of (log_of w system)) is.appended ∙ last-entered is.world system is.next is.up
 
   -- noting it asks no more than is known
-  pub to_note-behind : IsToNote goes_with (log_of now.world system) more claim extra (system - 1) now.tables
+  pub to_note-behind : IsToNote (log_of now.world system) more claim (system - 1) now.tables
   to_note-behind = record {
     next = is.next;
     last = last-behind;
@@ -93,14 +93,20 @@ module _ {R A E Extra : Type 0} (meaning : R → Meaning) (stands : A → List R
         (CanNote-joins stands ((meaning (is.world).rules).committed (suc (system - 1)) state.log) more state.log claim
         (claim_at Out (suc (system - 1)) (is.world).claims) (claim_at In (suc (system - 1)) (is.world).claims) is.next before.0 (one.up standing.up)
         (joins state standing.at).1);
-    goes = λ its at.
-        let before = is.entered.its its at in
-        subst (λ (t : TablesOf A). goes_with t.application is.next extra) (sym before.2) (is.goes before.0 before.1);
   }
+
+  -- what was made for the application goes with it
+  abbrev goes : A → List Record → Type 0
+  goes application log = goes_with application log is.next extra
+
+  made : (state : SystemState) (old : TablesOf A) → slice_get (is.world).systems (system - 1) ≡ Some state → slice_get is.tables (system - 1) ≡ Some old
+      → goes old.application state.log
+  made state old known at =
+      subst (λ log. goes old.application log) (ap (log_of is.world) (sym number) ∙ known_log state known) (is.goes old at)
 
   -- it is noted, and the claim goes that it ends
   pub in_step-behind : (after : WorldTables R A E) → after.world ≡ without_named now.world claim
-      → ChangedAt (Noted stands is.next more) (system - 1) now.tables after.tables → AreInStepWith stands meaning after.world after.tables
+      → ChangedAt (Noted stands goes is.next more) (system - 1) now.tables after.tables → AreInStepWith stands meaning after.world after.tables
   in_step-behind after world noted =
       let w : World R = record (with_record is.world system is.next) { claims = claims_without (is.world).claims claim } in
       let same : after.world ≡ w =
@@ -109,9 +115,10 @@ module _ {R A E Extra : Type 0} (meaning : R → Meaning) (stands : A → List R
       subst (λ (v : World R). AreInStepWith stands meaning v after.tables) (sym same)
       (subst (λ rules. AreInStep stands (meaning rules) w.systems w.claims after.tables) (sym rules_stay)
       (in_step-noted stands (meaning (is.world).rules) (is.world).claims (system - 1) is.apart (is.world).systems is.tables is.in_step is.next more commits
-      w.systems after.tables claim joins joins_at.ends (systems-changed is.world system (state_with is.next) is.up)
-      (ChangedAt-then (λ old after. after ≡ entered more old) (Noted stands is.next more) (λ old after. Noted stands is.next more (entered more old) after)
-      (system - 1) is.tables now.tables after.tables (λ x y z same noted. subst (λ (t : TablesOf A). Noted stands is.next more t z) same noted) is.entered noted)))
+      goes w.systems after.tables claim joins joins_at.ends (systems-changed is.world system (state_with is.next) is.up)
+      (ChangedAt-then (λ old after. after ≡ entered more old) (Noted stands goes is.next more) (λ old after. Noted stands goes is.next more (entered more old) after)
+      (system - 1) is.tables now.tables after.tables (λ x y z same noted. subst (λ (t : TablesOf A). Noted stands goes is.next more t z) same noted) is.entered noted)
+      made))
     where
       claims_stay : (with_record is.world system is.next).claims ≡ (is.world).claims
       claims_stay = (kept-with_state is.world system (state_with is.next) standing.state standing.known).0

@@ -9,7 +9,7 @@ use Rattle.unit_journal.specs.declared.journal.UnitJournal.{UnitJournal}
 use Rattle.unit_codec.specs.Entries.{entry_with}
 use Rattle.unit_codec.specs.Condition.{IsWritable}
 use Rattle.trfc_protocol.specs.Meaning.{Meaning}
-use Rattle.trfc_protocol.specs.Worlds.{is_up, with_record, with_fall}
+use Rattle.trfc_protocol.specs.Worlds.{log_of, is_up, with_record, with_fall}
 use Rattle.trfc_protocol.specs.Safe.{AreApart}
 use Rattle.system_tables.specs.Tables.{TablesOf, entered}
 use Rattle.system_journals.specs.declared.journals.SystemJournals.{SystemJournals}
@@ -73,11 +73,11 @@ pub record IsToWrite {R : Type 0} (world : World R) (system : ℕ) (next : Recor
 
 -- what is known of a record that is appended: beside that, it joins the log, which commits these units behind those before, it ends
 -- this claim, and this was made of it for the application
-pub record IsToAppend {R A E V : Type 0} (meaning : R → Meaning) (goes_with : A → Record → E → Type 0) (kept : KeptOf R A V) (system : ℕ) (next : Record)
+pub record IsToAppend {R A E V : Type 0} (meaning : R → Meaning) (goes_with : A → List Record → Record → E → Type 0) (kept : KeptOf R A V) (system : ℕ) (next : Record)
     (more : List AleUnit) (claim : Option ℕ) (extra : E) : Type 0 where
   pub writes : IsToWrite kept.world system next
   pub joins : JoinsAt (meaning kept.world.rules) kept.world system next more claim
-  pub goes : (its : TablesOf A) → slice_get kept.tables (system - 1) ≡ Some its → goes_with its.application next extra
+  pub goes : (its : TablesOf A) → slice_get kept.tables (system - 1) ≡ Some its → goes_with its.application (log_of kept.world system) next extra
 
 -- a record joined the log of a system, its units were entered, and it is on the disk
 pub record IsWritten {R A V : Type 0} (told : Type 0) (volume : V → ℕ → OneVolume) (before after : KeptOf R A V) (system : ℕ) (next : Record)
@@ -87,7 +87,7 @@ pub record IsWritten {R A V : Type 0} (told : Type 0) (volume : V → ℕ → On
   pub on_volumes : AreOnVolumes told volume after.vols after.world.systems after.journals
 
 -- a world and its tables are those behind a record that was entered, and is not noted yet
-pub record IsBehind {R A E Extra : Type 0} (meaning : R → Meaning) (stands : A → List Record → Type 0) (goes_with : A → Record → Extra → Type 0) (now : WorldTables R A E)
+pub record IsBehind {R A E Extra : Type 0} (meaning : R → Meaning) (stands : A → List Record → Type 0) (goes_with : A → List Record → Record → Extra → Type 0) (now : WorldTables R A E)
     (system : ℕ) (more : List AleUnit) (claim : Option ℕ) (extra : Extra) : Type 0 where
   pub world : World R
   pub tables : List (TablesOf A)
@@ -96,6 +96,6 @@ pub record IsBehind {R A E Extra : Type 0} (meaning : R → Meaning) (stands : A
   pub up : is_up world system ≡ true
   pub apart : AreApart world.claims
   pub joins : JoinsAt (meaning world.rules) world system next more claim
-  pub goes : (its : TablesOf A) → slice_get tables (system - 1) ≡ Some its → goes_with its.application next extra
+  pub goes : (its : TablesOf A) → slice_get tables (system - 1) ≡ Some its → goes_with its.application (log_of world system) next extra
   pub appended : now.world ≡ with_record world system next
   pub entered : ChangedAt (λ old after. after ≡ entered more old) (system - 1) tables now.tables

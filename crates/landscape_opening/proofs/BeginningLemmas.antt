@@ -72,7 +72,7 @@ later-none None = refl
 later-none (Some moment) = refl
 
 module _ {R A E V : Type 0} (meaning : R → Meaning) (lawful : (rules : R) → IsLawful (meaning rules)) (stands : A → List Record → Type 0)
-    (goes_with : A → Record → E → Type 0) (told : Type 0) (volume : V → ℕ → OneVolume) (kept : KeptOf R A V) (system : ℕ) (text : List ℕ) (extra : E)
+    (goes_with : A → List Record → Record → E → Type 0) (told : Type 0) (volume : V → ℕ → OneVolume) (kept : KeptOf R A V) (system : ℕ) (text : List ℕ) (extra : E)
     (least : 1 ≤ system) (known : IsKept meaning stands told volume kept) (is : IsToBegin stands goes_with kept system text extra) where
   its_state : state_of kept.world.systems system ≡ Some (first_state [])
   its_state = state-at kept.world.systems system least ∙ is.empty
@@ -109,7 +109,9 @@ module _ {R A E V : Type 0} (meaning : R → Meaning) (lawful : (rules : R) → 
       joins = record { sending = refl; receiving = tt };
       ends = tt;
     };
-    goes = λ its at. is.goes its at ((known.in_step.each (system - 1) (first_state []) its is.empty at).up refl).application;
+    goes = λ its at.
+        subst (λ log. goes_with its.application log (Genesis system text) extra) (sym its_log)
+        (is.goes its at ((known.in_step.each (system - 1) (first_state []) its is.empty at).up refl).application);
   })
 
   -- the log has its Genesis's moment alone

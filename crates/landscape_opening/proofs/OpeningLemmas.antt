@@ -3,6 +3,8 @@ use Rattle.std.specs.Prelude.{slice_get, map, IsErrOf}
 use Rattle.std.proofs.Common.{◌≡◌, ◌≢◌, ℕ, zero, suc, ◌+◌, ◌<◌, Option, Some, List, [], ◌∷◌, ◌++◌, length, inl, inr, Err, refl, sym, ap, subst, ◌∙◌, arith, length-append}
 use Rattle.std.proofs.lemmas.Bool.{cases_eq, cases_lt, both_ways}
 use Rattle.std.proofs.lemmas.Option.{same_Some, slice_get_within}
+use Rattle.ale_base.proofs.ListLemmas.{slice_get-front}
+use Rattle.ale_base.proofs.SnocLemmas.{slice_get-last}
 use Rattle.ale_volumes.specs.declared.volume.Volume.{Volume as OneVolume}
 use Rattle.ale_volumes.specs.Faults.{CountsFault}
 use Rattle.byte_journal.specs.Log.{Stands as StandsForBodies, ReadsAs}
@@ -46,21 +48,9 @@ pub entries-none : (moments : List (Option ℕ)) → entries_of moments [] ≡ [
 entries-none [] = refl
 entries-none (moment ∷ moments) = refl
 
--- what is added behind a list is at the place of its length, and all before is as it was
-got-last : {A : Type 0} (xs : List A) (place : ℕ) (x : A) → place ≡ length xs → slice_get (xs ++ x ∷ []) place ≡ Some x
-got-last [] zero x is = refl
-got-last [] (suc k) x is = absurd (omega arith)
-got-last (z ∷ zs) zero x is = absurd (omega arith)
-got-last (z ∷ zs) (suc k) x is = got-last zs k x (omega arith)
-
-got-front : {A : Type 0} (xs : List A) (k : ℕ) (x : A) → k < length xs → slice_get (xs ++ x ∷ []) k ≡ slice_get xs k
-got-front [] k x within = absurd (omega arith)
-got-front (z ∷ zs) zero x within = refl
-got-front (z ∷ zs) (suc k) x within = got-front zs k x (omega arith)
-
 -- what is at a place of a list with one item more: that item at the end, and else what was there
 pub at-end : {A : Type 0} (xs : List A) (x y : A) (place : ℕ) → place ≡ length xs → slice_get (xs ++ x ∷ []) place ≡ Some y → x ≡ y
-at-end xs x y place is at = same_Some x y (sym (got-last xs place x is) ∙ at)
+at-end xs x y place is at = same_Some x y (sym (slice_get-last xs place x is) ∙ at)
 
 pub before-end : {A : Type 0} (xs : List A) (x y : A) (place : ℕ) → place ≢ length xs → slice_get (xs ++ x ∷ []) place ≡ Some y
     → (place < length xs) × (slice_get xs place ≡ Some y)
@@ -68,7 +58,7 @@ before-end xs x y place differs at =
     let within = slice_get_within (xs ++ x ∷ []) place y at in
     let long = length-append xs (x ∷ []) in
     let less : place < length xs = omega (arith, within, long, differs) in
-    (less, sym (got-front xs place x less) ∙ at)
+    (less, sym (slice_get-front xs (x ∷ []) place less) ∙ at)
 
 -- one empty log more
 begun-snoc : (system n : ℕ) → map first_state (begun_logs system [] n) ++ first_state [] ∷ [] ≡ map first_state (begun_logs system [] (suc n))

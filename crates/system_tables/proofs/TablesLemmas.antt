@@ -45,12 +45,12 @@ CanNote-joins stands committed more log claim sent arrived next tables are joins
 }
 
 -- one more record: the tables of a log, with its units entered, are those of the longer log once it is noted
-pub AreTablesOf-noted : {A : Type 0} (stands : A → List Record → Type 0) (committed more : List AleUnit) (log : List Record) (claim : Option ℕ)
+pub AreTablesOf-noted : {A : Type 0} (stands goes : A → List Record → Type 0) (committed more : List AleUnit) (log : List Record) (claim : Option ℕ)
     (sent arrived sent_after arrived_after : TidOf → Option ℕ) (next : Record) (before after : TablesOf A)
     → AreTablesOf stands committed log sent arrived before → Joins committed more log claim sent arrived next
-    → ClaimsAfter next sent arrived sent_after arrived_after → Noted stands next more (entered more before) after
-    → AreTablesOf stands (committed ++ more) (log ++ next ∷ []) sent_after arrived_after after
-AreTablesOf-noted stands committed more log claim sent arrived sent_after arrived_after next before after are joins claims noted = record {
+    → ClaimsAfter next sent arrived sent_after arrived_after → Noted stands goes next more (entered more before) after
+    → goes before.application log → AreTablesOf stands (committed ++ more) (log ++ next ∷ []) sent_after arrived_after after
+AreTablesOf-noted stands goes committed more log claim sent arrived sent_after arrived_after next before after are joins claims noted made = record {
   units = noted.units ∙ ap (λ units. units ++ more) are.units;
   seen = seen-noted log claim arrived next before.seen after.seen joins.receiving noted.seen are.seen;
   unconfirmed = unconfirmed-noted committed more log claim sent next before.unconfirmed after.unconfirmed joins.sending noted.unconfirmed are.unconfirmed;
@@ -58,7 +58,7 @@ AreTablesOf-noted stands committed more log claim sent arrived sent_after arrive
       joins.sending claims noted.outgoing are.outgoing;
   incoming = incoming-noted committed more log claim sent arrived sent_after arrived_after next before.incoming after.incoming
       joins.receiving claims noted.incoming are.incoming;
-  application = noted.application log are.application;
+  application = noted.application log are.application made;
 }
 
 -- a claim is no record: the log stays, and the unit is claimed

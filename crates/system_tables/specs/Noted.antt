@@ -48,11 +48,12 @@ NotedUnconfirmed (Done tid) before after = Enters tid before after
 NotedUnconfirmed (Ended tid) before after = Forgets tid before after
 NotedUnconfirmed _ before after = after ≡ before
 
--- a record is noted, which commits these units: each table is told of it, and the units stay, since they were entered before
-pub record Noted {A : Type 0} (stands : A → List Record → Type 0) (next : Record) (more : List AleUnit) (before after : TablesOf A) : Type 0 where
+-- a record is noted, which commits these units: each table is told of it, and the units stay, since they were entered before. The
+-- application's tables are those of the longer log where what was made for it goes with them and the log before
+pub record Noted {A : Type 0} (stands goes : A → List Record → Type 0) (next : Record) (more : List AleUnit) (before after : TablesOf A) : Type 0 where
   pub units : after.units ≡ before.units
   pub seen : NotedSeen next before.seen after.seen
   pub unconfirmed : NotedUnconfirmed next before.unconfirmed after.unconfirmed
   pub outgoing : NotedOutgoing next more before.outgoing after.outgoing
   pub incoming : NotedIncoming next before.incoming after.incoming
-  pub application : (log : List Record) → stands before.application log → stands after.application (log ++ next ∷ [])
+  pub application : (log : List Record) → stands before.application log → goes before.application log → stands after.application (log ++ next ∷ [])

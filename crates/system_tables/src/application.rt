@@ -16,17 +16,17 @@ pub trait Application: Drop {
     // Whether the tables are those of a log.
     ghost stands: { Self → List Record → Type 0 };
 
-    // Whether this is what was made for a record at these tables.
-    ghost goes_with: { Self → Record → Self.Extra → Type 0 };
+    // Whether this is what was made for a record that follows a log, at the tables of that log.
+    ghost goes_with: { Self → List Record → Record → Self.Extra → Type 0 };
 
     /// What goes with a record that says nothing to an application.
     fn nothing() -> Self::Extra
-        ensures { (application : Self) (next : Record) → concerns_application next ≡ false → goes_with application next result };
+        ensures { (application : Self) (log : List Record) (next : Record) → concerns_application next ≡ false → goes_with application log next result };
 
-    /// Notes one more record, with what was made for it. After an `Err` nothing is known of the tables.
+    /// Notes one more record of a log, with what was made for it. After an `Err` nothing is known of the tables.
     fn note(&mut self, alloc: Global, next: &Record, extra: Self::Extra) -> Result<(), OutOfMemory>
-        requires { goes_with self.old next.now extra }
-        ensures noted { (log : List Record) → stands self.old log → OnOk result (stands self.new (log ++ next.now ∷ [])) };
+        ensures noted { (log : List Record) → stands self.old log → goes_with self.old log next.now extra
+            → OnOk result (stands self.new (log ++ next.now ∷ [])) };
 }
 
 /// No tables of an application.
@@ -40,7 +40,7 @@ impl Application for NoApplication {
 
     ghost stands = { λ none log. ⊤ };
 
-    ghost goes_with = { λ none next extra. ⊤ };
+    ghost goes_with = { λ none log next extra. ⊤ };
 
     fn nothing() {}
 

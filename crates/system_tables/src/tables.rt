@@ -100,8 +100,7 @@ impl<A: Application> SystemTables<A> {
         extra: A::Extra,
     ) -> Result<(), OutOfMemory>
         requires can { CanNote next.now more.now claim self.old }
-        requires extra { A.goes_with self.old.application next.now extra }
-        ensures noted { OnOk result (Noted A.stands next.now more.now self.old self.new) }
+        ensures noted { OnOk result (Noted A.stands (λ application log. A.goes_with application log next.now extra) next.now more.now self.old self.new) }
         ensures units { self.new.units ≡ self.old.units }
     {
         self.application.note(alloc, next, extra)?;

@@ -171,6 +171,15 @@ ChangedAt-weaker Change Other place before after weaker a = record {
   its = λ now at. let one = a.its now at in (one.0, one.1, weaker one.0 now one.2);
 }
 
+-- the change of an item that is known
+pub ChangedAt-known : {A : Type 0} {Change : A → A → Type 0} (place : ℕ) (before after : List A) → ChangedAt Change place before after
+    → ChangedAt (λ old now. Change old now × (slice_get before place ≡ Some old)) place before after
+ChangedAt-known place before after a = record {
+  long = a.long;
+  others = a.others;
+  its = λ now at. let one = a.its now at in (one.0, one.1, (one.2, one.1));
+}
+
 -- one change behind another
 pub ChangedAt-then : {A : Type 0} (First Second Both : A → A → Type 0) (place : ℕ) (before middle after : List A)
     → ((x y z : A) → First x y → Second y z → Both x z)

@@ -23,7 +23,7 @@ use Rattle.world_tables.specs.Changed.{ChangedAt}
 use Rattle.world_tables.specs.InStep.{AreTablesAt, AreInStep}
 use Rattle.world_tables.specs.Joining.{Ends, EndsClaim, EndsNamed, claims_without}
 use Rattle.world_tables.proofs.ClaimsLemmas.{numbered-gone}
-use Rattle.world_tables.proofs.InStepLemmas.{claims-by, claims-of, claims-elsewhere, in_step-changed}
+use Rattle.world_tables.proofs.InStepLemmas.{ChangedAt-known, claims-by, claims-of, claims-elsewhere, in_step-changed}
 
 -- a record that ends no claim leaves them
 claims_after-none : (committed more : List AleUnit) (log : List Record) (sent arrived : TidOf → Option ℕ) (next : Record)
@@ -85,26 +85,28 @@ module _ {A : Type 0} (stands : A → List Record → Type 0) (rules : Meaning) 
   module _ (systems : List SystemState) (tables : List (TablesOf A)) (is : AreInStep stands rules systems claims tables) (next : Record) (more : List AleUnit)
       (commits : (state : SystemState) → slice_get systems place ≡ Some state
       → rules.committed (suc place) (state.log ++ next ∷ []) ≡ rules.committed (suc place) state.log ++ more) where
-    -- a record joins the log of a system that is up, its units are entered, and it is noted
-    pub in_step-noted : (systems_after : List SystemState) (after : List (TablesOf A)) (claim : Option ℕ)
+    -- a record joins the log of a system that is up, its units are entered, and it is noted, with what goes with it and that log
+    pub in_step-noted : (goes : A → List Record → Type 0) (systems_after : List SystemState) (after : List (TablesOf A)) (claim : Option ℕ)
         → ((state : SystemState) → slice_get systems place ≡ Some state
         → (state.up ≡ true) × Joins (rules.committed (suc place) state.log) more state.log claim (claim_at Out (suc place) claims) (claim_at In (suc place) claims) next)
         → EndsNamed claims (suc place) next claim
         → ChangedAt (λ old new. new ≡ state_with next old) place systems systems_after
-        → ChangedAt (λ old now. Noted stands next more (entered more old) now) place tables after
+        → ChangedAt (λ old now. Noted stands goes next more (entered more old) now) place tables after
+        → ((state : SystemState) (old : TablesOf A) → slice_get systems place ≡ Some state → slice_get tables place ≡ Some old → goes old.application state.log)
         → AreInStep stands rules systems_after (claims_without claims claim) after
-    in_step-noted systems_after after claim joins ends grown noted =
+    in_step-noted goes systems_after after claim joins ends grown noted made =
         in_step-changed stands rules systems systems_after claims (claims_without claims claim) tables after place (λ old new. new ≡ state_with next old)
-        (λ old now. Noted stands next more (entered more old) now) is grown noted (elsewhere claim next ends)
+        (λ old now. Noted stands goes next more (entered more old) now × (slice_get tables place ≡ Some old)) is grown (ChangedAt-known place tables after noted)
+        (elsewhere claim next ends)
         (λ state new old now known same its are.
         let committed = rules.committed (suc place) state.log in
         let sent = claim_at Out (suc place) (claims_without claims claim) in
         let arrived = claim_at In (suc place) (claims_without claims claim) in
         let join = joins state known in
-        let one = AreTablesOf-noted stands committed more state.log claim (claim_at Out (suc place) claims) (claim_at In (suc place) claims) sent arrived next old now
-        (are.up join.0) join.1 (claims_after-joins committed more state.log claim next ends join.1) its in
+        let one = AreTablesOf-noted stands goes committed more state.log claim (claim_at Out (suc place) claims) (claim_at In (suc place) claims) sent arrived next old now
+        (are.up join.0) join.1 (claims_after-joins committed more state.log claim next ends join.1) its.0 (made state old known its.1) in
         subst (λ (s : SystemState). AreTablesAt stands rules (claims_without claims claim) (suc place) s now) (sym same) (record {
-          units = its.units ∙ ap (λ units. units ++ more) are.units ∙ sym (commits state known);
+          units = (its.0).units ∙ ap (λ units. units ++ more) are.units ∙ sym (commits state known);
           up = λ up. subst (λ units. AreTablesOf stands units (state.log ++ next ∷ []) sent arrived now) (sym (commits state known)) one;
         }))
 

@@ -6,10 +6,8 @@ use Rattle.trfc_protocol.specs.Worlds.{last_of}
 use Rattle.system_tables.specs.Tables.{TablesOf}
 use Rattle.system_tables.specs.CanNote.{CanNote}
 
--- a log has a last record, which can be noted in the tables at a place, with what was made for the application
-pub record IsToNote {A Extra : Type 0} (goes_with : A → Record → Extra → Type 0) (log : List Record) (more : List AleUnit) (claim : Option ℕ)
-    (extra : Extra) (place : ℕ) (tables : List (TablesOf A)) : Type 0 where
+-- a log has a last record, which can be noted in the tables at a place
+pub record IsToNote {A : Type 0} (log : List Record) (more : List AleUnit) (claim : Option ℕ) (place : ℕ) (tables : List (TablesOf A)) : Type 0 where
   pub next : Record
   pub last : last_of log ≡ Some next
   pub can : (its : TablesOf A) → slice_get tables place ≡ Some its → CanNote next more claim its
-  pub goes : (its : TablesOf A) → slice_get tables place ≡ Some its → goes_with its.application next extra

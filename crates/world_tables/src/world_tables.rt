@@ -1,6 +1,6 @@
 //! The world beside the tables of its systems, and what changes both.
 
-ghost use Rattle.std.specs.Prelude.{◌≡◌, ◌≤◌, ◌-◌, List, length, slice_get, Some, true, OnOk, OnErr};
+ghost use Rattle.std.specs.Prelude.{◌≡◌, ◌≤◌, ◌-◌, length, slice_get, Some, true, OnOk, OnErr};
 ghost use Rattle.std.specs.Option.{option_copied};
 ghost use Rattle.plain_queues.specs.Offered.{is_offered, why_not};
 ghost use Rattle.trfc_protocol.specs.Worlds.{last_of};
@@ -108,10 +108,10 @@ impl<R: Rules, A: Application> WorldTables<R, A> {
         extra: A::Extra,
     ) -> Result<(), OutOfMemory>
         requires within { system ≤ length self.old.tables }
-        requires can { IsToNote A.goes_with (log_of self.old.world system) more.now claim extra (system - 1) self.old.tables }
+        requires can { IsToNote (log_of self.old.world system) more.now claim (system - 1) self.old.tables }
         ensures world { OnOk result (self.new.world ≡ without_named self.old.world claim) }
         ensures noted { (next : Record) → last_of (log_of self.old.world system) ≡ Some next
-            → OnOk result (ChangedAt (Noted A.stands next more.now) (system - 1) self.old.tables self.new.tables) }
+            → OnOk result (ChangedAt (Noted A.stands (λ application log. A.goes_with application log next extra) next more.now) (system - 1) self.old.tables self.new.tables) }
         ensures err { OnErr result (self.new.world ≡ self.old.world) }
         ensures units { ChangedAt (λ before now. now.units ≡ before.units) (system - 1) self.old.tables self.new.tables }
     {
@@ -256,8 +256,7 @@ fn note_at<A: Application>(
 ) -> Result<(), OutOfMemory>
     requires within { system ≤ length tables.old }
     requires can { (its : TablesOf A) → slice_get tables.old (system - 1) ≡ Some its → CanNote next.now more.now claim its }
-    requires extra { (its : TablesOf A) → slice_get tables.old (system - 1) ≡ Some its → A.goes_with its.application next.now extra }
-    ensures noted { OnOk result (ChangedAt (Noted A.stands next.now more.now) (system - 1) tables.old tables.new) }
+    ensures noted { OnOk result (ChangedAt (Noted A.stands (λ application log. A.goes_with application log next.now extra) next.now more.now) (system - 1) tables.old tables.new) }
     ensures units { ChangedAt (λ before now. now.units ≡ before.units) (system - 1) tables.old tables.new }
 {
     let at = system.get() as usize - 1;

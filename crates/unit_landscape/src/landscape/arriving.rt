@@ -16,7 +16,7 @@ impl<R: Rules, A: Application, V: Volumes> UnitLandscape<R, A, V> {
     ghost use Rattle.std.specs.Prelude.{◌≡◌, Some, true, IfOk, OnErr};
     ghost use Rattle.trfc_protocol.specs.declared.answer.Answer.TheVariants as answer;
     ghost use Rattle.trfc_protocol.specs.declared.event.Event.TheVariants as event;
-    ghost use Rattle.trfc_protocol.specs.Worlds.{committed_unit};
+    ghost use Rattle.trfc_protocol.specs.Worlds.{committed_unit, is_up, offers_now};
     ghost use Rattle.trfc_protocol.specs.Offered.{may_arrive, answer_to};
     ghost use Rattle.trfc_protocol.specs.RecordOf.{record_of};
     ghost use Rattle.kept_world.specs.Answers.{KeepsVolumes};
@@ -26,8 +26,11 @@ impl<R: Rules, A: Application, V: Volumes> UnitLandscape<R, A, V> {
     ghost use Rattle.unit_landscape.specs.Appending.{Arrives};
 
     /// A unit arrives at its receiver, which answers by its log and the claims. The unit is one that its sender committed, and that its
-    /// receiver has not forgotten; and it was received, or it heads its outbound queues.
-    pub fn arrive(&mut self, unit: &AleUnit) -> Result<Arrival, OutOfMemory>
+    /// receiver has not forgotten; and it was received, or it heads its outbound queues. Whether a receiver that is up offers the unit's
+    /// function is handed in, so that no log is read for it.
+    pub fn arrive(&mut self, unit: &AleUnit, offered: bool) -> Result<Arrival, OutOfMemory>
+        requires offered { is_up self.old.world unit.now.receiver ≡ true
+            → offered ≡ offers_now (R.meaning self.old.world.rules) self.old.world unit.now.receiver unit.now.function }
         requires committed { committed_unit (R.meaning self.old.world.rules) self.old.world unit.now.tid ≡ Some unit.now }
         requires may { may_arrive (R.meaning self.old.world.rules) self.old.world unit.now ≡ true }
         ensures event { IfOk result (Arrived (R.meaning self.old.world.rules) V.faults self.old self.new unit.now) }
@@ -36,11 +39,7 @@ impl<R: Rules, A: Application, V: Volumes> UnitLandscape<R, A, V> {
             (record_of (R.meaning self.old.world.rules) self.old.world (event.Arrive unit.now.tid)) }
     {
         let _ = self.kept.world();
-        let given = match self.answer_to(unit) {
-            Ok(given) => given,
-            Err(short) => return Err(short),
-        };
-        match given {
+        match self.answer_to(unit, offered) {
             Answer::New => self.take_in(unit),
             Answer::Run => self.begin_run(unit),
             Answer::Known => Ok(Arrival::Known(Receipt { tid: unit.tid })),
@@ -51,28 +50,30 @@ impl<R: Rules, A: Application, V: Volumes> UnitLandscape<R, A, V> {
     }
 
     /// How the receiver of a unit answers its arrival.
-    pub(crate) fn answer_to(&self, unit: &AleUnit) -> Result<Answer, OutOfMemory>
-        requires { may_arrive (R.meaning self.now.world.rules) self.now.world unit.now ≡ true }
-        ensures { IfOk result (λ given. given ≡ answer_to (R.meaning self.now.world.rules) self.now.world unit.now) }
+    pub(crate) fn answer_to(&self, unit: &AleUnit, offered: bool) -> Answer
+        requires may { may_arrive (R.meaning self.now.world.rules) self.now.world unit.now ≡ true }
+        requires offered { is_up self.now.world unit.now.receiver ≡ true
+            → offered ≡ offers_now (R.meaning self.now.world.rules) self.now.world unit.now.receiver unit.now.function }
+        ensures { result ≡ answer_to (R.meaning self.now.world.rules) self.now.world unit.now }
     {
         let world = self.kept.world();
         let receiver = unit.receiver;
         if !world.is_up(receiver) {
-            return Ok(Answer::Down);
+            return Answer::Down;
         }
         if self.kept.is_known(receiver, unit.tid) {
-            return Ok(Answer::Known);
+            return Answer::Known;
         }
         if world.is_claimed(HeldKind::Direct, unit.tid) {
-            return Ok(Answer::Busy);
+            return Answer::Busy;
         }
         if !unit.inq.is_empty() {
-            return Ok(Answer::New);
+            return Answer::New;
         }
-        if world.offers(self.alloc, receiver, unit)? {
-            Ok(Answer::Run)
+        if offered {
+            Answer::Run
         } else {
-            Ok(Answer::SysFail)
+            Answer::SysFail
         }
     }
 

@@ -6,7 +6,7 @@ ghost use Rattle.unit_landscape.specs.Appending.{finished_of};
 use super::UnitLandscape;
 use crate::appending::{Appended, append};
 use crate::{Finished, InClaim, Receipt, WorkEnd};
-use ale_base::{OutOfMemory, Tid};
+use ale_base::OutOfMemory;
 use ale_volumes::Volumes;
 use system_tables::Application;
 use trfc_protocol::{Held, HeldKind, Rules};
@@ -17,22 +17,29 @@ impl<R: Rules, A: Application, V: Volumes> UnitLandscape<R, A, V> {
     ghost use Rattle.trfc_protocol.specs.declared.event.Event.TheVariants as event;
     ghost use Rattle.trfc_protocol.specs.declared.held.HeldKind.TheVariants.{Out};
     ghost use Rattle.trfc_protocol.specs.Legal.{is_commit};
-    ghost use Rattle.trfc_protocol.specs.Worlds.{claim_of, is_kind};
+    ghost use Rattle.trfc_protocol.specs.Worlds.{claim_of, is_kind, log_of};
     ghost use Rattle.trfc_protocol.specs.RecordOf.{Writing, record_of};
     ghost use Rattle.system_tables.specs.Tables.{TablesOf};
     ghost use Rattle.unit_landscape.specs.Writes.{DiskAs, Appends};
     ghost use Rattle.unit_landscape.specs.Calls.{FinishedAs, finish_event, stands_in, is_offered_function};
     ghost use Rattle.unit_landscape.specs.Appending.{HoldsIn};
 
-    /// The work of a claim ends: the unit is executed where its receiver offers its function, and fails otherwise. What was made for
-    /// the application goes with the record of the execution.
+    /// The work of a claim ends: the unit is executed where its receiver offers its function, as is handed in, and fails otherwise. What
+    /// was made for the application goes with the record of the execution.
     ///
     /// `Stale` comes exactly where the claim does not stand, and then nothing has changed. After `OutOfMemory` nothing has changed, or
     /// the record stands in its log and the system is down behind it.
-    pub fn finish(&mut self, claim: InClaim, extra: A::Extra) -> Result<Finished, WorkEnd>
+    pub fn finish(
+        &mut self,
+        claim: InClaim,
+        offered: bool,
+        extra: A::Extra,
+    ) -> Result<Finished, WorkEnd>
+        requires offered { stands_in self.old.world claim ≡ true
+            → offered ≡ is_offered_function (R.meaning self.old.world.rules) self.old.world claim.tid }
         requires goes { stands_in self.old.world claim ≡ true → (it : Writing)
             → record_of (R.meaning self.old.world.rules) self.old.world (event.Finish claim.number) ≡ Some it
-            → (its : TablesOf A) → slice_get self.old.tables (it.system - 1) ≡ Some its → A.goes_with its.application it.next extra }
+            → (its : TablesOf A) → slice_get self.old.tables (it.system - 1) ≡ Some its → A.goes_with its.application (log_of self.old.world it.system) it.next extra }
         ensures ends { FinishedAs (R.meaning self.old.world.rules) V.faults self.old self.new claim result }
         ensures disk { DiskAs V.told V.volume V.moment V.images_since self.old self.new
             (record_of (R.meaning self.old.world.rules) self.old.world (finish_event (R.meaning self.old.world.rules) self.old.world claim)) }
@@ -41,10 +48,10 @@ impl<R: Rules, A: Application, V: Volumes> UnitLandscape<R, A, V> {
         let Some(held) = self.held_in(&claim) else {
             return Err(WorkEnd::Stale);
         };
-        match self.offers_function(claim.tid) {
-            Ok(true) => self.execute(claim, held, extra),
-            Ok(false) => self.fail(claim, held),
-            Err(_) => Err(WorkEnd::OutOfMemory),
+        if offered {
+            self.execute(claim, held, extra)
+        } else {
+            self.fail(claim, held)
         }
     }
 
@@ -60,22 +67,12 @@ impl<R: Rules, A: Application, V: Volumes> UnitLandscape<R, A, V> {
         Some(held)
     }
 
-    /// Whether the receiver of the unit of an id offers its function.
-    fn offers_function(&self, tid: Tid) -> Result<bool, OutOfMemory>
-        ensures { IfOk result (λ offers. offers ≡ is_offered_function (R.meaning self.now.world.rules) self.now.world tid) }
-    {
-        match self.unit(tid) {
-            Some(unit) => self.kept.world().offers(self.alloc, unit.receiver, unit),
-            None => Ok(false),
-        }
-    }
-
     /// A unit is executed.
     fn execute(&mut self, claim: InClaim, held: Held, extra: A::Extra) -> Result<Finished, WorkEnd>
         requires holds { HoldsIn self.old.world claim held }
         requires offers { is_offered_function (R.meaning self.old.world.rules) self.old.world claim.tid ≡ true }
         requires goes { (it : Writing) → record_of (R.meaning self.old.world.rules) self.old.world (event.Finish claim.number) ≡ Some it
-            → (its : TablesOf A) → slice_get self.old.tables (it.system - 1) ≡ Some its → A.goes_with its.application it.next extra }
+            → (its : TablesOf A) → slice_get self.old.tables (it.system - 1) ≡ Some its → A.goes_with its.application (log_of self.old.world it.system) it.next extra }
         ensures ends { FinishedAs (R.meaning self.old.world.rules) V.faults self.old self.new claim result }
         ensures disk { DiskAs V.told V.volume V.moment V.images_since self.old self.new
             (record_of (R.meaning self.old.world.rules) self.old.world (finish_event (R.meaning self.old.world.rules) self.old.world claim)) }

@@ -16,13 +16,13 @@ use trfc_protocol::{Answer, Rules};
 use unit_core::{AleUnit, Record};
 
 impl<R: Rules, A: Application, V: Volumes> UnitLandscape<R, A, V> {
-    ghost use Rattle.std.specs.Prelude.{◌≡◌, ◌-◌, Some, true, false, IfOk, is_some, slice_get};
+    ghost use Rattle.std.specs.Prelude.{◌≡◌, ◌-◌, Some, true, false, is_some, slice_get};
     ghost use Rattle.unit_core.specs.declared.ale_unit.AleUnit.{AleUnit};
     ghost use Rattle.unit_core.specs.declared.records.Record.TheVariants as log;
     ghost use Rattle.trfc_protocol.specs.declared.answer.Answer.TheVariants as answer;
     ghost use Rattle.trfc_protocol.specs.declared.held.HeldKind.TheVariants.{Direct};
-    ghost use Rattle.trfc_protocol.specs.Worlds.{is_up, committed_unit, is_claimed};
-    ghost use Rattle.trfc_protocol.specs.Offered.{may_arrive, answer_to};
+    ghost use Rattle.trfc_protocol.specs.Worlds.{log_of, is_up, committed_unit, is_claimed};
+    ghost use Rattle.trfc_protocol.specs.Offered.{answer_to};
     ghost use Rattle.system_tables.specs.Tables.{TablesOf};
     ghost use Rattle.unit_landscape.specs.Writes.{DiskAs};
     ghost use Rattle.unit_landscape.specs.Late.{LateAs, late_record, is_lost, IsLateUnit, ComesLate};
@@ -36,7 +36,7 @@ impl<R: Rules, A: Application, V: Volumes> UnitLandscape<R, A, V> {
         requires alone { is_claimed Direct tid self.old.world.claims ≡ false }
         requires goes { (unit : AleUnit) → committed_unit (R.meaning self.old.world.rules) self.old.world tid ≡ Some unit
             → answer_to (R.meaning self.old.world.rules) self.old.world unit ≡ answer.Run
-            → (its : TablesOf A) → slice_get self.old.tables (unit.receiver - 1) ≡ Some its → A.goes_with its.application (log.Direct unit) extra }
+            → (its : TablesOf A) → slice_get self.old.tables (unit.receiver - 1) ≡ Some its → A.goes_with its.application (log_of self.old.world unit.receiver) (log.Direct unit) extra }
         ensures ends { LateAs (R.meaning self.old.world.rules) V.faults self.old self.new tid result }
         ensures disk { DiskAs V.told V.volume V.moment V.images_since self.old self.new
             (late_record (R.meaning self.old.world.rules) self.old.world tid) }
@@ -46,11 +46,10 @@ impl<R: Rules, A: Application, V: Volumes> UnitLandscape<R, A, V> {
             Ok(unit) => unit,
             Err(why) => return Err(why),
         };
-        let given = match self.answer_to(&unit) {
-            Ok(given) => given,
-            Err(_) => return Err(LateEnd::OutOfMemory),
+        let Ok(offered) = self.kept.world().offers(self.alloc, unit.receiver, &unit) else {
+            return Err(LateEnd::OutOfMemory);
         };
-        match given {
+        match self.answer_to(&unit, offered) {
             Answer::New => self.take_late(unit),
             Answer::Run => self.run_late(unit, extra),
             Answer::Known => Ok(Late::Known),
@@ -108,7 +107,7 @@ impl<R: Rules, A: Application, V: Volumes> UnitLandscape<R, A, V> {
     /// A unit that comes late is run. Its claim is made for its record, and given up where that is not appended.
     fn run_late(&mut self, unit: AleUnit, extra: A::Extra) -> Result<Late, LateEnd>
         requires comes { ComesLate (R.meaning self.old.world.rules) self.old.world unit answer.Run }
-        requires goes { (its : TablesOf A) → slice_get self.old.tables (unit.receiver - 1) ≡ Some its → A.goes_with its.application (log.Direct unit) extra }
+        requires goes { (its : TablesOf A) → slice_get self.old.tables (unit.receiver - 1) ≡ Some its → A.goes_with its.application (log_of self.old.world unit.receiver) (log.Direct unit) extra }
         ensures ends { LateAs (R.meaning self.old.world.rules) V.faults self.old self.new unit.tid result }
         ensures disk { DiskAs V.told V.volume V.moment V.images_since self.old self.new
             (late_record (R.meaning self.old.world.rules) self.old.world unit.tid) }

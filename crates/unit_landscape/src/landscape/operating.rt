@@ -44,7 +44,7 @@ impl<R: Rules, A: Application, V: Volumes> UnitLandscape<R, A, V> {
         requires writable { IsWritable next }
         requires commits { (R.meaning self.old.world.rules).committed system (log_of self.old.world system ++ next ∷ [])
             ≡ (R.meaning self.old.world.rules).committed system (log_of self.old.world system) ++ more.now }
-        requires goes { (its : TablesOf A) → slice_get self.old.tables (system - 1) ≡ Some its → A.goes_with its.application next extra }
+        requires goes { (its : TablesOf A) → slice_get self.old.tables (system - 1) ≡ Some its → A.goes_with its.application (log_of self.old.world system) next extra }
         ensures ends { AppendsAs (R.meaning self.old.world.rules) V.faults self.old self.new (event.Commit system next) (at system next) result }
         ensures disk { DiskAs V.told V.volume V.moment V.images_since self.old self.new
             (record_of (R.meaning self.old.world.rules) self.old.world (event.Commit system next)) }
@@ -62,7 +62,7 @@ impl<R: Rules, A: Application, V: Volumes> UnitLandscape<R, A, V> {
     ) -> Result<(), AppendEnd>
         requires possible { record_of (R.meaning self.old.world.rules) self.old.world (event.Operator (Append system next)) ≡ Some (at system next) }
         requires writable { IsWritable next }
-        requires goes { (its : TablesOf A) → slice_get self.old.tables (system - 1) ≡ Some its → A.goes_with its.application next extra }
+        requires goes { (its : TablesOf A) → slice_get self.old.tables (system - 1) ≡ Some its → A.goes_with its.application (log_of self.old.world system) next extra }
         ensures ends { AppendsAs (R.meaning self.old.world.rules) V.faults self.old self.new (event.Operator (Append system next)) (at system next) result }
         ensures disk { DiskAs V.told V.volume V.moment V.images_since self.old self.new
             (record_of (R.meaning self.old.world.rules) self.old.world (event.Operator (Append system next))) }

@@ -1,6 +1,7 @@
 use Rattle.std.proofs.Common.{[], None, sym, subst}
 use Rattle.trfc_protocol.specs.declared.event.Event.TheVariants as event
 use Rattle.trfc_protocol.specs.declared.event.Action.TheVariants.{Append}
+use Rattle.trfc_protocol.specs.Worlds.{log_of}
 use Rattle.unit_landscape.specs.Kept.{IsLandscape}
 use Rattle.unit_landscape.specs.Calls.{OperatedAs}
 use Rattle.unit_landscape.specs.Writes.{WritesOnly}
@@ -23,7 +24,7 @@ record-requires-clause-due g c =
       commits = event-none_more rules (g.met.R.Rules.lawful c.args.self.now.world.rules) world is.safe is.writable
           (event.Operator (Append c.args.system c.args.next))
           c.args.system c.args.next None does (operators-plain c.args.next c.requires.kind);
-      goes = λ its there. c.nothing.ensures its.application c.args.next c.requires.silent;
+      goes = λ its there. c.nothing.ensures its.application (log_of c.args.self.now.world c.args.system) c.args.next c.requires.silent;
     })
 
 pub returns-clause-ends : goal.returns-clause-ends

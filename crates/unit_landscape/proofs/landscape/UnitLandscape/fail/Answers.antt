@@ -2,6 +2,7 @@ use Rattle.std.proofs.Common.{Some, [], cond, refl, sym, ap, subst, ◌∙◌}
 use Rattle.unit_core.specs.declared.records.Record.TheVariants as log
 use Rattle.trfc_protocol.specs.declared.event.Event.TheVariants as event
 use Rattle.trfc_protocol.specs.RecordOf.{record_of}
+use Rattle.trfc_protocol.specs.Worlds.{log_of}
 use Rattle.unit_landscape.specs.Kept.{IsLandscape}
 use Rattle.unit_landscape.specs.Writes.{WritesOnly}
 use Rattle.unit_landscape.specs.Calls.{FinishedAs}
@@ -24,7 +25,7 @@ append-appended-requires-clause-due g c =
       appends = does;
       commits = event-none_more rules lawful c.args.self.now.world is.safe is.writable (event.Fail c.args.held.number)
           c.args.held.system (log.Fail c.args.held.tid) (Some c.args.held.number) does refl;
-      goes = λ its there. c.nothing.ensures its.application (log.Fail c.args.held.tid) refl;
+      goes = λ its there. c.nothing.ensures its.application (log_of c.args.self.now.world c.args.held.system) (log.Fail c.args.held.tid) refl;
     })
 
 pub returns-clause-ends : goal.returns-clause-ends

@@ -2,6 +2,7 @@ use Rattle.std.specs.Prelude.{IfOk, OnErr}
 use Rattle.std.proofs.Common.{None, [], refl, sym, subst}
 use Rattle.unit_core.specs.declared.records.Record.TheVariants as log
 use Rattle.trfc_protocol.specs.declared.event.Event.TheVariants as event
+use Rattle.trfc_protocol.specs.Worlds.{log_of}
 use Rattle.unit_landscape.specs.Kept.{IsLandscape}
 use Rattle.unit_landscape.specs.Writes.{WritesOnly}
 use Rattle.unit_landscape.specs.Ends.{IsShort}
@@ -23,7 +24,7 @@ append-requires-clause-due g c =
       event = event.Confirm c.args.tid;
       appends = does;
       commits = event-none_more rules lawful c.args.self.now.world is.safe is.writable (event.Confirm c.args.tid) c.args.receiver (log.Forget c.args.tid) None does refl;
-      goes = λ its there. c.nothing.ensures its.application (log.Forget c.args.tid) refl;
+      goes = λ its there. c.nothing.ensures its.application (log_of c.args.self.now.world c.args.receiver) (log.Forget c.args.tid) refl;
     })
 
 pub returns-clause-event : goal.returns-clause-event

@@ -16,16 +16,16 @@ returns-in-Err-clause-disk g c =
     (late-still g.V.Volumes.told g.V.Volumes.volume g.V.Volumes.moment g.V.Volumes.images_since c.self.inside.kept g.met.V.Volumes.only_now
     c.world.ensures.kept.on_volumes (g.R.Rules.meaning c.self.inside.kept.world.rules) c.args.tid)
 
-pub answer_to-requires : goal.answer_to-requires
-answer_to-requires g c =
+pub answer_to-requires-clause-may : goal.answer_to-requires-clause-may
+answer_to-requires-clause-may g c =
     let world = c.args.self.now.world in
     let rules = g.R.Rules.meaning c.args.self.now.world.rules in
     let lawful = g.met.R.Rules.lawful c.args.self.now.world.rules in
     let is = subst (λ k. IsLandscape g.R.Rules.meaning k.world) c.self.view_is c.self.invariant in
     late_may_arrive rules lawful world is.safe c.args.tid c.in-Ok.unit c.in-Ok.ensures
 
-pub returns-in-Err-answer_to-clause-disk : goal.returns-in-Err-answer_to-clause-disk
-returns-in-Err-answer_to-clause-disk g c =
+pub returns-in_default-clause-disk : goal.returns-in_default-clause-disk
+returns-in_default-clause-disk g c =
     subst (λ k. DiskAs g.V.Volumes.told g.V.Volumes.volume g.V.Volumes.moment g.V.Volumes.images_since k k
     (late_record (g.R.Rules.meaning k.world.rules) k.world c.args.tid)) c.self.view_is
     (late-still g.V.Volumes.told g.V.Volumes.volume g.V.Volumes.moment g.V.Volumes.images_since c.self.inside.kept g.met.V.Volumes.only_now
@@ -37,7 +37,7 @@ take_late-requires g c =
     let rules = g.R.Rules.meaning c.args.self.now.world.rules in
     let lawful = g.met.R.Rules.lawful c.args.self.now.world.rules in
     let is = subst (λ k. IsLandscape g.R.Rules.meaning k.world) c.self.view_is c.self.invariant in
-    late-comes rules lawful world is.safe c.args.tid c.in-Ok.unit answer.New c.in-Ok.ensures (sym c.in-Ok-answer_to.ensures ∙ c.in-New.is)
+    late-comes rules lawful world is.safe c.args.tid c.in-Ok.unit answer.New c.in-Ok.ensures (sym c.answer_to.ensures ∙ c.in-New.is)
 
 pub run_late-requires-clause-comes : goal.run_late-requires-clause-comes
 run_late-requires-clause-comes g c =
@@ -45,7 +45,7 @@ run_late-requires-clause-comes g c =
     let rules = g.R.Rules.meaning c.args.self.now.world.rules in
     let lawful = g.met.R.Rules.lawful c.args.self.now.world.rules in
     let is = subst (λ k. IsLandscape g.R.Rules.meaning k.world) c.self.view_is c.self.invariant in
-    late-comes rules lawful world is.safe c.args.tid c.in-Ok.unit answer.Run c.in-Ok.ensures (sym c.in-Ok-answer_to.ensures ∙ c.in-Run.is)
+    late-comes rules lawful world is.safe c.args.tid c.in-Ok.unit answer.Run c.in-Ok.ensures (sym c.answer_to.ensures ∙ c.in-Run.is)
 
 pub unreachable-requires : goal.unreachable-requires
 unreachable-requires g c =
@@ -56,7 +56,7 @@ unreachable-requires g c =
     not_busy rules world c.in-Ok.unit
     (subst (λ t. is_claimed Direct t c.args.self.now.world.claims ≡ false)
     (sym (late-its rules lawful world is.safe c.args.tid c.in-Ok.unit c.in-Ok.ensures)) c.requires.alone)
-    (sym c.in-Ok-answer_to.ensures ∙ c.in-Busy.is)
+    (sym c.answer_to.ensures ∙ c.in-Busy.is)
 
 pub returns-in-New-clause-ends : goal.returns-in-New-clause-ends
 returns-in-New-clause-ends g c =
@@ -102,7 +102,7 @@ returns-in-Known-clause-ends g c =
     let rules = g.R.Rules.meaning c.args.self.now.world.rules in
     let lawful = g.met.R.Rules.lawful c.args.self.now.world.rules in
     let is = subst (λ k. IsLandscape g.R.Rules.meaning k.world) c.self.view_is c.self.invariant in
-    let given = sym c.in-Ok-answer_to.ensures ∙ c.in-Known.is in
+    let given = sym c.answer_to.ensures ∙ c.in-Known.is in
     let arrives = comes-arrives rules lawful world is.safe c.in-Ok.unit answer.Known
     (late-comes rules lawful world is.safe c.args.tid c.in-Ok.unit answer.Known c.in-Ok.ensures given) in
     (c.in-Ok.unit, c.in-Ok.ensures, ((given, arrived-still rules g.V.Volumes.faults c.args.self.now c.in-Ok.unit answer.Known arrives refl refl), refl))
@@ -113,7 +113,7 @@ returns-in-SysFail-clause-ends g c =
     let rules = g.R.Rules.meaning c.args.self.now.world.rules in
     let lawful = g.met.R.Rules.lawful c.args.self.now.world.rules in
     let is = subst (λ k. IsLandscape g.R.Rules.meaning k.world) c.self.view_is c.self.invariant in
-    let given = sym c.in-Ok-answer_to.ensures ∙ c.in-SysFail.is in
+    let given = sym c.answer_to.ensures ∙ c.in-SysFail.is in
     let arrives = comes-arrives rules lawful world is.safe c.in-Ok.unit answer.SysFail
     (late-comes rules lawful world is.safe c.args.tid c.in-Ok.unit answer.SysFail c.in-Ok.ensures given) in
     (c.in-Ok.unit, c.in-Ok.ensures, ((given, arrived-still rules g.V.Volumes.faults c.args.self.now c.in-Ok.unit answer.SysFail arrives refl refl), refl))
@@ -124,7 +124,7 @@ returns-in-Down-clause-ends g c =
     let rules = g.R.Rules.meaning c.args.self.now.world.rules in
     let lawful = g.met.R.Rules.lawful c.args.self.now.world.rules in
     let is = subst (λ k. IsLandscape g.R.Rules.meaning k.world) c.self.view_is c.self.invariant in
-    let given = sym c.in-Ok-answer_to.ensures ∙ c.in-Down.is in
+    let given = sym c.answer_to.ensures ∙ c.in-Down.is in
     let arrives = comes-arrives rules lawful world is.safe c.in-Ok.unit answer.Down
     (late-comes rules lawful world is.safe c.args.tid c.in-Ok.unit answer.Down c.in-Ok.ensures given) in
     (c.in-Ok.unit, c.in-Ok.ensures, inl ((given, arrived-still rules g.V.Volumes.faults c.args.self.now c.in-Ok.unit answer.Down arrives refl refl), refl))

@@ -3,6 +3,7 @@ use Rattle.std.specs.Prelude.{slice_get}
 use Rattle.unit_core.specs.declared.records.Record.TheVariants as log
 use Rattle.trfc_protocol.specs.declared.answer.Answer.TheVariants as answer
 use Rattle.trfc_protocol.specs.declared.event.Event.TheVariants as event
+use Rattle.trfc_protocol.specs.Worlds.{log_of}
 use Rattle.unit_landscape.specs.Kept.{IsLandscape}
 use Rattle.unit_landscape.specs.Writes.{DiskAs}
 use Rattle.unit_landscape.specs.Appending.{at, IsDue, EndsAs}
@@ -63,7 +64,9 @@ record-appended-requires-clause-due g c =
       appends = does;
       commits = event-none_more rules lawful (claimed_by kept unit).world is.safe is.writable (event.Finish number) c.args.unit.receiver
           (log.Direct c.args.unit) (Some number) does refl;
-      goes = λ its there. c.requires.goes its (ap (λ k. slice_get k.tables (c.args.unit.receiver - 1)) (sym c.self.view_is) ∙ there);
+      goes = λ its there.
+          subst (λ k. g.A.Application.goes_with its.application (log_of k.world c.args.unit.receiver) (log.Direct c.args.unit) c.args.extra) (sym c.self.view_is)
+          (c.requires.goes its (ap (λ k. slice_get k.tables (c.args.unit.receiver - 1)) (sym c.self.view_is) ∙ there));
     }))
 
 pub returns-clause-ends : goal.returns-clause-ends

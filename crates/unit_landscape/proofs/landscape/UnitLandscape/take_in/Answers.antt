@@ -4,6 +4,7 @@ use Rattle.trfc_protocol.specs.declared.answer.Answer.TheVariants as answer
 use Rattle.trfc_protocol.specs.declared.event.Event.TheVariants as event
 use Rattle.trfc_protocol.specs.Legal.{is_commit}
 use Rattle.trfc_protocol.specs.RecordOf.{record_of}
+use Rattle.trfc_protocol.specs.Worlds.{log_of}
 use Rattle.system_tables.specs.Concerns.{concerns_application}
 use Rattle.unit_landscape.specs.Writes.{Appends, DiskAs}
 use Rattle.unit_landscape.specs.Ends.{IsShort}
@@ -38,7 +39,7 @@ append-requires-clause-due g c =
       appends = does;
       commits = event-none_more rules (g.met.R.Rules.lawful c.self.inside.kept.world.rules) world c.self.invariant.safe c.self.invariant.writable
           (event.Arrive c.args.unit.now.tid) c.args.unit.now.receiver c.in_ok-next.next None does (subst (λ next. is_commit next ≡ false) (sym c.in_ok-next.ensures) refl);
-      goes = λ its at. c.nothing.ensures its.application c.in_ok-next.next (subst (λ next. concerns_application next ≡ false) (sym c.in_ok-next.ensures) refl);
+      goes = λ its at. c.nothing.ensures its.application (log_of c.self.inside.kept.world c.args.unit.now.receiver) c.in_ok-next.next (subst (λ next. concerns_application next ≡ false) (sym c.in_ok-next.ensures) refl);
     }
 
 pub returns-clause-event : goal.returns-clause-event

@@ -2,6 +2,7 @@ use Rattle.std.proofs.Common.{[], None, refl, sym, subst}
 use Rattle.unit_core.specs.declared.records.Record.TheVariants as log
 use Rattle.trfc_protocol.specs.declared.answer.Answer.TheVariants as answer
 use Rattle.trfc_protocol.specs.declared.event.Event.TheVariants as event
+use Rattle.trfc_protocol.specs.Worlds.{log_of}
 use Rattle.unit_landscape.specs.Kept.{IsLandscape}
 use Rattle.unit_landscape.specs.Appending.{IsDue, EndsAs}
 use Rattle.unit_landscape.specs.Late.{LateAs}
@@ -24,7 +25,7 @@ record-requires-clause-due g c =
       appends = does;
       commits = event-none_more rules lawful world is.safe is.writable (event.Arrive c.args.unit.tid) c.args.unit.receiver
           (log.Accept c.args.unit) None does refl;
-      goes = λ its there. c.nothing.ensures its.application (log.Accept c.args.unit) refl;
+      goes = λ its there. c.nothing.ensures its.application (log_of c.args.self.now.world c.args.unit.receiver) (log.Accept c.args.unit) refl;
     })
 
 pub returns-clause-ends : goal.returns-clause-ends
