@@ -3,6 +3,7 @@
 
 mod deeds;
 mod handed;
+mod late;
 mod operating;
 mod receiving;
 mod sending;
@@ -15,7 +16,7 @@ use crate::scene::first_world;
 use crate::text::Text;
 use crate::units::{Lists, lists_of};
 use crate::words::{ItemWord, Words, meaning_of};
-use ale_base::{Items, OutOfMemory};
+use ale_base::{Items, OutOfMemory, SystemNo};
 use case_form::{CaseFault, Item, LineEnd, Step};
 use deeds::Deed;
 use std::alloc::Global;
@@ -36,13 +37,14 @@ enum CallWord {
     Start,
     Retry,
     Revoke,
+    Late,
     Crash,
     Holds,
     Quiet,
 }
 
 impl CallWord {
-    const WORDS: [(&'static [u8], CallWord); 14] = [
+    const WORDS: [(&'static [u8], CallWord); 15] = [
         (b"commit", CallWord::Commit),
         (b"claim", CallWord::Claim),
         (b"arrive", CallWord::Arrive),
@@ -54,6 +56,7 @@ impl CallWord {
         (b"start", CallWord::Start),
         (b"retry", CallWord::Retry),
         (b"revoke", CallWord::Revoke),
+        (b"late", CallWord::Late),
         (b"crash", CallWord::Crash),
         (b"holds", CallWord::Holds),
         (b"quiet", CallWord::Quiet),
@@ -62,7 +65,8 @@ impl CallWord {
 
 /// A landscape that is called, with what it handed out, and the events that the calls were.
 ///
-/// Its methods, by file: in `sending` those of a unit's sender, in `receiving` those of its receiver, and in `operating` the others.
+/// Its methods, by file: in `sending` those of a unit's sender, in `receiving` those of its receiver, in `late` that of a late request,
+/// and in `operating` the others.
 #[derive(Drop)]
 struct Caller {
     alloc: Global,
@@ -136,23 +140,24 @@ impl Caller {
 
     /// Makes the call of an item, puts its answer, and notes the event that it was.
     fn play(&mut self, item: &Item, found: &mut Text) -> Result<(), CaseFault> {
-        match self.deed(item.rest.as_slice(), found) {
-            Ok(deed) => Ok(self.note(deed)?),
+        match self.play_line(item.rest.as_slice(), found) {
+            Ok(()) => Ok(()),
             Err(end) => Err(end.at(item.line)),
         }
     }
 
-    /// Makes the call of a line, and puts its answer.
-    fn deed(&mut self, line: &[u8], found: &mut Text) -> Result<Deed, LineEnd> {
+    /// Makes the call of a line, puts its answer, and notes the event that it was.
+    fn play_line(&mut self, line: &[u8], found: &mut Text) -> Result<(), LineEnd> {
         let mut words = Words::of(line);
         let Some(word) = meaning_of(&CallWord::WORDS, words.word()) else {
             return Err(rules::BAD_CALL.into());
         };
         let deed = self.make(word, &mut words, found)?;
-        words.end()?;
-        Ok(deed)
+        self.note(deed)?;
+        Ok(words.end()?)
     }
 
+    /// Makes the call of a word.
     fn make(
         &mut self,
         word: CallWord,
@@ -171,6 +176,7 @@ impl Caller {
             CallWord::Start => self.switch(words, false, found),
             CallWord::Retry => self.retry(words, found),
             CallWord::Revoke => self.revoke(found),
+            CallWord::Late => self.late(words, found),
             CallWord::Crash => self.crash(words, found),
             CallWord::Holds => self.holds(words, found),
             CallWord::Quiet => self.quiet(found),
@@ -182,14 +188,25 @@ impl Caller {
         match deed {
             Deed::Nothing => Ok(()),
             Deed::Happens(event) => Ok(self.events.push(event)?),
-            Deed::Falls(system) => {
-                let kept = match self.landscape.world().rest(system) {
-                    Some(rest) => Some(rest.copied()?),
-                    None => None,
-                };
-                Ok(self.events.push(Event::Fall { system, kept })?)
+            Deed::Both(event, next) => {
+                self.events.push(event)?;
+                Ok(self.events.push(next)?)
+            }
+            Deed::Falls(system) => self.note_fall(system),
+            Deed::FallsBehind(event, system) => {
+                self.events.push(event)?;
+                self.note_fall(system)
             }
         }
+    }
+
+    /// Notes the fall of a system, with the record that it may find.
+    fn note_fall(&mut self, system: SystemNo) -> Result<(), OutOfMemory> {
+        let kept = match self.landscape.world().rest(system) {
+            Some(rest) => Some(rest.copied()?),
+            None => None,
+        };
+        Ok(self.events.push(Event::Fall { system, kept })?)
     }
 
     /// Whether the protocol, to which the same events happened, has another world.

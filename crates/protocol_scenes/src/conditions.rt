@@ -3,6 +3,8 @@
 ghost use Rattle.std.specs.Prelude.{◌≡◌, IfOk};
 ghost use Rattle.unit_core.specs.Filters.{done_in, forgotten_in};
 ghost use Rattle.unit_core.specs.Queues.{is_listed};
+ghost use Rattle.trfc_protocol.specs.ListedRules.{listed_meaning};
+ghost use Rattle.unit_landscape.specs.Calls.{is_offered_function};
 ghost use Rattle.protocol_scenes.specs.Worlds.{IsSafeWorld};
 
 use crate::beginning::Landscape;
@@ -10,9 +12,9 @@ use crate::committing::{NextCommit, next_commit};
 use ale_base::{OutOfMemory, SystemNo, Tid};
 use kept_world::AppendEnd;
 use std::alloc::Global;
-use trfc_protocol::{ListedRules, World};
+use trfc_protocol::{HeldKind, ListedRules, World};
 use unit_core::{Record, done_in, forgotten_in, is_listed};
-use unit_landscape::{Arrival, Closed, Confirmed, Finished, InClaim, WorkEnd};
+use unit_landscape::{Arrival, Closed, Confirmed, Finished, InClaim, Late, LateEnd, WorkEnd};
 
 /// A system commits the next of its units, with the documents of that unit. None where it can't.
 pub(crate) fn commit(
@@ -40,12 +42,36 @@ pub(crate) fn arrive(
     if unit.tid != tid || !world.may_arrive(alloc, &unit)? {
         return Ok(None);
     }
-    Ok(Some(landscape.arrive(&unit)?))
+    let offered = world.offers(alloc, unit.receiver, &unit)?;
+    Ok(Some(landscape.arrive(&unit, offered)?))
 }
 
 /// The work of a claim ends.
-pub(crate) fn finish(landscape: &mut Landscape, claim: InClaim) -> Result<Finished, WorkEnd> {
-    landscape.finish(claim, ())
+pub(crate) fn finish(
+    alloc: Global,
+    landscape: &mut Landscape,
+    claim: InClaim,
+) -> Result<Result<Finished, WorkEnd>, OutOfMemory> {
+    let offered = is_offered(alloc, landscape, claim.tid())?;
+    Ok(landscape.finish(claim, offered, ()))
+}
+
+/// Whether the receiver of the unit of an id offers its function.
+fn is_offered(alloc: Global, landscape: &Landscape, tid: Tid) -> Result<bool, OutOfMemory>
+    ensures { IfOk result (λ offers. offers ≡ is_offered_function (listed_meaning landscape.now.world.rules.units) landscape.now.world tid) }
+{
+    match landscape.unit(tid) {
+        Some(unit) => world_of(landscape).offers(alloc, unit.receiver, unit),
+        None => Ok(false),
+    }
+}
+
+/// An earlier request of a unit comes to its receiver now. None where a run of the unit is claimed.
+pub(crate) fn late(landscape: &mut Landscape, tid: Tid) -> Option<Result<Late, LateEnd>> {
+    if world_of(landscape).is_claimed(HeldKind::Direct, tid) {
+        return None;
+    }
+    Some(landscape.late(tid, ()))
 }
 
 /// The confirmation of a unit comes to its receiver. None where the unit is not done.

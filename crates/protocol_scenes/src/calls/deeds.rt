@@ -10,8 +10,12 @@ pub(crate) enum Deed {
     Nothing,
     /// This event happened.
     Happens(Event),
+    /// These events happened, one after the other.
+    Both(Event, Event),
     /// The system fell in place of the event.
     Falls(SystemNo),
+    /// This event happened, and the system fell in place of the next one.
+    FallsBehind(Event, SystemNo),
 }
 
 impl Deed {

@@ -125,16 +125,29 @@ fn operated(
     next: Record,
     found: &mut Text,
 ) -> Result<Deed, LineEnd> {
-    let (word, deed) = match end {
-        Ok(()) => (b"appended".as_slice(), appended(system, next)),
-        Err(OperatorEnd::Down) => (b"down".as_slice(), Deed::Nothing),
-        Err(OperatorEnd::NotAllowed) => (b"not allowed".as_slice(), Deed::Nothing),
-        Err(OperatorEnd::Full(_)) => (b"full".as_slice(), Deed::Nothing),
-        Err(OperatorEnd::Volume) => (b"volume fault".as_slice(), Deed::Falls(system)),
-        Err(OperatorEnd::OutOfMemory) => return Err(LineEnd::OutOfMemory),
-    };
-    found.put_line(word)?;
-    Ok(deed)
+    found.put_line(word_of_operated(&end)?)?;
+    Ok(deed_of_operated(&end, system, next))
+}
+
+/// The word for how an operator's record was appended.
+fn word_of_operated(end: &Result<(), OperatorEnd>) -> Result<&'static [u8], LineEnd> {
+    match end {
+        Ok(()) => Ok(b"appended".as_slice()),
+        Err(OperatorEnd::Down) => Ok(b"down".as_slice()),
+        Err(OperatorEnd::NotAllowed) => Ok(b"not allowed".as_slice()),
+        Err(OperatorEnd::Full(_)) => Ok(b"full".as_slice()),
+        Err(OperatorEnd::Volume) => Ok(b"volume fault".as_slice()),
+        Err(OperatorEnd::OutOfMemory) => Err(LineEnd::OutOfMemory),
+    }
+}
+
+/// What the appending of an operator's record did.
+fn deed_of_operated(end: &Result<(), OperatorEnd>, system: SystemNo, next: Record) -> Deed {
+    match end {
+        Ok(()) => appended(system, next),
+        Err(OperatorEnd::Volume) => Deed::Falls(system),
+        Err(_) => Deed::Nothing,
+    }
 }
 
 fn appended(system: SystemNo, next: Record) -> Deed {

@@ -99,21 +99,27 @@ impl Caller {
             return Err(rules::NO_CLAIM.into());
         };
         let system = claim.system();
-        let (word, deed) = match conditions::finish(&mut self.landscape, claim) {
+        let end = conditions::finish(self.alloc, &mut self.landscape, claim)?;
+        found.put_line(word_of_finished(&end)?)?;
+        self.deed_of_finished(end, number, system)
+    }
+
+    /// What the end of a claim's work did; the receipt of an execution is kept.
+    fn deed_of_finished(
+        &mut self,
+        end: Result<Finished, WorkEnd>,
+        number: u64,
+        system: SystemNo,
+    ) -> Result<Deed, LineEnd> {
+        match end {
             Ok(Finished::Executed(receipt)) => {
                 self.receipts.push(receipt)?;
-                (
-                    b"executed".as_slice(),
-                    Deed::Happens(Event::Finish { number }),
-                )
+                Ok(Deed::Happens(Event::Finish { number }))
             }
-            Ok(Finished::Failed) => (b"failed".as_slice(), Deed::Happens(Event::Fail { number })),
-            Ok(Finished::Down) => (b"down".as_slice(), Deed::Falls(system)),
-            Err(WorkEnd::Stale) => (b"stale".as_slice(), Deed::Nothing),
-            Err(WorkEnd::OutOfMemory) => return Err(LineEnd::OutOfMemory),
-        };
-        found.put_line(word)?;
-        Ok(deed)
+            Ok(Finished::Failed) => Ok(Deed::Happens(Event::Fail { number })),
+            Ok(Finished::Down) => Ok(Deed::Falls(system)),
+            Err(_) => Ok(Deed::Nothing),
+        }
     }
 
     /// `confirm UNIT`: its confirmation comes to its receiver.
@@ -125,18 +131,39 @@ impl Caller {
             return Err(rules::NO_UNIT.into());
         };
         let was_up = self.landscape.is_up(receiver);
-        let (word, deed) = match conditions::confirm(self.alloc, &mut self.landscape, tid)? {
-            Some(Confirmed::Forgotten) => {
-                (
-                    b"forgotten".as_slice(),
-                    Deed::Happens(Event::Confirm { tid }),
-                )
-            }
-            Some(Confirmed::Already) => (b"already".as_slice(), Deed::Nothing),
-            Some(Confirmed::Down) => (b"down".as_slice(), Deed::down(was_up, receiver)),
-            None => return Err(rules::NOT_ALLOWED.into()),
+        let Some(end) = conditions::confirm(self.alloc, &mut self.landscape, tid)? else {
+            return Err(rules::NOT_ALLOWED.into());
         };
-        found.put_line(word)?;
-        Ok(deed)
+        found.put_line(word_of_confirmed(&end))?;
+        Ok(deed_of_confirmed(&end, tid, was_up, receiver))
+    }
+}
+
+/// The word for how a claim's work ended.
+fn word_of_finished(end: &Result<Finished, WorkEnd>) -> Result<&'static [u8], LineEnd> {
+    match end {
+        Ok(Finished::Executed(_)) => Ok(b"executed".as_slice()),
+        Ok(Finished::Failed) => Ok(b"failed".as_slice()),
+        Ok(Finished::Down) => Ok(b"down".as_slice()),
+        Err(WorkEnd::Stale) => Ok(b"stale".as_slice()),
+        Err(WorkEnd::OutOfMemory) => Err(LineEnd::OutOfMemory),
+    }
+}
+
+/// The word for what came of a confirmation.
+fn word_of_confirmed(end: &Confirmed) -> &'static [u8] {
+    match end {
+        Confirmed::Forgotten => b"forgotten".as_slice(),
+        Confirmed::Already => b"already".as_slice(),
+        Confirmed::Down => b"down".as_slice(),
+    }
+}
+
+/// What a confirmation did.
+fn deed_of_confirmed(end: &Confirmed, tid: Tid, was_up: bool, receiver: SystemNo) -> Deed {
+    match end {
+        Confirmed::Forgotten => Deed::Happens(Event::Confirm { tid }),
+        Confirmed::Already => Deed::Nothing,
+        Confirmed::Down => Deed::down(was_up, receiver),
     }
 }

@@ -152,15 +152,9 @@ impl Caller {
         found: &mut Text,
     ) -> Result<Deed, LineEnd> {
         let sender = claim.tid().system();
-        let (word, deed) = match self.landscape.reply(claim, given) {
-            Ok(Replied::Recorded) => (b"recorded".as_slice(), Deed::Happens(event)),
-            Ok(Replied::Released) => (b"released".as_slice(), Deed::Happens(event)),
-            Ok(Replied::Down) => (b"down".as_slice(), Deed::Falls(sender)),
-            Err(WorkEnd::Stale) => (b"stale".as_slice(), Deed::Nothing),
-            Err(WorkEnd::OutOfMemory) => return Err(LineEnd::OutOfMemory),
-        };
-        found.put_line(word)?;
-        Ok(deed)
+        let end = self.landscape.reply(claim, given);
+        found.put_line(word_of_replied(&end)?)?;
+        Ok(deed_of_replied(&end, event, sender))
     }
 
     /// `ended UNIT`: its sender hears that its id is forgotten.
@@ -169,14 +163,49 @@ impl Caller {
             return Err(rules::NO_TID.into());
         };
         let was_up = self.landscape.is_up(tid.system());
-        let (word, deed) = match conditions::end(self.alloc, &mut self.landscape, tid)? {
-            Some(Closed::Recorded) => (b"recorded".as_slice(), forgotten(tid)),
-            Some(Closed::Already) => (b"already".as_slice(), Deed::Nothing),
-            Some(Closed::Down) => (b"down".as_slice(), Deed::down(was_up, tid.system())),
-            None => return Err(rules::NOT_ALLOWED.into()),
+        let Some(end) = conditions::end(self.alloc, &mut self.landscape, tid)? else {
+            return Err(rules::NOT_ALLOWED.into());
         };
-        found.put_line(word)?;
-        Ok(deed)
+        found.put_line(word_of_closed(&end))?;
+        Ok(deed_of_closed(&end, tid, was_up))
+    }
+}
+
+/// The word for what came of a reply.
+fn word_of_replied(end: &Result<Replied, WorkEnd>) -> Result<&'static [u8], LineEnd> {
+    match end {
+        Ok(Replied::Recorded) => Ok(b"recorded".as_slice()),
+        Ok(Replied::Released) => Ok(b"released".as_slice()),
+        Ok(Replied::Down) => Ok(b"down".as_slice()),
+        Err(WorkEnd::Stale) => Ok(b"stale".as_slice()),
+        Err(WorkEnd::OutOfMemory) => Err(LineEnd::OutOfMemory),
+    }
+}
+
+/// What a reply did, where it is this event.
+fn deed_of_replied(end: &Result<Replied, WorkEnd>, event: Event, sender: SystemNo) -> Deed {
+    match end {
+        Ok(Replied::Recorded | Replied::Released) => Deed::Happens(event),
+        Ok(Replied::Down) => Deed::Falls(sender),
+        Err(_) => Deed::Nothing,
+    }
+}
+
+/// The word for what came of the news that a unit's id is forgotten.
+fn word_of_closed(end: &Closed) -> &'static [u8] {
+    match end {
+        Closed::Recorded => b"recorded".as_slice(),
+        Closed::Already => b"already".as_slice(),
+        Closed::Down => b"down".as_slice(),
+    }
+}
+
+/// What such news did.
+fn deed_of_closed(end: &Closed, tid: Tid, was_up: bool) -> Deed {
+    match end {
+        Closed::Recorded => forgotten(tid),
+        Closed::Already => Deed::Nothing,
+        Closed::Down => Deed::down(was_up, tid.system()),
     }
 }
 
