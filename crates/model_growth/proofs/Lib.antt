@@ -1,0 +1,8 @@
+-- two lists in pairs
+pub mod ZipLemmas
+-- tests that decide what they test, one by one and in lists
+pub mod DecidedLemmas
+-- an entry keeps another one exactly where its test says so
+pub mod KeptLemmas
+-- no part is unkept exactly where all is kept
+pub mod GrowthLemmas

@@ -1,0 +1,7 @@
+-- what numbers of a model stand for
+pub mod Named
+-- whether an entry of another model keeps one of a model: the tests, and what they decide
+pub mod Tests
+pub mod Kept
+-- whether a model keeps another one
+pub mod Growth

@@ -1,0 +1,12 @@
+//! Whether a model may replace another one of the same landscape.
+//!
+//! Contract: `first_unkept` gives the first part of the old model that the new one does not keep, and none exactly where it
+//! keeps all that a replacement has to keep. The definitions are in `specs/`: `Growth` over those of `Named`, `Tests`, `Kept`.
+#![tactic(auto)]
+
+mod entries;
+mod entry;
+mod growth;
+mod named;
+
+pub use growth::{Unkept, first_unkept};
