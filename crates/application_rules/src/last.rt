@@ -1,0 +1,16 @@
+//! The last status of a document.
+
+ghost use Rattle.std.specs.Prelude.{◌≡◌};
+ghost use Rattle.application_rules.specs.Last.{last_is};
+
+use status_log::Status;
+
+/// Whether the last of these statuses has a code; false where there is none.
+pub fn last_is(code: u8, statuses: &[Status]) -> bool
+    ensures { result ≡ last_is code statuses.now }
+{
+    match statuses.last() {
+        None => false,
+        Some(status) => status.code == code,
+    }
+}
