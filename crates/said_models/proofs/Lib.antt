@@ -1,0 +1,4 @@
+-- the models of a log with one more record
+pub mod OfLogLemmas
+-- a text that says a model
+pub mod SaidLemmas

@@ -1,0 +1,11 @@
+//! The models that the texts of logs say, and which of them is in force.
+//!
+//! Contract: a model is given exactly for a text that says one, and it is that (`Readings::model`). The definitions are in `specs/`:
+//! `Said` (the model that a text says), `OfLog` (the models of a log, and the one in force behind it).
+#![tactic(auto)]
+
+mod reading;
+mod readings;
+
+pub use reading::Reading;
+pub use readings::Readings;
