@@ -14,7 +14,9 @@ use kept_world::AppendEnd;
 use std::alloc::Global;
 use trfc_protocol::{HeldKind, ListedRules, World};
 use unit_core::{Record, done_in, forgotten_in, is_listed};
-use unit_landscape::{Arrival, Closed, Confirmed, Finished, InClaim, Late, LateEnd, WorkEnd};
+use unit_landscape::{
+    Arrival, Closed, Confirmed, Finished, InClaim, Late, LateEnd, OutClaim, Replied, Reply, WorkEnd,
+};
 
 /// A system commits the next of its units, with the documents of that unit. None where it can't.
 pub(crate) fn commit(
@@ -46,6 +48,17 @@ pub(crate) fn arrive(
     Ok(Some(landscape.arrive(&unit, offered)?))
 }
 
+/// The reply to a shipment comes to its claim.
+pub(crate) fn reply(
+    alloc: Global,
+    landscape: &mut Landscape,
+    claim: OutClaim,
+    given: Reply,
+) -> Result<Result<Replied, WorkEnd>, OutOfMemory> {
+    let offered = is_offered(alloc, landscape, claim.tid())?;
+    Ok(landscape.reply(claim, given, offered))
+}
+
 /// The work of a claim ends.
 pub(crate) fn finish(
     alloc: Global,
@@ -67,11 +80,16 @@ fn is_offered(alloc: Global, landscape: &Landscape, tid: Tid) -> Result<bool, Ou
 }
 
 /// An earlier request of a unit comes to its receiver now. None where a run of the unit is claimed.
-pub(crate) fn late(landscape: &mut Landscape, tid: Tid) -> Option<Result<Late, LateEnd>> {
+pub(crate) fn late(
+    alloc: Global,
+    landscape: &mut Landscape,
+    tid: Tid,
+) -> Result<Option<Result<Late, LateEnd>>, OutOfMemory> {
     if world_of(landscape).is_claimed(HeldKind::Direct, tid) {
-        return None;
+        return Ok(None);
     }
-    Some(landscape.late(tid, ()))
+    let offered = is_offered(alloc, landscape, tid)?;
+    Ok(Some(landscape.late(tid, offered, ())))
 }
 
 /// The confirmation of a unit comes to its receiver. None where the unit is not done.

@@ -7,6 +7,7 @@ use Rattle.ale_volumes.specs.Clock.{LeavesOnly, KeepsOthers}
 use Rattle.ale_volumes.proofs.ClockLemmas.{started, others_kept}
 use Rattle.unit_codec.specs.Entries.{entry_with}
 use Rattle.unit_journal.specs.Settled.{IsBeforeOrAfter}
+use Rattle.trfc_protocol.specs.declared.world.World.{World}
 use Rattle.trfc_protocol.specs.declared.event.Event.{Event}
 use Rattle.trfc_protocol.specs.Meaning.{Meaning}
 use Rattle.trfc_protocol.specs.Legal.{IsLawful}
@@ -21,6 +22,7 @@ use Rattle.kept_world.specs.OnVolumes.{AreOnVolumes}
 use Rattle.kept_world.proofs.OnVolumesLemmas.{on_disk-up}
 use Rattle.kept_world.specs.Kept.{KeptOf}
 use Rattle.kept_world.specs.Answers.{KeepsVolumes}
+use Rattle.unit_landscape.specs.Kept.{IsLandscape}
 use Rattle.unit_landscape.specs.Writes.{MomentsAs, WritesOnly, DiskAs}
 use Rattle.unit_landscape.specs.Ends.{Happened}
 
@@ -70,3 +72,14 @@ module _ {R A V : Type 0} (told : Type 0) (volume : V → ℕ → Volume) (momen
       at : (found : Option Writing) → record_of rules before.world e ≡ found → DiskAs told volume moment images_since before after found
       at None is = keeps
       at (Some it) is = writes-nothing only_now on_volumes it (MayWrite-record rules lawful before.world safe e it is).up keeps
+
+-- the same of a call of a landscape, as its callers see it
+pub disk-seen : {R A V : Type 0} (told : Type 0) (volume : V → ℕ → Volume) (moment : V → ℕ) (images_since : V → ℕ → ℕ → List ℕ → Type 0)
+    → (told → (vols : V) (n : ℕ) (image : List ℕ) → images_since vols n (moment vols) image → IsImage (volume vols n) image)
+    → (meaning : R → Meaning) → ((rules : R) → IsLawful (meaning rules)) → (kept seen : KeptOf R A V) → kept ≡ seen → IsLandscape meaning kept.world
+    → AreOnVolumes told volume kept.vols (kept.world).systems kept.journals → (event : World R → Event)
+    → DiskAs told volume moment images_since seen seen (record_of (meaning seen.world.rules) seen.world (event seen.world))
+disk-seen told volume moment images_since only_now meaning lawful kept seen same is on_volumes event =
+    subst (λ k. DiskAs told volume moment images_since k k (record_of (meaning k.world.rules) k.world (event k.world))) same
+    (disk-still told volume moment images_since kept kept only_now on_volumes (meaning kept.world.rules) (lawful kept.world.rules) is.safe (event kept.world)
+    (record { journals = refl; vols = refl }))

@@ -27,7 +27,7 @@ impl Caller {
         };
         let number = self.landscape.world().next_number;
         let receiver = self.late_receiver(tid);
-        let Some(came) = conditions::late(&mut self.landscape, tid) else {
+        let Some(came) = conditions::late(self.alloc, &mut self.landscape, tid)? else {
             return Err(rules::NOT_ALLOWED.into());
         };
         match came {

@@ -85,8 +85,8 @@ impl Caller {
         match heard {
             Heard::Done => self.reply_done(claim, words, found),
             Heard::SysFail => self.reply_refused(claim, found),
-            Heard::Lost => self.reply_lost(claim, found),
-            Heard::Busy => self.reply_busy(claim, found),
+            Heard::Lost => self.replied(claim, Reply::Lost, None, found),
+            Heard::Busy => self.replied(claim, Reply::Busy, Some(CoreAnswer::Busy), found),
         }
     }
 
@@ -108,31 +108,21 @@ impl Caller {
         let Some(receipt) = take_receipt(&mut self.receipts, of) else {
             return Err(rules::NO_RECEIPT.into());
         };
-        let event = if of == tid {
-            answered(claim.number(), CoreAnswer::Done)
+        let counts_as = if of == tid {
+            Some(CoreAnswer::Done)
         } else {
-            lost(claim.number())
+            None
         };
-        self.replied(claim, Reply::Done(receipt), event, found)
+        self.replied(claim, Reply::Done(receipt), counts_as, found)
     }
 
     fn reply_refused(&mut self, claim: OutClaim, found: &mut Text) -> Result<Deed, LineEnd> {
-        let event = if self.is_refused(claim.tid()) {
-            answered(claim.number(), CoreAnswer::SysFail)
+        let counts_as = if self.is_refused(claim.tid()) {
+            Some(CoreAnswer::SysFail)
         } else {
-            lost(claim.number())
+            None
         };
-        self.replied(claim, Reply::SysFail, event, found)
-    }
-
-    fn reply_lost(&mut self, claim: OutClaim, found: &mut Text) -> Result<Deed, LineEnd> {
-        let event = lost(claim.number());
-        self.replied(claim, Reply::Lost, event, found)
-    }
-
-    fn reply_busy(&mut self, claim: OutClaim, found: &mut Text) -> Result<Deed, LineEnd> {
-        let event = answered(claim.number(), CoreAnswer::Busy);
-        self.replied(claim, Reply::Busy, event, found)
+        self.replied(claim, Reply::SysFail, counts_as, found)
     }
 
     /// Whether a unit has no inbound queue, and a function that is not offered.
@@ -143,18 +133,19 @@ impl Caller {
         }
     }
 
-    /// The reply comes to its claim. This event it is, where it is one.
+    /// The reply comes to its claim, and counts as this answer, or as lost.
     fn replied(
         &mut self,
         claim: OutClaim,
         given: Reply,
-        event: Event,
+        counts_as: Option<CoreAnswer>,
         found: &mut Text,
     ) -> Result<Deed, LineEnd> {
+        let number = claim.number();
         let sender = claim.tid().system();
-        let end = self.landscape.reply(claim, given);
+        let end = conditions::reply(self.alloc, &mut self.landscape, claim, given)?;
         found.put_line(word_of_replied(&end)?)?;
-        Ok(deed_of_replied(&end, event, sender))
+        Ok(deed_of_replied(&end, number, counts_as, sender))
     }
 
     /// `ended UNIT`: its sender hears that its id is forgotten.
@@ -182,10 +173,17 @@ fn word_of_replied(end: &Result<Replied, WorkEnd>) -> Result<&'static [u8], Line
     }
 }
 
-/// What a reply did, where it is this event.
-fn deed_of_replied(end: &Result<Replied, WorkEnd>, event: Event, sender: SystemNo) -> Deed {
+/// What a reply under a claim did, that counts as this answer, or as lost.
+fn deed_of_replied(
+    end: &Result<Replied, WorkEnd>,
+    number: u64,
+    counts_as: Option<CoreAnswer>,
+    sender: SystemNo,
+) -> Deed {
     match end {
-        Ok(Replied::Recorded | Replied::Released) => Deed::Happens(event),
+        Ok(Replied::Recorded | Replied::Released) => {
+            Deed::Happens(event_of_reply(number, counts_as))
+        }
         Ok(Replied::Down) => Deed::Falls(sender),
         Err(_) => Deed::Nothing,
     }
@@ -209,14 +207,14 @@ fn deed_of_closed(end: &Closed, tid: Tid, was_up: bool) -> Deed {
     }
 }
 
-fn answered(number: u64, given: CoreAnswer) -> Event {
-    Event::Reply {
-        to: ReplyTo::Claim(number, given),
+/// The event of a reply under a claim.
+fn event_of_reply(number: u64, counts_as: Option<CoreAnswer>) -> Event {
+    match counts_as {
+        Some(given) => Event::Reply {
+            to: ReplyTo::Claim(number, given),
+        },
+        None => Event::LoseReply { number },
     }
-}
-
-fn lost(number: u64) -> Event {
-    Event::LoseReply { number }
 }
 
 fn forgotten(tid: Tid) -> Deed {

@@ -7,7 +7,7 @@ ghost use Rattle.unit_landscape.specs.Late.{is_marked_lost, late_of, GivesUp};
 use super::UnitLandscape;
 use crate::appending::record;
 use crate::{Late, LateEnd};
-use ale_base::{Mark, OutOfMemory, Tid, Way};
+use ale_base::{Mark, Tid, Way};
 use ale_volumes::Volumes;
 use kept_world::{AppendEnd, KeptWorld};
 use plain_queues::NotOffered;
@@ -21,18 +21,22 @@ impl<R: Rules, A: Application, V: Volumes> UnitLandscape<R, A, V> {
     ghost use Rattle.unit_core.specs.declared.records.Record.TheVariants as log;
     ghost use Rattle.trfc_protocol.specs.declared.answer.Answer.TheVariants as answer;
     ghost use Rattle.trfc_protocol.specs.declared.held.HeldKind.TheVariants.{Direct};
-    ghost use Rattle.trfc_protocol.specs.Worlds.{log_of, is_up, committed_unit, is_claimed};
+    ghost use Rattle.trfc_protocol.specs.Worlds.{log_of, is_up, committed_unit, offers_now, is_claimed};
     ghost use Rattle.trfc_protocol.specs.Offered.{answer_to};
     ghost use Rattle.system_tables.specs.Tables.{TablesOf};
     ghost use Rattle.unit_landscape.specs.Writes.{DiskAs};
     ghost use Rattle.unit_landscape.specs.Late.{LateAs, late_record, is_lost, IsLateUnit, ComesLate};
 
     /// An earlier request of a unit comes to its receiver now: the unit arrives, and one that is to run at once is run. Nothing is told
-    /// to its sender. What was made for the application goes with the record of a run.
+    /// to its sender. Whether a receiver that is up offers the unit's function is handed in, so that no log is read for it. What was made
+    /// for the application goes with the record of a run.
     ///
     /// Every refusal leaves all as it was, but that on `Full` of a run the number of its claim is used up. After `OutOfMemory` nothing
     /// else has changed, or the record stands in its log and the receiver is down behind it.
-    pub fn late(&mut self, tid: Tid, extra: A::Extra) -> Result<Late, LateEnd>
+    pub fn late(&mut self, tid: Tid, offered: bool, extra: A::Extra) -> Result<Late, LateEnd>
+        requires offered { (unit : AleUnit) → committed_unit (R.meaning self.old.world.rules) self.old.world tid ≡ Some unit
+            → is_up self.old.world unit.receiver ≡ true
+            → offered ≡ offers_now (R.meaning self.old.world.rules) self.old.world unit.receiver unit.function }
         requires alone { is_claimed Direct tid self.old.world.claims ≡ false }
         requires goes { (unit : AleUnit) → committed_unit (R.meaning self.old.world.rules) self.old.world tid ≡ Some unit
             → answer_to (R.meaning self.old.world.rules) self.old.world unit ≡ answer.Run
@@ -45,9 +49,6 @@ impl<R: Rules, A: Application, V: Volumes> UnitLandscape<R, A, V> {
         let unit = match self.late_unit(tid) {
             Ok(unit) => unit,
             Err(why) => return Err(why),
-        };
-        let Ok(offered) = self.kept.world().offers(self.alloc, unit.receiver, &unit) else {
-            return Err(LateEnd::OutOfMemory);
         };
         match self.answer_to(&unit, offered) {
             Answer::New => self.take_late(unit),

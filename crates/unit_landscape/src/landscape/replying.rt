@@ -14,23 +14,31 @@ use trfc_protocol::{Held, HeldKind, Rules};
 use unit_core::Record;
 
 impl<R: Rules, A: Application, V: Volumes> UnitLandscape<R, A, V> {
-    ghost use Rattle.std.specs.Prelude.{◌≡◌, ◌≢◌, Some, true, false, IfOk, IfSome, IsNone};
+    ghost use Rattle.std.specs.Prelude.{◌≡◌, ◌≢◌, Some, true, false, IfSome, IsNone};
     ghost use Rattle.trfc_protocol.specs.Legal.{is_commit};
     ghost use Rattle.trfc_protocol.specs.Worlds.{committed_unit};
     ghost use Rattle.system_tables.specs.Concerns.{concerns_application};
     ghost use Rattle.trfc_protocol.specs.Offered.{may_arrive};
     ghost use Rattle.trfc_protocol.specs.RecordOf.{record_of};
-    ghost use Rattle.unit_landscape.specs.declared.answers.Reply.TheVariants.{Busy};
+    ghost use Rattle.unit_landscape.specs.declared.answers.Reply.TheVariants.{SysFail, Busy};
     ghost use Rattle.unit_landscape.specs.Writes.{DiskAs, Appends};
-    ghost use Rattle.unit_landscape.specs.Calls.{RepliedAs, reply_event, stands_out, was_received, is_refused};
+    ghost use Rattle.unit_landscape.specs.Calls.{RepliedAs, reply_event, stands_out, was_received, is_refused, is_offered_function};
     ghost use Rattle.unit_landscape.specs.Appending.{HoldsOut};
 
     /// The reply to a shipment comes to its claim. The sender records that its unit is done, or marks it, and the claim is gone; on
-    /// `Busy` it gives up the claim and records nothing.
+    /// `Busy` it gives up the claim and records nothing. Whether the receiver of the unit offers its function is handed in, so that no
+    /// log is read for it; it counts for `SysFail` alone.
     ///
     /// `Stale` comes exactly where the claim does not stand, and then nothing has changed. After `OutOfMemory` nothing has changed, or
     /// the record stands in its log and the system is down behind it.
-    pub fn reply(&mut self, claim: OutClaim, given: Reply) -> Result<Replied, WorkEnd>
+    pub fn reply(
+        &mut self,
+        claim: OutClaim,
+        given: Reply,
+        offered: bool,
+    ) -> Result<Replied, WorkEnd>
+        requires offered { given ≡ SysFail → stands_out self.old.world claim ≡ true
+            → offered ≡ is_offered_function (R.meaning self.old.world.rules) self.old.world claim.tid }
         ensures ends { RepliedAs (R.meaning self.old.world.rules) V.faults self.old self.new claim given result }
         ensures disk { DiskAs V.told V.volume V.moment V.images_since self.old self.new
             (record_of (R.meaning self.old.world.rules) self.old.world (reply_event (R.meaning self.old.world.rules) self.old.world claim given)) }
@@ -44,10 +52,7 @@ impl<R: Rules, A: Application, V: Volumes> UnitLandscape<R, A, V> {
             return Ok(Replied::Released);
         }
         let Held { number, system, .. } = held;
-        let next = match self.reply_record(&claim, held, &given) {
-            Ok(next) => next,
-            Err(_) => return Err(WorkEnd::OutOfMemory),
-        };
+        let next = self.reply_record(&claim, held, &given, offered);
         replied(append(&mut self.kept, system, next, Some(number), A::nothing()))
     }
 
@@ -64,31 +69,25 @@ impl<R: Rules, A: Application, V: Volumes> UnitLandscape<R, A, V> {
     }
 
     /// The record by which a sender notes a reply, other than that the receiver is busy.
-    fn reply_record(
-        &self,
-        claim: &OutClaim,
-        held: Held,
-        given: &Reply,
-    ) -> Result<Record, OutOfMemory>
+    fn reply_record(&self, claim: &OutClaim, held: Held, given: &Reply, offered: bool) -> Record
         requires holds { HoldsOut self.now.world claim.now held }
         requires other { given.now ≢ Busy }
-        ensures appends { IfOk result (λ next. Appends (R.meaning self.now.world.rules) self.now.world held.system next (Some held.number)
-            (reply_event (R.meaning self.now.world.rules) self.now.world claim.now given.now)) }
-        ensures plain { IfOk result (λ next. is_commit next ≡ false) }
-        ensures silent { IfOk result (λ next. concerns_application next ≡ false) }
+        requires offered { given.now ≡ SysFail
+            → offered ≡ is_offered_function (R.meaning self.now.world.rules) self.now.world held.tid }
+        ensures appends { Appends (R.meaning self.now.world.rules) self.now.world held.system result (Some held.number)
+            (reply_event (R.meaning self.now.world.rules) self.now.world claim.now given.now) }
+        ensures plain { is_commit result ≡ false }
+        ensures silent { concerns_application result ≡ false }
     {
         let _ = self.world();
         let tid = held.tid;
         match given {
             Reply::Done(receipt) => {
                 let received = self.was_received(tid);
-                Ok(record_of_receipt(tid, receipt.tid == tid, received))
+                record_of_receipt(tid, receipt.tid == tid, received)
             }
-            Reply::SysFail => {
-                let is_refused = self.is_refused(tid)?;
-                Ok(record_of_refusal(tid, is_refused))
-            }
-            Reply::Lost | Reply::Busy => Ok(record_of_refusal(tid, false)),
+            Reply::SysFail => record_of_refusal(tid, self.is_refused(tid, offered)),
+            Reply::Lost | Reply::Busy => record_of_refusal(tid, false),
         }
     }
 
@@ -109,18 +108,15 @@ impl<R: Rules, A: Application, V: Volumes> UnitLandscape<R, A, V> {
         }
     }
 
-    /// Whether the unit of an id has no inbound queue, and a function that its receiver does not offer.
-    fn is_refused(&self, tid: Tid) -> Result<bool, OutOfMemory>
-        ensures { IfOk result (λ refused. refused ≡ is_refused (R.meaning self.now.world.rules) self.now.world tid) }
+    /// Whether the unit of an id has no inbound queue, and a function that its receiver does not offer, as is handed in.
+    fn is_refused(&self, tid: Tid, offered: bool) -> bool
+        requires { offered ≡ is_offered_function (R.meaning self.now.world.rules) self.now.world tid }
+        ensures { result ≡ is_refused (R.meaning self.now.world.rules) self.now.world tid }
     {
-        let Some(unit) = self.unit(tid) else {
-            return Ok(false);
-        };
-        if !unit.inq.is_empty() {
-            return Ok(false);
+        match self.unit(tid) {
+            Some(unit) => unit.inq.is_empty() && !offered,
+            None => false,
         }
-        let offers = self.kept.world().offers(self.alloc, unit.receiver, unit)?;
-        Ok(!offers)
     }
 }
 

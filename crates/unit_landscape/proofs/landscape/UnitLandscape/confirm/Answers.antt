@@ -4,12 +4,10 @@ use Rattle.std.proofs.lemmas.Option.{none-some}
 use Rattle.unit_core.specs.declared.ale_unit.AleUnit.{AleUnit}
 use Rattle.trfc_protocol.specs.declared.event.Event.TheVariants as event
 use Rattle.trfc_protocol.specs.Worlds.{log_of, is_up, committed_unit}
-use Rattle.trfc_protocol.specs.RecordOf.{record_of}
 use Rattle.tid_table.specs.LogTids.{is_known}
 use Rattle.unit_landscape.specs.Kept.{IsLandscape}
-use Rattle.unit_landscape.specs.Writes.{DiskAs}
 use Rattle.unit_landscape.specs.Calls.{receiver_of}
-use Rattle.unit_landscape.proofs.HappenedLemmas.{disk-still}
+use Rattle.unit_landscape.proofs.HappenedLemmas.{disk-seen}
 use Rattle.unit_landscape.proofs.ConfirmingLemmas.{receiver-found, done-named, forgotten-by}
 use Rattle.unit_landscape.proofs.landscape.UnitLandscape.confirm.Goals as goal
 
@@ -33,11 +31,9 @@ returns-then-not-is_known-clause-event g c =
 
 pub returns-then-not-is_known-clause-disk : goal.returns-then-not-is_known-clause-disk
 returns-then-not-is_known-clause-disk g c =
-    subst (λ k. DiskAs g.V.Volumes.told g.V.Volumes.volume g.V.Volumes.moment g.V.Volumes.images_since k k
-    (record_of (g.R.Rules.meaning k.world.rules) k.world (event.Confirm c.args.tid))) c.self.view_is
-    (disk-still g.V.Volumes.told g.V.Volumes.volume g.V.Volumes.moment g.V.Volumes.images_since c.self.inside.kept c.self.inside.kept g.met.V.Volumes.only_now
-    c.world.ensures.kept.on_volumes (g.R.Rules.meaning c.self.inside.kept.world.rules) (g.met.R.Rules.lawful c.self.inside.kept.world.rules) c.self.invariant.safe
-    (event.Confirm c.args.tid) (record { journals = refl; vols = refl }))
+    disk-seen g.V.Volumes.told g.V.Volumes.volume g.V.Volumes.moment g.V.Volumes.images_since g.met.V.Volumes.only_now
+    g.R.Rules.meaning g.met.R.Rules.lawful c.self.inside.kept c.args.self.now c.self.view_is c.self.invariant c.world.ensures.kept.on_volumes
+    (λ world. event.Confirm c.args.tid)
 
 pub forget-requires : goal.forget-requires
 forget-requires g c =

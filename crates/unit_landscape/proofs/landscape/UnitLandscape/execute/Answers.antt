@@ -1,11 +1,11 @@
-use Rattle.std.proofs.Common.{Some, [], cond, refl, sym, ap, subst, ◌∙◌}
+use Rattle.std.proofs.Common.{Some, [], cond, sym, ap, subst, ◌∙◌}
 use Rattle.trfc_protocol.specs.declared.event.Event.TheVariants as event
 use Rattle.trfc_protocol.specs.RecordOf.{record_of}
 use Rattle.unit_landscape.specs.Kept.{IsLandscape}
-use Rattle.unit_landscape.specs.Writes.{DiskAs, WritesOnly}
+use Rattle.unit_landscape.specs.Writes.{WritesOnly}
 use Rattle.unit_landscape.specs.Calls.{FinishedAs, finish_event}
 use Rattle.unit_landscape.specs.Appending.{at, IsDue, EndsSo}
-use Rattle.unit_landscape.proofs.HappenedLemmas.{disk-still, disk-some}
+use Rattle.unit_landscape.proofs.HappenedLemmas.{disk-seen, disk-some}
 use Rattle.unit_landscape.proofs.EventLemmas.{event-none_more}
 use Rattle.unit_landscape.proofs.FinishingLemmas.{in-found, executed-as, executed-record}
 use Rattle.unit_landscape.proofs.landscape.UnitLandscape.execute.Goals as goal
@@ -15,11 +15,9 @@ work_record-requires-clause-found g c = in-found c.args.self.now.world c.args.cl
 
 pub returns-in-Err-clause-disk : goal.returns-in-Err-clause-disk
 returns-in-Err-clause-disk g c =
-    subst (λ k. DiskAs g.V.Volumes.told g.V.Volumes.volume g.V.Volumes.moment g.V.Volumes.images_since k k
-    (record_of (g.R.Rules.meaning k.world.rules) k.world (finish_event (g.R.Rules.meaning k.world.rules) k.world c.args.claim))) c.self.view_is
-    (disk-still g.V.Volumes.told g.V.Volumes.volume g.V.Volumes.moment g.V.Volumes.images_since c.self.inside.kept c.self.inside.kept g.met.V.Volumes.only_now
-    c.world.ensures.kept.on_volumes (g.R.Rules.meaning c.self.inside.kept.world.rules) (g.met.R.Rules.lawful c.self.inside.kept.world.rules) c.self.invariant.safe
-    (finish_event (g.R.Rules.meaning c.self.inside.kept.world.rules) c.self.inside.kept.world c.args.claim) (record { journals = refl; vols = refl }))
+    disk-seen g.V.Volumes.told g.V.Volumes.volume g.V.Volumes.moment g.V.Volumes.images_since g.met.V.Volumes.only_now
+    g.R.Rules.meaning g.met.R.Rules.lawful c.self.inside.kept c.args.self.now c.self.view_is c.self.invariant c.world.ensures.kept.on_volumes
+    (λ world. finish_event (g.R.Rules.meaning world.rules) world c.args.claim)
 
 pub append-appended-requires-clause-due : goal.append-appended-requires-clause-due
 append-appended-requires-clause-due g c =

@@ -24,13 +24,6 @@ answer_to-requires-clause-may g c =
     let is = subst (λ k. IsLandscape g.R.Rules.meaning k.world) c.self.view_is c.self.invariant in
     late_may_arrive rules lawful world is.safe c.args.tid c.in-Ok.unit c.in-Ok.ensures
 
-pub returns-in_default-clause-disk : goal.returns-in_default-clause-disk
-returns-in_default-clause-disk g c =
-    subst (λ k. DiskAs g.V.Volumes.told g.V.Volumes.volume g.V.Volumes.moment g.V.Volumes.images_since k k
-    (late_record (g.R.Rules.meaning k.world.rules) k.world c.args.tid)) c.self.view_is
-    (late-still g.V.Volumes.told g.V.Volumes.volume g.V.Volumes.moment g.V.Volumes.images_since c.self.inside.kept g.met.V.Volumes.only_now
-    c.world.ensures.kept.on_volumes (g.R.Rules.meaning c.self.inside.kept.world.rules) c.args.tid)
-
 pub take_late-requires : goal.take_late-requires
 take_late-requires g c =
     let world = c.args.self.now.world in

@@ -23,15 +23,15 @@ returns-in-Done-clause-appends g c =
     (ap (λ b. b && c.was_received-received.result) c.eq.ensures
     ∙ ap (λ b. is_tid c.in-Done.receipt.tid c.args.held.tid && b) c.was_received-received.ensures)))
 
-pub returns-in_ok-is_refused-in-SysFail-clause-appends : goal.returns-in_ok-is_refused-in-SysFail-clause-appends
-returns-in_ok-is_refused-in-SysFail-clause-appends g c =
+pub returns-in-SysFail-clause-appends : goal.returns-in-SysFail-clause-appends
+returns-in-SysFail-clause-appends g c =
     let rules = g.R.Rules.meaning c.args.self.now.world.rules in
     subst (λ given. Appends rules c.args.self.now.world c.args.held.system c.record_of_refusal.result (Some c.args.held.number)
     (reply_event rules c.args.self.now.world c.args.claim.now given)) (sym c.in-SysFail.is)
     (subst (λ next. Appends rules c.args.self.now.world c.args.held.system next (Some c.args.held.number)
     (reply_event rules c.args.self.now.world c.args.claim.now reply.SysFail)) (sym c.record_of_refusal.ensures)
     (refusal-appends rules (g.met.R.Rules.lawful c.args.self.now.world.rules) c.args.self.now.world c.world.ensures.safe.safe c.args.claim.now c.args.held c.requires.holds
-    c.in_ok-is_refused-in-SysFail.is_refused c.in_ok-is_refused-in-SysFail.ensures))
+    c.is_refused.result c.is_refused.ensures))
 
 pub returns-in-Lost-clause-appends : goal.returns-in-Lost-clause-appends
 returns-in-Lost-clause-appends g c =

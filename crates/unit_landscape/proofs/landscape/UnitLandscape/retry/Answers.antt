@@ -5,10 +5,8 @@ use Rattle.trfc_protocol.specs.declared.event.Action.TheVariants.{Append}
 use Rattle.trfc_protocol.specs.declared.world.World.{World}
 use Rattle.trfc_protocol.specs.Legal.{may_follow}
 use Rattle.trfc_protocol.specs.Worlds.{log_of, is_up}
-use Rattle.trfc_protocol.specs.RecordOf.{record_of}
 use Rattle.kept_world.specs.Kept.{KeptOf}
-use Rattle.unit_landscape.specs.Writes.{DiskAs}
-use Rattle.unit_landscape.proofs.HappenedLemmas.{disk-still}
+use Rattle.unit_landscape.proofs.HappenedLemmas.{disk-seen}
 use Rattle.unit_landscape.proofs.OperatingLemmas.{retry-may}
 use Rattle.unit_landscape.proofs.landscape.UnitLandscape.retry.Goals as goal
 
@@ -39,8 +37,6 @@ returns-then-not-is_outstanding-clause-ends g c =
 
 pub returns-then-not-is_outstanding-clause-disk : goal.returns-then-not-is_outstanding-clause-disk
 returns-then-not-is_outstanding-clause-disk g c =
-    subst (λ k. DiskAs g.V.Volumes.told g.V.Volumes.volume g.V.Volumes.moment g.V.Volumes.images_since k k
-    (record_of (g.R.Rules.meaning k.world.rules) k.world (event.Operator (Append c.args.system (log.Retry c.args.way c.args.tid))))) c.self.view_is
-    (disk-still g.V.Volumes.told g.V.Volumes.volume g.V.Volumes.moment g.V.Volumes.images_since c.self.inside.kept c.self.inside.kept g.met.V.Volumes.only_now
-    c.world.ensures.kept.on_volumes (g.R.Rules.meaning c.self.inside.kept.world.rules) (g.met.R.Rules.lawful c.self.inside.kept.world.rules) c.self.invariant.safe
-    (event.Operator (Append c.args.system (log.Retry c.args.way c.args.tid))) (record { journals = refl; vols = refl }))
+    disk-seen g.V.Volumes.told g.V.Volumes.volume g.V.Volumes.moment g.V.Volumes.images_since g.met.V.Volumes.only_now
+    g.R.Rules.meaning g.met.R.Rules.lawful c.self.inside.kept c.args.self.now c.self.view_is c.self.invariant c.world.ensures.kept.on_volumes
+    (λ world. event.Operator (Append c.args.system (log.Retry c.args.way c.args.tid)))

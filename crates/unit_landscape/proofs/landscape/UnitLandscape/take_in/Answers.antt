@@ -3,14 +3,13 @@ use Rattle.std.proofs.Common.{◌≡◌, None, inr, refl, false, sym, subst}
 use Rattle.trfc_protocol.specs.declared.answer.Answer.TheVariants as answer
 use Rattle.trfc_protocol.specs.declared.event.Event.TheVariants as event
 use Rattle.trfc_protocol.specs.Legal.{is_commit}
-use Rattle.trfc_protocol.specs.RecordOf.{record_of}
 use Rattle.trfc_protocol.specs.Worlds.{log_of}
 use Rattle.system_tables.specs.Concerns.{concerns_application}
-use Rattle.unit_landscape.specs.Writes.{Appends, DiskAs}
+use Rattle.unit_landscape.specs.Writes.{Appends}
 use Rattle.unit_landscape.specs.Ends.{IsShort}
 use Rattle.unit_landscape.specs.Calls.{Arrived}
 use Rattle.unit_landscape.specs.Appending.{Arrives}
-use Rattle.unit_landscape.proofs.HappenedLemmas.{disk-still}
+use Rattle.unit_landscape.proofs.HappenedLemmas.{disk-seen}
 use Rattle.unit_landscape.proofs.EventLemmas.{event-none_more}
 use Rattle.unit_landscape.proofs.EndsLemmas.{was-written, was-fallen, was-short}
 use Rattle.unit_landscape.proofs.ArrivingLemmas.{accept-appends}
@@ -19,13 +18,9 @@ use Rattle.unit_landscape.proofs.landscape.UnitLandscape.take_in.Goals as goal
 
 pub returns-in_err-next-clause-disk : goal.returns-in_err-next-clause-disk
 returns-in_err-next-clause-disk g c =
-    let told = g.V.Volumes.told in
-    let rules = g.R.Rules.meaning c.self.inside.kept.world.rules in
-    subst (λ k. DiskAs told g.V.Volumes.volume g.V.Volumes.moment g.V.Volumes.images_since k k
-    (record_of (g.R.Rules.meaning k.world.rules) k.world (event.Arrive c.args.unit.now.tid))) c.self.view_is
-    (disk-still told g.V.Volumes.volume g.V.Volumes.moment g.V.Volumes.images_since c.self.inside.kept c.self.inside.kept g.met.V.Volumes.only_now
-    c.world.ensures.kept.on_volumes rules (g.met.R.Rules.lawful c.self.inside.kept.world.rules) c.self.invariant.safe (event.Arrive c.args.unit.now.tid)
-    (record { journals = refl; vols = refl }))
+    disk-seen g.V.Volumes.told g.V.Volumes.volume g.V.Volumes.moment g.V.Volumes.images_since g.met.V.Volumes.only_now
+    g.R.Rules.meaning g.met.R.Rules.lawful c.self.inside.kept c.args.self.now c.self.view_is c.self.invariant c.world.ensures.kept.on_volumes
+    (λ world. event.Arrive c.args.unit.now.tid)
 
 pub append-requires-clause-due : goal.append-requires-clause-due
 append-requires-clause-due g c =
