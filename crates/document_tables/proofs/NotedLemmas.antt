@@ -53,7 +53,7 @@ alone-plain log.Dispatch alone = absurd (cc)
 alone-plain _ alone = refl
 
 -- what was made says what the record adds
-goes-adds : (records : List Record) (next : Record) (made : Made) (added : Added) → GoesWith records next made → AddsAs made added → added ≡ added_behind records next
+pub goes-adds : (records : List Record) (next : Record) (made : Made) (added : Added) → GoesWith records next made → AddsAs made added → added ≡ added_behind records next
 goes-adds records (log.Commit origin docs) (Sent made) added goes adds = adds ∙ goes
 goes-adds records log.Dispatch (Sent made) added goes adds = adds ∙ goes
 goes-adds records (log.Direct unit) (Postings postings) added goes adds = adds ∙ sym (added-nothing records (log.Direct unit) refl)

@@ -5,9 +5,11 @@ ghost use Rattle.std.specs.Option.{option_copied, option_map};
 ghost use Rattle.std.specs.Arc.{arc_value};
 ghost use Rattle.inbound_post.specs.Prepared.{offers};
 
+use crate::noting::none_added;
 use ale_base::{Fixed, Items, OutOfMemory, SystemNo};
 use dist_model::{Lists, Model};
 use inbound_post::{ApplicationTables, DocPosting, Prepared, prepare};
+use outbound_build::{AddFault, Added};
 use outbound_log::OutboundTables;
 use said_models::Readings;
 use std::alloc::Global;
@@ -31,14 +33,15 @@ pub struct DocumentTables {
 }
 
 impl DocumentTables {
-    ghost use Rattle.std.specs.Prelude.{◌≡◌, List, [], false, IfOk};
+    ghost use Rattle.std.specs.Prelude.{◌≡◌, ◌+◌, ◌<◌, ◌≤◌, ℕ, List, [], false, Some, Err, IfOk, OnOk, length};
     ghost use Rattle.std.specs.Option.{option_map_or};
+    ghost use Rattle.dist_model.specs.declared.lists.Lists.{Lists as ListsOf};
     ghost use Rattle.inbound_post.specs.Prepared.{offers};
     ghost use Rattle.unit_core.specs.declared.records.Record.{Record};
     ghost use Rattle.said_models.specs.OfLog.{model_of};
     ghost use Rattle.outbound_log.specs.Tables.{AreTablesOf as AreSent};
     ghost use Rattle.inbound_post.specs.Tables.{AreTablesOf as AreApplied};
-    ghost use Rattle.document_tables.specs.OfLog.{sent_by, applied_by, postings_behind};
+    ghost use Rattle.document_tables.specs.OfLog.{sent_by, applied_by, added_behind, postings_behind};
     ghost use Rattle.document_tables.specs.Tables.{AreTablesOf};
 
     /// The tables of a log that has no record, which need not read the texts that were read. It takes no memory.
@@ -83,6 +86,28 @@ impl DocumentTables {
         match &self.model {
             None => false,
             Some(model) => is_offered(model.as_lists(), system, function),
+        }
+    }
+
+    /// What one more record adds to the outbound documents and units of the system of this number, by the model in force behind its
+    /// log: nothing where there is none. Nothing changes; `note` takes it in.
+    ///
+    /// `TooMany` comes exactly where a model is in force and the log would have more than 65,536 units, with their number.
+    /// `OutOfMemory` comes where a request for memory was refused.
+    pub fn added(&self, alloc: Global, system: SystemNo, next: &Record) -> Result<Added, AddFault>
+        ensures added { (log : List Record) → AreTablesOf log self.now → (sent_by log).past.system ≡ system
+            → IfOk result (λ added. added ≡ added_behind log next.now) }
+        ensures few { (log : List Record) → AreTablesOf log self.now → (sent_by log).past.system ≡ system
+            → (model : ListsOf) → model_of log ≡ Some model
+            → OnOk result (length (sent_by log).past.units + length (added_behind log next.now).units ≤ 65536) }
+        ensures too_many { (log : List Record) → AreTablesOf log self.now → (sent_by log).past.system ≡ system
+            → (count : ℕ) → result ≡ Err (AddFault.TooMany count)
+            → (count ≡ length (sent_by log).past.units + length (added_behind log next.now).units) × (65536 < count)
+            × ((model : ListsOf) × (model_of log ≡ Some model)) }
+    {
+        match &self.model {
+            None => Ok(none_added(alloc)),
+            Some(model) => self.outbound.added(alloc, model, system, next),
         }
     }
 

@@ -6,7 +6,7 @@ use outbound_build::Added;
 use std::sync::Arc;
 use unit_core::AleUnit;
 
-/// What is made for a record before it is written, so that the record is noted without reading models or documents again.
+/// What is made for a record before it is written, so that the documents that it sends or executes are not read again as it is noted.
 #[derive(Drop)]
 pub enum Made {
     /// Nothing goes with the record.

@@ -12,7 +12,7 @@ use model_text::{ModelFault, read};
 use std::alloc::Global;
 use std::sync::Arc;
 
-/// Texts that were entered, with the models that they say, so that systems whose models have the same text share one.
+/// Texts that were entered, with the models that they say.
 #[derive(Drop)]
 pub struct Readings {
     readings: Items<Reading>,
@@ -54,7 +54,7 @@ impl Readings {
         self.readings.push(Reading { text, model })
     }
 
-    /// The model that a text says. None exactly where it says none. A text that was entered is not read again.
+    /// The model that a text says. None exactly where it says none. `OutOfMemory` comes where a request for memory was refused.
     pub fn model(&self, alloc: Global, text: &[u8]) -> Result<Option<Arc<Model>>, OutOfMemory>
         ensures { IfOk result (λ model. option_map arc_value model ≡ said text.now) }
     {

@@ -1,0 +1,8 @@
+-- what is known behind a legal log
+pub mod LegalLogLemmas
+-- what is committed can be written
+pub mod WritableLemmas
+-- whether there is room
+pub mod RoomLemmas
+-- a log replayed from its first record
+pub mod ReplayLemmas

@@ -1,0 +1,4 @@
+-- Definitions that only private functions cite.
+
+-- a log replayed, for `model_meaning` of `Meaning`
+pub mod Replaying
