@@ -1,9 +1,8 @@
 //! An object gets values.
 
-ghost use Rattle.std.specs.Prelude.{◌≡◌, List, ◌<◌, ◌^◌, IfOk, length, true};
+ghost use Rattle.std.specs.Prelude.{◌≡◌, List, IfOk};
 ghost use Rattle.unit_core.specs.declared.records.Record.{Record as RecordOf};
 ghost use Rattle.unit_core.specs.declared.records.Record.TheVariants.{Put};
-ghost use Rattle.application_rules.specs.Puts.{may_put};
 ghost use Rattle.document_tables.specs.Tables.{AreTablesOf};
 ghost use Rattle.command_records.specs.Asked.{asked_put, pointers_noted};
 ghost use Rattle.command_records.specs.Judged.{JudgedAs, is_applications};
@@ -19,7 +18,8 @@ use unit_core::Record;
 
 /// The record by which an object gets values. `N12` comes exactly where the model in force allows no such Put: its kind is none of the
 /// model; its key is empty, is longer than the key field of the kind, or has a blank at its end; there is no field; or a field is none of
-/// the kind, is the key field, is given twice, or is shorter than its value. `OutOfMemory` comes where a request for memory was refused.
+/// the kind, is the key field, is given twice, or is shorter than its value. It comes too where no model is in force. `OutOfMemory` comes
+/// where a request for memory was refused.
 pub fn put(tables: &DocumentTables, change: &Change) -> Result<Wanted, Refusal>
     ensures { (log : List RecordOf) → AreTablesOf log tables.now → JudgedAs log is_applications (asked_put log change.now) result }
 {
@@ -40,8 +40,8 @@ pub fn put(tables: &DocumentTables, change: &Change) -> Result<Wanted, Refusal>
     })
 }
 
-/// How many change pointers are noted where an object gets values, by the model in force. `OutOfMemory` comes where a request for
-/// memory was refused.
+/// How many change pointers are noted where an object gets values, by the model in force; 0 where there is none. `OutOfMemory` comes
+/// where a request for memory was refused.
 pub fn pointers_noted(
     alloc: Global,
     tables: &DocumentTables,

@@ -1,6 +1,6 @@
 //! Documents are committed: a master that is sent, objects that are gathered, and what waits to be dispatched.
 
-ghost use Rattle.std.specs.Prelude.{◌≡◌, ◌≤◌, ◌<◌, ◌⊎◌, Bool, List, [], ◌∷◌, Some, None, IfOk, length, slice_get, true};
+ghost use Rattle.std.specs.Prelude.{◌≡◌, ◌≤◌, ◌<◌, Bool, List, [], ◌∷◌, Some, None, IfOk, length, slice_get, true};
 ghost use Rattle.std.specs.List.{AllByRecursion};
 ghost use Rattle.unit_core.specs.declared.records.Record.{Record as RecordOf};
 ghost use Rattle.unit_core.specs.declared.records.Record.TheVariants.{Commit, Dispatch};
@@ -8,12 +8,10 @@ ghost use Rattle.unit_codec.specs.Condition.{IsDocument, IsName, IsWritable};
 ghost use Rattle.dist_model.specs.declared.lists.Lists.{Lists as ListsOf};
 ghost use Rattle.dist_model.specs.declared.message.Message.{Message as MessageOf};
 ghost use Rattle.said_models.specs.OfLog.{model_of};
-ghost use Rattle.status_log.specs.declared.refusal.Refusal.{Refusal as RefusalOf};
 ghost use Rattle.trfc_protocol.specs.Legal.{is_commit};
 ghost use Rattle.application_rules.specs.Masters.{master_fault};
 ghost use Rattle.document_tables.specs.Tables.{AreTablesOf};
-ghost use Rattle.document_tables.specs.OfLog.{sent_by, applied_by};
-ghost use Rattle.model_rules.specs.Allowed.{waits_any};
+ghost use Rattle.document_tables.specs.OfLog.{sent_by};
 ghost use Rattle.command_records.specs.Asked.{Asked, asked_send, asked_gather, asked_dispatch, gathered_for, gathered_or_none, with_room};
 ghost use Rattle.command_records.specs.Judged.{IsMaster, JudgedAs, JudgedOrNone};
 
@@ -29,8 +27,8 @@ use unit_core::{RawUnitDoc, Record};
 
 /// The record by which the system of this number sends a master, which has at most `MOST_SEGMENTS` segments.
 ///
-/// `N12` comes exactly where MESTYP or IDOCTYP is refused, `N4` else where the data records are no document of its type, and `N11`
-/// else where there would be over 65,536 units. `OutOfMemory` comes where a request for memory was refused.
+/// `N12` comes exactly where MESTYP or IDOCTYP is refused, or no model is in force; `N4` else where the data records are no document of
+/// its type; and `N11` else where there would be over 65,536 units. `OutOfMemory` comes where a request for memory was refused.
 pub fn send(
     alloc: Global,
     tables: &DocumentTables,
@@ -50,10 +48,11 @@ pub fn send(
 }
 
 /// The record by which the system of this number gathers the objects that wait for the message type of a name. None exactly where no
-/// object that waits is there.
+/// object that waits is there, or the message type lists no fields whose changes make documents.
 ///
-/// `N12` comes exactly where the name stands for no message type, and `N11` else where there would be over 65,536 units. `OutOfMemory`
-/// comes where a request for memory was refused, or there would be over 4,294,967,295 documents, which a record can't count.
+/// `N12` comes exactly where the name stands for no message type, or no model is in force, and `N11` else where there would be over
+/// 65,536 units. `OutOfMemory` comes where a request for memory was refused, or there would be over 4,294,967,295 documents, which a
+/// record can't count.
 pub fn gather(
     alloc: Global,
     tables: &DocumentTables,
@@ -71,7 +70,7 @@ pub fn gather(
 
 /// The record by which the system of this number dispatches what waits. None exactly where nothing waits.
 ///
-/// `N11` comes exactly where there would be over 65,536 units, and `N12` where no model is in force. `OutOfMemory` comes where a
+/// `N12` comes exactly where no model is in force, and `N11` else where there would be over 65,536 units. `OutOfMemory` comes where a
 /// request for memory was refused.
 pub fn dispatch(
     alloc: Global,
