@@ -8,5 +8,7 @@ pub mod Offered
 pub mod Changes
 -- the status of a queue
 pub mod Status
+-- the queues as an operator lists them
+pub mod Lines
 -- the queues of a log
 pub mod LogQueues

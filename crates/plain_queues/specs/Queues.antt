@@ -2,6 +2,7 @@
 use Rattle.std.specs.Prelude.{ℕ, Bool, Option, List, [], map, filter, find}
 use Rattle.std.specs.Option.{option_and_then}
 use Rattle.ale_base.specs.Tid.{TidOf, is_tid}
+use Rattle.ale_base.specs.declared.mark.Mark.{Mark}
 use Rattle.plain_queues.specs.declared.queue_key.QueueKey.{QueueKey}
 use Rattle.plain_queues.specs.declared.queued_unit.QueuedUnit.{QueuedUnit}
 use Rattle.plain_queues.specs.Keys.{has_key}
@@ -26,6 +27,10 @@ unit_of tid queues = find (λ unit. is_tid unit.tid tid) queues.units
 -- the number of the claim on the unit of this id
 abbrev pub claim_of : TidOf → QueuesOf → Option ℕ
 claim_of tid queues = option_and_then (λ (unit : QueuedUnit). unit.claim) (unit_of tid queues)
+
+-- the mark of the unit of this id
+abbrev pub mark_on : TidOf → QueuesOf → Option Mark
+mark_on tid queues = option_and_then (λ (unit : QueuedUnit). unit.mark) (unit_of tid queues)
 
 -- the units of a queue, in order
 abbrev pub in_queue : QueueKey → QueuesOf → List QueuedUnit

@@ -9,6 +9,7 @@
 
 mod claim;
 mod not_offered;
+mod queue_count;
 mod queue_key;
 mod queue_status;
 mod queued_unit;
@@ -17,6 +18,7 @@ mod steps;
 
 pub use claim::Claim;
 pub use not_offered::NotOffered;
+pub use queue_count::QueueCount;
 pub use queue_key::{MOST_QUEUES, QueueKey, keys_differ};
 pub use queue_status::QueueStatus;
 pub use queues::Queues;

@@ -13,7 +13,7 @@ impl Queues {
     ghost use Rattle.std.specs.List.{list_any, list_all};
     ghost use Rattle.std.specs.Option.{option_copied};
     ghost use Rattle.ale_base.specs.Tid.{TidOf};
-    ghost use Rattle.plain_queues.specs.Queues.{unit_of, claim_of, head_of, in_queue, is_stopped};
+    ghost use Rattle.plain_queues.specs.Queues.{unit_of, claim_of, mark_on, head_of, in_queue, is_stopped};
     ghost use Rattle.plain_queues.specs.Offered.{heads, lets_go, is_ready, is_offered, first_offered, first_stopped, behind_head, first_behind, why_not_unit, why_not};
     ghost use Rattle.plain_queues.specs.Status.{status_of, status_by_head, status_of_free};
 
@@ -42,6 +42,16 @@ impl Queues {
         match self.unit_of(claim.tid) {
             Some(unit) => unit.claim == Some(claim.number),
             None => false,
+        }
+    }
+
+    /// The mark of the unit of this id. None where no such unit is here, or it is not marked.
+    pub fn mark_on(&self, tid: Tid) -> Option<Mark>
+        ensures { result ≡ mark_on tid self.now }
+    {
+        match self.unit_of(tid) {
+            Some(unit) => unit.mark,
+            None => None,
         }
     }
 
