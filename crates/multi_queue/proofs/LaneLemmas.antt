@@ -9,7 +9,7 @@ use Rattle.std.proofs.lemmas.Bool.{cases_Bool, both_ways, false_from_ne_true}
 use Rattle.std.proofs.lemmas.Bool.Decides.{eqb_tells, nat_tests}
 use Rattle.std.proofs.lemmas.Option.{slice_get_within}
 use Rattle.std.proofs.lemmas.List.{length-set}
-use Rattle.ale_base.specs.Blanks.{trimmed, padded}
+use Rattle.ale_base.specs.QueueName.{IsQueueName}
 use Rattle.plain_queues.specs.declared.queue_key.QueueKey.{QueueKey}
 use Rattle.plain_queues.specs.declared.queued_unit.QueuedUnit.{QueuedUnit}
 use Rattle.plain_queues.specs.Keys.{is_key, has_key}
@@ -40,7 +40,7 @@ named-kept lanes after names keeps it = record {
       ap (λ (k : QueueKey). names (name_of k)) (keeps.keys q old.0 w old.1 at_q) ∙ it.named q old.0 old.1;
   proper = λ q w at_q.
       let old = slice_get_some lanes q (omega (arith, slice_get_within after q w at_q, keeps.count)) in
-      subst (λ (k : QueueKey). trimmed (padded 24 k.name) ≡ k.name) (sym (keeps.keys q old.0 w old.1 at_q)) (it.proper q old.0 old.1);
+      subst (λ (k : QueueKey). IsQueueName k.name) (sym (keeps.keys q old.0 w old.1 at_q)) (it.proper q old.0 old.1);
 }
 
 keeps-later : (w x : Lane) (ws xs : List Lane) → KeepsKeys (w ∷ ws) (x ∷ xs) → KeepsKeys ws xs
@@ -242,7 +242,7 @@ names-equal (a, ms) (b, ns) same =
     ties-one x y = grind (arith, nat_tests)
 
 -- a queue that gets its number is named, and all others are as before
-pub named-new : (lanes : List Lane) (names after : ℕ × List ℕ → Option ℕ) (w : Lane) → IsNamed lanes names → names (name_of w.key) ≡ None → trimmed (padded 24 w.key.name) ≡ w.key.name
+pub named-new : (lanes : List Lane) (names after : ℕ × List ℕ → Option ℕ) (w : Lane) → IsNamed lanes names → names (name_of w.key) ≡ None → IsQueueName w.key.name
     → ((name : ℕ × List ℕ) → after name ≡ cond (is_eq (names_cmp (name_of w.key) name)) (Some (length lanes)) (names name)) → after (name_of w.key) ≡ Some (length lanes)
     → IsNamed (lanes ++ w ∷ []) after
 named-new lanes names after w it new proper others here = record {
@@ -269,7 +269,7 @@ named-new lanes names after w it new proper others here = record {
   ];
   proper = λ q v at_q. elim (get-split lanes (w ∷ []) q v at_q) [
     | inl front ↦ it.proper q v front
-    | inr (j, e, back) ↦ subst (λ (k : QueueKey). trimmed (padded 24 k.name) ≡ k.name) (ap (λ (l : Lane). l.key) (the-last j v back)) proper
+    | inr (j, e, back) ↦ subst (λ (k : QueueKey). IsQueueName k.name) (ap (λ (l : Lane). l.key) (the-last j v back)) proper
   ];
 }
   where

@@ -12,6 +12,8 @@ pub mod OfferLemmas
 pub mod ReasonLemmas
 -- the status of a queue
 pub mod StatusLemmas
+-- the lines of the queues
+pub mod LinesLemmas
 -- queues whose entries or stops change, and queues that are used for the first time
 pub mod LaneLemmas
 -- what the lists keep where a unit is finished

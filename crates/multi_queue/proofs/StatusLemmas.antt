@@ -6,6 +6,9 @@ use Rattle.std.proofs.Common.{◌≡◌, ◌-◌, ℕ, Bool, true, false, ◌||�
 use Rattle.std.proofs.lemmas.Bool.{or_parts, false_from_ne_true}
 use Rattle.std.proofs.lemmas.Option.{slice_get_within}
 use Rattle.ale_base.specs.Blanks.{trimmed, padded}
+use Rattle.ale_base.specs.QueueName.{IsQueueName}
+use Rattle.ale_base.specs.TrimmedLemmas.{trimmed-padded}
+use Rattle.ale_base.proofs.QueueNameLemmas.{trimmed-graphic}
 use Rattle.plain_queues.specs.declared.queue_key.QueueKey.{QueueKey}
 use Rattle.plain_queues.specs.declared.queued_unit.QueuedUnit.{QueuedUnit}
 use Rattle.plain_queues.specs.declared.queue_status.QueueStatus.TheVariants.{Stop, Running, Waitstop, Waiting, Ready}
@@ -24,14 +27,18 @@ use Rattle.multi_queue.proofs.OfferLemmas.{stopped-is, head-line, lets-is, queue
 
 -- ---- keys
 
+-- a name is what is left of it and of blanks behind it
+name-back : (name : List ℕ) → IsQueueName name → trimmed (padded 24 name) ≡ name
+name-back name it = trimmed-padded 24 name ∙ trimmed-graphic name it.graphic
+
 -- keys that are looked up alike are equal
-key-by_name : (a b : QueueKey) → name_of a ≡ name_of b → trimmed (padded 24 a.name) ≡ a.name → trimmed (padded 24 b.name) ≡ b.name → a ≡ b
+key-by_name : (a b : QueueKey) → name_of a ≡ name_of b → IsQueueName a.name → IsQueueName b.name → a ≡ b
 key-by_name a b same proper_a proper_b =
-    let names : a.name ≡ b.name = sym proper_a ∙ ap (λ (n : ℕ × List ℕ). trimmed n.1) same ∙ proper_b in
+    let names : a.name ≡ b.name = sym (name-back a.name proper_a) ∙ ap (λ (n : ℕ × List ℕ). trimmed n.1) same ∙ name-back b.name proper_b in
     λ i. record { partner = (same i).0; name = names i }
 
 -- the queue that the table names for a key has this key
-pub lane-there : (lanes : List Lane) (names : ℕ × List ℕ → Option ℕ) (key : QueueKey) (q : ℕ) → IsNamed lanes names → trimmed (padded 24 key.name) ≡ key.name
+pub lane-there : (lanes : List Lane) (names : ℕ × List ℕ → Option ℕ) (key : QueueKey) (q : ℕ) → IsNamed lanes names → IsQueueName key.name
     → names (name_of key) ≡ Some q → (w : Lane) × (slice_get lanes q ≡ Some w) × (w.key ≡ key)
 lane-there lanes names key q it proper named =
     let there = it.known (name_of key) q named in

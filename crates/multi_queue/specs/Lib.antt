@@ -4,3 +4,5 @@ pub mod Bits
 pub mod Counted
 -- what is seen of them
 pub mod Seen
+-- the line of a queue
+pub mod Listed

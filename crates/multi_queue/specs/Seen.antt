@@ -5,7 +5,8 @@ use Rattle.std.specs.Option.{option_map, option_map_or, option_and_then, option_
 use Rattle.std.specs.declared.cmp.Ordering.{Ordering}
 use Rattle.std.specs.Ordering.{ordering_then, nat_cmp}
 use Rattle.std.specs.Cmp.Lexicographic.{slice_cmp}
-use Rattle.ale_base.specs.Blanks.{trimmed, padded}
+use Rattle.ale_base.specs.Blanks.{padded}
+use Rattle.ale_base.specs.QueueName.{IsQueueName}
 use Rattle.ale_base.specs.Tid.{TidOf}
 use Rattle.plain_queues.specs.declared.queue_key.QueueKey.{QueueKey}
 use Rattle.plain_queues.specs.declared.queued_unit.QueuedUnit.{QueuedUnit}
@@ -47,11 +48,11 @@ pub record IsPlaced (units : List Entry) (places : ℕ × ℕ → Option ℕ) : 
   pub there : (number : ℕ × ℕ) (p : ℕ) → places number ≡ Some p → (u : Entry) × (slice_get units p ≡ Some u) × (number_of u.tid ≡ number)
   pub placed : (p : ℕ) (u : Entry) → slice_get units p ≡ Some u → u.live ≡ true → places (number_of u.tid) ≡ Some p
 
--- the table of names names each queue, and what it names is there
+-- the table of names names each queue, and what it names is there; each has a proper name
 pub record IsNamed (lanes : List Lane) (names : ℕ × List ℕ → Option ℕ) : Type 0 where
   pub known : (name : ℕ × List ℕ) (q : ℕ) → names name ≡ Some q → (w : Lane) × (slice_get lanes q ≡ Some w) × (name_of w.key ≡ name)
   pub named : (q : ℕ) (w : Lane) → slice_get lanes q ≡ Some w → names (name_of w.key) ≡ Some q
-  pub proper : (q : ℕ) (w : Lane) → slice_get lanes q ≡ Some w → trimmed (padded 24 w.key.name) ≡ w.key.name
+  pub proper : (q : ℕ) (w : Lane) → slice_get lanes q ≡ Some w → IsQueueName w.key.name
 
 -- what the lists of the counting body keep
 pub record IsQueues (units : List Entry) (lanes : List Lane) (heads : List ℕ) (nodes : List Bool) (height : ℕ) (places : ℕ × ℕ → Option ℕ)

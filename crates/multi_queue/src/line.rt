@@ -35,6 +35,13 @@ impl Line {
         }
     }
 
+    /// How many places there are.
+    pub(crate) fn len(&self) -> usize
+        ensures { result ≡ length self.now }
+    {
+        self.places.len()
+    }
+
     /// The first place. A look at an entry is a step.
     pub(crate) fn first<L: Ledger>(&self, steps: &mut Steps<L>) -> Option<usize>
         ensures first { result ≡ slice_get self.now 0 }

@@ -2,7 +2,8 @@
 
 ghost use Rattle.std.specs.Prelude.{◌≡◌, ◌≤◌, length};
 ghost use Rattle.std.specs.BTreeMap.{get};
-ghost use Rattle.ale_base.specs.Blanks.{trimmed, padded};
+ghost use Rattle.ale_base.specs.Blanks.{padded};
+ghost use Rattle.ale_base.specs.QueueName.{IsQueueName};
 ghost use Rattle.multi_queue.specs.Seen.{name_of, names_cmp};
 
 use plain_queues::QueueKey;
@@ -14,7 +15,7 @@ pub(crate) type Name = (u8, [u8; 24]);
 /// What a key is looked up by.
 pub(crate) fn name_of(key: &QueueKey) -> Name
     ensures name { result ≡ name_of key.now }
-    ensures proper { trimmed (padded 24 key.now.name) ≡ key.now.name }
+    ensures proper { IsQueueName key.now.name }
 {
     (key.partner, blanks_behind(key.name.bytes()))
 }
@@ -33,7 +34,7 @@ fn blanks_behind(name: &[u8]) -> [u8; 24]
 /// The number of the queue of a key.
 pub(crate) fn queue_of(names: &BTreeMap<Name, usize>, key: &QueueKey) -> Option<usize>
     ensures number { result ≡ get names_cmp names.now (name_of key.now) }
-    ensures proper { trimmed (padded 24 key.now.name) ≡ key.now.name }
+    ensures proper { IsQueueName key.now.name }
 {
     let name = name_of(key);
     match names.get(&name) {

@@ -4,6 +4,8 @@
 pub mod UnitLemmas
 -- a unit is offered exactly where nothing speaks against it
 pub mod OfferedLemmas
+-- there is but one list of the lines of queues
+pub mod LinesLemmas
 -- what each record of a log does to queues over some units
 pub mod LogQueuesLemmas
 -- what each record of a log does to its queues

@@ -2,19 +2,22 @@
 
 use super::Queues;
 use crate::board::{next_place, ready_at};
+use crate::listing::lines;
 use crate::names::queue_of;
 use crate::places::place_of;
 use crate::reasons::why_not_at;
 use crate::status::status_at;
-use ale_base::Tid;
-use plain_queues::{Claim, NotOffered, QueueKey, QueueStatus};
+use ale_base::{Items, Mark, OutOfMemory, Tid};
+use plain_queues::{Claim, NotOffered, QueueCount, QueueKey, QueueStatus};
+use std::alloc::Global;
 
 impl Queues {
-    ghost use Rattle.std.specs.Prelude.{◌≡◌, ◌↔◌, true, false, Some, IsTrue, IsNone, IsSome, IfSome, []};
+    ghost use Rattle.std.specs.Prelude.{◌≡◌, ◌↔◌, true, false, Some, IsTrue, IsNone, IsSome, IfSome, IfOk, []};
     ghost use Rattle.ale_base.specs.Tid.{TidOf};
-    ghost use Rattle.plain_queues.specs.Queues.{unit_of, claim_of, in_queue};
+    ghost use Rattle.plain_queues.specs.Queues.{unit_of, claim_of, mark_on, in_queue};
     ghost use Rattle.plain_queues.specs.Offered.{is_offered, first_offered, why_not};
     ghost use Rattle.plain_queues.specs.Status.{status_of};
+    ghost use Rattle.plain_queues.specs.Lines.{AreLinesOf};
 
     /// Whether the unit of this id is offered: it is here, not claimed, not marked, heads each of its queues, and none of these is
     /// stopped.
@@ -44,6 +47,16 @@ impl Queues {
         match place_of(&self.units, &self.places, claim.tid) {
             Some(place) => self.units[place].claim == Some(claim.number),
             None => false,
+        }
+    }
+
+    /// The mark of the unit of this id. None where no such unit is here, or it is not marked.
+    pub fn mark_on(&self, tid: Tid) -> Option<Mark>
+        ensures { result ≡ mark_on tid self.now }
+    {
+        match place_of(&self.units, &self.places, tid) {
+            Some(place) => self.units[place].mark,
+            None => None,
         }
     }
 
@@ -82,5 +95,13 @@ impl Queues {
             Some(queue) => status_at(&self.units, &self.lanes, &self.heads, queue),
             None => None,
         }
+    }
+
+    /// Each queue that holds a unit, once, in ascending order of its partner and then of its name in byte order, with the number of
+    /// its units and its status. It goes once over the queues that were ever used.
+    pub fn lines(&self, alloc: Global) -> Result<Items<QueueCount>, OutOfMemory>
+        ensures { IfOk result (AreLinesOf self.now) }
+    {
+        lines(alloc, &self.units, &self.lanes, &self.heads, &self.names)
     }
 }
