@@ -1,16 +1,18 @@
 -- What the tables of a log answer, said by the log and the claims alone.
 use Rattle.std.specs.Prelude.{find, is_some, not}
-use Rattle.std.specs.Option.{option_map, option_map_or}
+use Rattle.std.specs.Option.{option_map, option_map_or, option_and_then}
 use Rattle.std.proofs.Common.{◌≡◌, ℕ, Bool, true, false, cond, Option, Some, None, List, refl, sym, ap, ◌∙◌}
 use Rattle.ale_base.specs.Tid.{TidOf}
 use Rattle.ale_base.specs.declared.way.Way.{Way}
 use Rattle.ale_base.specs.declared.way.Way.TheVariants.{Outgoing, Incoming}
 use Rattle.unit_core.specs.declared.ale_unit.AleUnit.{AleUnit}
 use Rattle.unit_core.specs.declared.records.Record.{Record}
+use Rattle.unit_core.specs.Filters.{mark_of}
 use Rattle.unit_core.specs.Queues.{is_listed, unit_named, is_outstanding}
 use Rattle.unit_core.proofs.TidLemmas.{unit_named-Some}
 use Rattle.tid_table.specs.LogTids.{is_known}
-use Rattle.plain_queues.specs.Queues.{QueuesOf, unit_of, claim_of}
+use Rattle.plain_queues.specs.declared.queued_unit.QueuedUnit.{QueuedUnit}
+use Rattle.plain_queues.specs.Queues.{QueuesOf, unit_of, claim_of, mark_on}
 use Rattle.plain_queues.specs.Offered.{is_offered, first_offered}
 use Rattle.plain_queues.specs.LogQueues.{AreQueuesOver, AreQueuesOf, units_of, through, queued, may_go, HaveOneSender}
 use Rattle.plain_queues.proofs.GoesLemmas.{unit_of-log, offered-log, first_offered-log}
@@ -90,6 +92,40 @@ pub outstanding-tables : {A : Type 0} (stands : A → List Record → Type 0) (w
     → is_some (unit_of tid (queues_of way tables)) ≡ option_map_or (is_outstanding (through way log)) (unit_named tid (units_of way committed log)) false
 outstanding-tables stands way committed log sent arrived tables tid are =
     outstanding-log way (units_of way committed log) log (claims_of way sent arrived) (queues_of way tables) tid
+    (AreTablesOf-queues stands way committed log sent arrived tables are)
+
+-- the mark of a unit in the queues is the one since its last Retry, where it is there by the log and not through; else it has none there
+mark-log : (way : Way) (all : List AleUnit) (log : List Record) (claims : TidOf → Option ℕ) (queues : QueuesOf) (tid : TidOf)
+    → AreQueuesOver way all log claims queues
+    → mark_on tid queues ≡ option_and_then (λ (unit : AleUnit). cond (is_outstanding (through way log) unit) (mark_of way unit.tid log) None) (unit_named tid all)
+mark-log way all log claims queues tid are =
+    ap (λ (found : Option QueuedUnit). option_and_then (λ (unit : QueuedUnit). unit.mark) found) (unit_of-log way all log claims queues tid are)
+    ∙ by_named (unit_named tid all) refl
+  where
+    mark-if : (open_ : Bool) (unit : AleUnit) → option_and_then (λ (unit : QueuedUnit). unit.mark) (option_map (queued way log claims) (cond open_ (Some unit) None))
+        ≡ cond open_ (mark_of way unit.tid log) None
+    mark-if true unit = refl
+    mark-if false unit = refl
+
+    none-marked : (open_ : Bool) → option_and_then (λ (unit : QueuedUnit). unit.mark) (option_map (queued way log claims) (cond open_ None None)) ≡ None
+    none-marked true = refl
+    none-marked false = refl
+
+    by_named : (found : Option AleUnit) → unit_named tid all ≡ found
+        → option_and_then (λ (unit : QueuedUnit). unit.mark) (option_map (queued way log claims) (cond (not (is_listed tid (through way log))) found None))
+        ≡ option_and_then (λ (unit : AleUnit). cond (is_outstanding (through way log) unit) (mark_of way unit.tid log) None) found
+    by_named None at = none-marked (not (is_listed tid (through way log)))
+    by_named (Some unit) at =
+        mark-if (not (is_listed tid (through way log))) unit
+        ∙ ap (λ t. cond (not (is_listed t (through way log))) (mark_of way unit.tid log) None) (sym (unit_named-Some tid all unit at).1)
+
+-- the same of tables
+pub mark-tables : {A : Type 0} (stands : A → List Record → Type 0) (way : Way) (committed : List AleUnit) (log : List Record)
+    (sent arrived : TidOf → Option ℕ) (tables : TablesOf A) (tid : TidOf) → AreTablesOf stands committed log sent arrived tables
+    → mark_on tid (queues_of way tables)
+    ≡ option_and_then (λ (unit : AleUnit). cond (is_outstanding (through way log) unit) (mark_of way unit.tid log) None) (unit_named tid (units_of way committed log))
+mark-tables stands way committed log sent arrived tables tid are =
+    mark-log way (units_of way committed log) log (claims_of way sent arrived) (queues_of way tables) tid
     (AreTablesOf-queues stands way committed log sent arrived tables are)
 
 -- a claim on an outstanding unit is held in the queues, so it may be given up under its number

@@ -1,11 +1,15 @@
 -- What one more record does to each table of a log: the table that was noted is that of the longer log.
-use Rattle.std.proofs.Common.{◌≡◌, ℕ, true, Option, List, [], ◌∷◌, ◌++◌, append-nil, refl, sym, subst}
+use Rattle.std.proofs.Common.{◌≡◌, ℕ, true, Option, Some, List, [], ◌∷◌, ◌++◌, append-nil, refl, sym, ap, subst, ◌∙◌}
+use Rattle.std.proofs.lemmas.List.{map-append}
 use Rattle.ale_base.specs.Tid.{TidOf}
 use Rattle.ale_base.specs.declared.way.Way.{Way}
 use Rattle.ale_base.specs.declared.way.Way.TheVariants.{Outgoing, Incoming}
+use Rattle.ale_base.proofs.MemberLemmas.{filter_map-None, filter_map-Some}
 use Rattle.unit_core.specs.declared.ale_unit.AleUnit.{AleUnit}
 use Rattle.unit_core.specs.declared.records.Record.{Record}
 use Rattle.unit_core.specs.declared.records.Record.TheVariants.{Commit, Dispatch, Mark, Done, Ended, Accept, Execute, Direct, Fail, Forget, Stop, Start, Retry}
+use Rattle.unit_core.specs.Filters.{received, taken_by}
+use Rattle.unit_core.specs.Queues.{tids_of}
 use Rattle.tid_table.specs.LogTids.{AreTidsOf}
 use Rattle.tid_table.proofs.LogTidsLemmas.{AreTidsOf-other, AreTidsOf-taken, AreTidsOf-forget}
 use Rattle.plain_queues.specs.Queues.{QueuesOf}
@@ -13,12 +17,26 @@ use Rattle.plain_queues.specs.Changes.{added, marked, finished, retried}
 use Rattle.plain_queues.specs.LogQueues.{AreQueuesOf, LeavesQueues, TakesNone, added_all, keys_of, is_silent}
 use Rattle.plain_queues.proofs.RecordLemmas.{AreQueuesOf-committed, AreQueuesOf-Done, AreQueuesOf-Mark, AreQueuesOf-Accept, AreQueuesOf-Direct}
 use Rattle.plain_queues.proofs.RecordLemmas.{AreQueuesOf-Execute, AreQueuesOf-Fail, AreQueuesOf-Retry, AreQueuesOf-Stop, AreQueuesOf-Start, AreQueuesOf-silent}
-use Rattle.system_tables.specs.Noted.{NotedOutgoing, NotedIncoming, NotedSeen, NotedUnconfirmed}
+use Rattle.system_tables.specs.Noted.{NotedOutgoing, NotedIncoming, NotedReceived, NotedSeen, NotedUnconfirmed}
 use Rattle.system_tables.specs.OfLog.{AreUnconfirmedIn}
 use Rattle.system_tables.specs.Joins.{Commits, JoinsSent, JoinsArrived, ClaimsAfter}
 use Rattle.system_tables.proofs.UnconfirmedLemmas.{AreUnconfirmedIn-other, AreUnconfirmedIn-Done, AreUnconfirmedIn-Ended}
 
 -- ---- the ids
+
+-- a unit that was received joins at the end
+received-taken : (log : List Record) (next : Record) (unit : AleUnit) (before after : List TidOf) → taken_by next ≡ Some unit → after ≡ before ++ unit.tid ∷ []
+    → before ≡ tids_of (received log) → after ≡ tids_of (received (log ++ next ∷ []))
+received-taken log next unit before after takes noted are =
+    noted ∙ ap (λ tids. tids ++ unit.tid ∷ []) are ∙ sym (map-append (λ (unit : AleUnit). unit.tid) (received log) (unit ∷ []))
+    ∙ ap tids_of (sym (filter_map-Some taken_by log next unit takes))
+
+-- the ids that were received, after one more record
+pub received-noted : (log : List Record) (next : Record) (before after : List TidOf) → NotedReceived next before after → before ≡ tids_of (received log)
+    → after ≡ tids_of (received (log ++ next ∷ []))
+received-noted log (Accept unit) before after noted are = received-taken log (Accept unit) unit before after refl noted are
+received-noted log (Direct unit) before after noted are = received-taken log (Direct unit) unit before after refl noted are
+received-noted log next before after noted are = noted ∙ are ∙ ap tids_of (sym (filter_map-None taken_by log next refl))
 
 -- the ids that were received and not forgotten, after one more record
 pub seen-noted : (log : List Record) (claim : Option ℕ) (claims : TidOf → Option ℕ) (next : Record) (before after : List TidOf)

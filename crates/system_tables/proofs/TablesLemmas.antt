@@ -16,7 +16,7 @@ use Rattle.system_tables.specs.CanNote.{CanNote}
 use Rattle.system_tables.specs.OfLog.{AreTablesOf}
 use Rattle.system_tables.specs.Joins.{Joins, ClaimsBy, ClaimsAfter}
 use Rattle.system_tables.proofs.UnconfirmedLemmas.{AreUnconfirmedIn-nothing}
-use Rattle.system_tables.proofs.NotedLemmas.{seen-noted, unconfirmed-noted, outgoing-noted, incoming-noted}
+use Rattle.system_tables.proofs.NotedLemmas.{received-noted, seen-noted, unconfirmed-noted, outgoing-noted, incoming-noted}
 use Rattle.system_tables.proofs.CanNoteLemmas.{can_note_outgoing-joins, can_note_incoming-joins}
 
 -- new tables are those of a log that has no records and commits nothing, whatever the claims
@@ -24,6 +24,7 @@ pub AreTablesOf-nothing : {A : Type 0} (stands : A → List Record → Type 0) (
     → AreTablesOf stands [] [] sent arrived (no_tables application)
 AreTablesOf-nothing stands application sent arrived begins = record {
   units = refl;
+  received = refl;
   seen = AreTidsOf-nothing;
   unconfirmed = AreUnconfirmedIn-nothing;
   outgoing = AreQueuesOf-nothing Outgoing sent;
@@ -52,6 +53,7 @@ pub AreTablesOf-noted : {A : Type 0} (stands goes : A → List Record → Type 0
     → goes before.application log → AreTablesOf stands (committed ++ more) (log ++ next ∷ []) sent_after arrived_after after
 AreTablesOf-noted stands goes committed more log claim sent arrived sent_after arrived_after next before after are joins claims noted made = record {
   units = noted.units ∙ ap (λ units. units ++ more) are.units;
+  received = received-noted log next before.received after.received noted.received are.received;
   seen = seen-noted log claim arrived next before.seen after.seen joins.receiving noted.seen are.seen;
   unconfirmed = unconfirmed-noted committed more log claim sent next before.unconfirmed after.unconfirmed joins.sending noted.unconfirmed are.unconfirmed;
   outgoing = outgoing-noted committed more log claim sent arrived sent_after arrived_after next before.outgoing after.outgoing
@@ -68,6 +70,7 @@ pub AreTablesOf-claimed : {A : Type 0} (stands : A → List Record → Type 0) (
     → AreTablesOf stands committed log sent_after arrived_after (with_queues way (claimed number tid (queues_of way tables)) tables)
 AreTablesOf-claimed stands Outgoing committed log tid number sent arrived sent_after arrived_after tables claims are = record {
   units = are.units;
+  received = are.received;
   seen = are.seen;
   unconfirmed = are.unconfirmed;
   outgoing = AreQueuesOf-claimed Outgoing committed log tid number sent sent_after tables.outgoing claims.0 are.outgoing;
@@ -76,6 +79,7 @@ AreTablesOf-claimed stands Outgoing committed log tid number sent arrived sent_a
 }
 AreTablesOf-claimed stands Incoming committed log tid number sent arrived sent_after arrived_after tables claims are = record {
   units = are.units;
+  received = are.received;
   seen = are.seen;
   unconfirmed = are.unconfirmed;
   outgoing = subst (λ c. AreQueuesOf Outgoing committed log c tables.outgoing) (sym claims.0) are.outgoing;
@@ -90,6 +94,7 @@ pub AreTablesOf-released : {A : Type 0} (stands : A → List Record → Type 0) 
     → AreTablesOf stands committed log sent_after arrived_after (with_queues way (released tid (queues_of way tables)) tables)
 AreTablesOf-released stands Outgoing committed log tid sent arrived sent_after arrived_after tables claims are = record {
   units = are.units;
+  received = are.received;
   seen = are.seen;
   unconfirmed = are.unconfirmed;
   outgoing = AreQueuesOf-released Outgoing committed log tid sent sent_after tables.outgoing claims.0 are.outgoing;
@@ -98,6 +103,7 @@ AreTablesOf-released stands Outgoing committed log tid sent arrived sent_after a
 }
 AreTablesOf-released stands Incoming committed log tid sent arrived sent_after arrived_after tables claims are = record {
   units = are.units;
+  received = are.received;
   seen = are.seen;
   unconfirmed = are.unconfirmed;
   outgoing = subst (λ c. AreQueuesOf Outgoing committed log c tables.outgoing) (sym claims.0) are.outgoing;

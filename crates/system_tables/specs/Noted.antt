@@ -35,7 +35,13 @@ NotedIncoming (Start Incoming destination name) before after = Starts (record { 
 NotedIncoming (Retry Incoming tid) before after = after ≡ retried tid before
 NotedIncoming _ before after = after ≡ before
 
--- the ids that were received: that of an Accept or a Direct is one from now on, that of a Forget is none any more
+-- the ids that were received, in the order of receipt: that of an Accept or a Direct joins them at the end
+abbrev pub NotedReceived : Record → List TidOf → List TidOf → Type 0
+NotedReceived (Accept unit) before after = after ≡ before ++ unit.tid ∷ []
+NotedReceived (Direct unit) before after = after ≡ before ++ unit.tid ∷ []
+NotedReceived _ before after = after ≡ before
+
+-- the ids that were received and not forgotten: that of an Accept or a Direct is one from now on, that of a Forget is none any more
 abbrev pub NotedSeen : Record → List TidOf → List TidOf → Type 0
 NotedSeen (Accept unit) before after = Enters unit.tid before after
 NotedSeen (Direct unit) before after = Enters unit.tid before after
@@ -52,6 +58,7 @@ NotedUnconfirmed _ before after = after ≡ before
 -- application's tables are those of the longer log where what was made for it goes with them and the log before
 pub record Noted {A : Type 0} (stands goes : A → List Record → Type 0) (next : Record) (more : List AleUnit) (before after : TablesOf A) : Type 0 where
   pub units : after.units ≡ before.units
+  pub received : NotedReceived next before.received after.received
   pub seen : NotedSeen next before.seen after.seen
   pub unconfirmed : NotedUnconfirmed next before.unconfirmed after.unconfirmed
   pub outgoing : NotedOutgoing next more before.outgoing after.outgoing

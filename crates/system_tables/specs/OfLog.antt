@@ -6,7 +6,8 @@ use Rattle.ale_base.specs.declared.way.Way.TheVariants.{Outgoing, Incoming}
 use Rattle.unit_core.specs.declared.ale_unit.AleUnit.{AleUnit}
 use Rattle.unit_core.specs.declared.records.Record.{Record}
 use Rattle.unit_core.specs.Filters.{done_in, ended_in}
-use Rattle.unit_core.specs.Queues.{is_listed}
+use Rattle.unit_core.specs.Filters.{received as received_in}
+use Rattle.unit_core.specs.Queues.{is_listed, tids_of}
 use Rattle.tid_table.specs.LogTids.{AreTidsOf}
 use Rattle.plain_queues.specs.LogQueues.{AreQueuesOf}
 use Rattle.system_tables.specs.Tables.{TablesOf}
@@ -23,6 +24,7 @@ pub record AreUnconfirmedIn (log : List Record) (tids : List TidOf) : Type 0 whe
 pub record AreTablesOf {A : Type 0} (stands : A → List Record → Type 0) (committed : List AleUnit) (log : List Record)
     (sent arrived : TidOf → Option ℕ) (tables : TablesOf A) : Type 0 where
   pub units : tables.units ≡ committed
+  pub received : tables.received ≡ tids_of (received_in log)
   pub seen : AreTidsOf log tables.seen
   pub unconfirmed : AreUnconfirmedIn log tables.unconfirmed
   pub outgoing : AreQueuesOf Outgoing committed log sent tables.outgoing

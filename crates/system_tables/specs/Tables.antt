@@ -6,10 +6,11 @@ use Rattle.ale_base.specs.declared.way.Way.TheVariants.{Outgoing, Incoming}
 use Rattle.unit_core.specs.declared.ale_unit.AleUnit.{AleUnit}
 use Rattle.plain_queues.specs.Queues.{QueuesOf, no_queues}
 
--- the units that a system committed, in order; the ids that it received and has not forgotten; those that are done and not ended;
--- its outbound and its inbound queues; and the tables of its application
+-- the units that a system committed, in order; the ids that it received, in the order of receipt; those of them that it has not
+-- forgotten; those that are done and not ended; its outbound and its inbound queues; and the tables of its application
 pub record TablesOf (A : Type 0) : Type 0 where
   pub units : List AleUnit
+  pub received : List TidOf
   pub seen : List TidOf
   pub unconfirmed : List TidOf
   pub outgoing : QueuesOf
@@ -18,7 +19,7 @@ pub record TablesOf (A : Type 0) : Type 0 where
 
 -- empty tables, but for those of the application
 abbrev pub no_tables : {A : Type 0} → A → TablesOf A
-no_tables application = record { units = []; seen = []; unconfirmed = []; outgoing = no_queues; incoming = no_queues; application = application }
+no_tables application = record { units = []; received = []; seen = []; unconfirmed = []; outgoing = no_queues; incoming = no_queues; application = application }
 
 -- the unit of a number, from 1
 abbrev pub unit_numbered : ℕ → List AleUnit → Option AleUnit

@@ -1,18 +1,28 @@
 //! What a record of the log does to each table, a function a table.
 
 ghost use Rattle.std.specs.Prelude.{OnOk};
-ghost use Rattle.system_tables.specs.Noted.{NotedOutgoing, NotedIncoming, NotedSeen, NotedUnconfirmed};
+ghost use Rattle.system_tables.specs.Noted.{NotedOutgoing, NotedIncoming, NotedReceived, NotedSeen, NotedUnconfirmed};
 ghost use Rattle.system_tables.specs.CanNote.{CanNoteOutgoing, CanNoteIncoming};
 
 use crate::adding::{add, add_all};
 use crate::ending::{finish, mark};
-use ale_base::{Mark, OutOfMemory, Way};
+use ale_base::{Items, Mark, OutOfMemory, Tid, Way};
 use multi_queue::{QueueKey, Queues};
 use std::alloc::Global;
 use tid_table::Tids;
 use unit_core::{AleUnit, Record};
 
-/// Notes a record in the table of the ids that were received.
+/// Notes a record in the list of the ids that were received.
+pub(crate) fn note_received(received: &mut Items<Tid>, next: &Record) -> Result<(), OutOfMemory>
+    ensures { OnOk result (NotedReceived next.now received.old received.new) }
+{
+    match next {
+        Record::Accept { unit } | Record::Direct { unit } => received.push(unit.tid),
+        _ => Ok(()),
+    }
+}
+
+/// Notes a record in the table of the ids that were received and not forgotten.
 pub(crate) fn note_seen(seen: &mut Tids, next: &Record) -> Result<(), OutOfMemory>
     ensures { OnOk result (NotedSeen next.now seen.old seen.new) }
 {

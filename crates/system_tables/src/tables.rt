@@ -5,7 +5,7 @@ ghost use Rattle.std.specs.Prelude.{◌≡◌, ◌++◌, length, take, OnOk};
 mod asking;
 
 use crate::Application;
-use crate::noting::{note_incoming, note_outgoing, note_seen, note_unconfirmed};
+use crate::noting::{note_incoming, note_outgoing, note_received, note_seen, note_unconfirmed};
 use ale_base::{Items, OutOfMemory, Tid, Way};
 use multi_queue::{Claim, NotOffered, Queues};
 use std::alloc::Global;
@@ -13,12 +13,13 @@ use std::marker::Model;
 use tid_table::Tids;
 use unit_core::{AleUnit, Record};
 
-/// What a system keeps of its log: the units that it committed, the ids that it received and has not forgotten, those that are done
-/// and not ended, its outbound and its inbound queues, and its application's tables. Contracts see each of them. `new`, and what
-/// changes the tables, is here; all questions are in `tables/asking.rt`.
+/// What a system keeps of its log: the units that it committed, the ids that it received, those of them that it has not forgotten,
+/// those that are done and not ended, its outbound and its inbound queues, and its application's tables. Contracts see each of them.
+/// `new`, and what changes the tables, is here; all questions are in `tables/asking.rt`.
 #[derive(Drop)]
 pub struct SystemTables<A: Application> {
     units: Items<AleUnit>,
+    received: Items<Tid>,
     seen: Tids,
     unconfirmed: Tids,
     outgoing: Queues,
@@ -33,6 +34,7 @@ impl<A: Application> Model for SystemTables<A> {
 
     ghost view = { λ tables. record {
       units = tables.units;
+      received = tables.received;
       seen = tables.seen;
       unconfirmed = tables.unconfirmed;
       outgoing = tables.outgoing;
@@ -57,6 +59,7 @@ impl<A: Application> SystemTables<A> {
     {
         SystemTables {
             units: Items::new(alloc),
+            received: Items::new(alloc),
             seen: Tids::new(alloc),
             unconfirmed: Tids::new(alloc),
             outgoing: Queues::new(alloc),
@@ -104,6 +107,7 @@ impl<A: Application> SystemTables<A> {
         ensures units { self.new.units ≡ self.old.units }
     {
         self.application.note(alloc, next, extra)?;
+        note_received(&mut self.received, next)?;
         note_seen(&mut self.seen, next)?;
         note_unconfirmed(&mut self.unconfirmed, next)?;
         note_outgoing(alloc, &mut self.outgoing, next, more, claim)?;

@@ -2,18 +2,20 @@
 
 use super::SystemTables;
 use crate::Application;
-use ale_base::{Tid, Way};
-use multi_queue::{NotOffered, QueueKey, QueueStatus, Queues};
+use ale_base::{Items, Mark, OutOfMemory, Tid, Way};
+use multi_queue::{NotOffered, QueueCount, QueueKey, QueueStatus, Queues};
+use std::alloc::Global;
 use tid_table::Tids;
 use unit_core::AleUnit;
 
 impl<A: Application> SystemTables<A> {
-    ghost use Rattle.std.specs.Prelude.{◌≡◌, length, is_some};
+    ghost use Rattle.std.specs.Prelude.{◌≡◌, length, is_some, IfOk};
     ghost use Rattle.std.specs.Option.{option_copied};
     ghost use Rattle.unit_core.specs.Queues.{is_listed};
-    ghost use Rattle.plain_queues.specs.Queues.{unit_of};
+    ghost use Rattle.plain_queues.specs.Queues.{unit_of, mark_on};
     ghost use Rattle.plain_queues.specs.Offered.{is_offered, first_offered, why_not};
     ghost use Rattle.plain_queues.specs.Status.{status_of};
+    ghost use Rattle.plain_queues.specs.Lines.{AreLinesOf};
     ghost use Rattle.system_tables.specs.Tables.{unit_numbered, queues_of};
 
     /// The unit that was committed under this number, from 1. None exactly where there is none.
@@ -31,6 +33,13 @@ impl<A: Application> SystemTables<A> {
         ensures { result ≡ length self.now.units }
     {
         self.units.len()
+    }
+
+    /// The ids of the units that were received, in the order of receipt, whether or not they are forgotten.
+    pub fn received(&self) -> &[Tid]
+        ensures { result.now ≡ self.now.received }
+    {
+        self.received.as_slice()
     }
 
     /// Whether this id was received and is not forgotten.
@@ -82,11 +91,26 @@ impl<A: Application> SystemTables<A> {
         self.queues(way).why_not(tid)
     }
 
+    /// The mark of the unit of this id in the queues of a direction. None where it is not there, or is not marked.
+    pub fn mark(&self, way: Way, tid: Tid) -> Option<Mark>
+        ensures { result ≡ mark_on tid (queues_of way self.now) }
+    {
+        self.queues(way).mark_on(tid)
+    }
+
     /// The status of a queue of a direction. None exactly where it is empty.
     pub fn status(&self, way: Way, key: QueueKey) -> Option<QueueStatus>
         ensures { result ≡ status_of key (queues_of way self.now) }
     {
         self.queues(way).status(key)
+    }
+
+    /// Each queue of a direction that holds a unit, once, in ascending order of its partner and then of its name in byte order, with the
+    /// number of its units and its status. It goes once over the queues that were ever used.
+    pub fn queue_lines(&self, alloc: Global, way: Way) -> Result<Items<QueueCount>, OutOfMemory>
+        ensures { IfOk result (AreLinesOf (queues_of way self.now)) }
+    {
+        self.queues(way).lines(alloc)
     }
 
     /// The application's tables.
