@@ -1,5 +1,7 @@
 -- what a landscape keeps
 pub mod Kept
+-- the tables of a system that is up
+pub mod Tables
 -- the record of an event, and what a crash leaves of it
 pub mod Writes
 -- how a call ends that is an event

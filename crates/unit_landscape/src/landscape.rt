@@ -16,7 +16,7 @@ use ale_volumes::Volumes;
 use kept_world::KeptWorld;
 use std::alloc::Global;
 use std::marker::Model;
-use system_tables::Application;
+use system_tables::{Application, SystemTables};
 use trfc_protocol::{Rules, World};
 use unit_core::{AleUnit, Record};
 
@@ -48,6 +48,7 @@ impl<R: Rules, A: Application, V: Volumes> UnitLandscape<R, A, V> {
     ghost use Rattle.system_journals.specs.Changes.{with_moment};
     ghost use Rattle.kept_world.specs.Kept.{IsKept};
     ghost use Rattle.unit_landscape.specs.Kept.{IsLandscape};
+    ghost use Rattle.unit_landscape.specs.Tables.{AreTablesUp};
 
     /// A landscape of a world that is kept, is safe, and commits what can be written.
     pub fn new(alloc: Global, kept: KeptWorld<R, A, V>) -> UnitLandscape<R, A, V>
@@ -99,6 +100,17 @@ impl<R: Rules, A: Application, V: Volumes> UnitLandscape<R, A, V> {
         ensures { self.new ≡ record self.old { journals = with_moment moment self.old.journals } }
     {
         self.kept.set_moment(moment);
+    }
+
+    /// The tables of a system that is up, which are those of its log and of the claims at it. None exactly where it is down.
+    pub fn tables(&self, system: SystemNo) -> Option<&SystemTables<A>>
+        ensures { AreTablesUp A.stands (R.meaning self.now.world.rules) self.now system (option_copied result) }
+    {
+        if self.kept.world().is_up(system) {
+            Some(self.kept.tables(system))
+        } else {
+            None
+        }
     }
 
     /// The application's tables of a system. None exactly where the landscape has no such system.

@@ -3,8 +3,8 @@
 //! Contract: each call is an event of the protocol, or says how it ended otherwise, and the world stays safe. A call that appends
 //! writes its record on one volume, and at every moment of it a crash leaves the log of that system, perhaps with the record. What a
 //! call answers comes exactly where the logs and the claims say so. The definitions are in `specs/`: `Kept` (what a landscape keeps),
-//! `Writes` (the record of an event), `Ends` (how a call ends), `Calls`, `Late` and `Quiet` (what each call answers).
-//! `Claiming` and `Appending` serve private functions.
+//! `Tables` (the tables of a system that is up), `Writes` (the record of an event), `Ends` (how a call ends), `Calls`, `Late` and
+//! `Quiet` (what each call answers). `Claiming` and `Appending` serve private functions.
 #![tactic(auto)]
 
 mod answers;
