@@ -31,10 +31,27 @@ impl Pair {
         call: &Call,
         text: &mut Text,
     ) -> Result<bool, OutOfMemory> {
+        if let Call::Lines = call {
+            return self.list(alloc, text);
+        }
         let mut plain = Text::new(alloc);
         perform(&mut self.running, call, text)?;
         perform_plainly(&mut self.plain, call, &mut plain)?;
         Ok(text.is(&plain))
+    }
+
+    /// Puts the list of the running queues. Whether each of them has its status among the plain ones, which have no list.
+    fn list(&self, alloc: Global, text: &mut Text) -> Result<bool, OutOfMemory> {
+        let lines = self.running.lines(alloc)?;
+        if lines.is_empty() {
+            text.put_line(b"none")?;
+        }
+        let mut same = true;
+        for line in &lines {
+            text.put_count(line)?;
+            same = same && self.plain.status(line.key) == Some(line.status);
+        }
+        Ok(same)
     }
 
     /// The id of the unit that a call is to claim, where there is one.

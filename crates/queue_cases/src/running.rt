@@ -71,6 +71,7 @@ fn ask(queues: &Queues, call: &Call, text: &mut Text) -> Result<(), OutOfMemory>
         }),
         Call::WhyNot(tid) => text.put_reason(queues.why_not(*tid).as_ref()),
         Call::Status(key) => text.put_status(queues.status(*key)),
+        Call::MarkOn(tid) => text.put_mark(queues.mark_on(*tid)),
         _ => Ok(()),
     }
 }

@@ -50,6 +50,7 @@ enum CallWord {
     Add,
     Offered,
     Why,
+    Marked,
     Claim,
     Release,
     Mark,
@@ -58,14 +59,16 @@ enum CallWord {
     Stop,
     Start,
     Status,
+    Lines,
     NextOut,
     NextIn,
 }
 
-const CALLS: [(&'static [u8], CallWord); 13] = [
+const CALLS: [(&'static [u8], CallWord); 15] = [
     (b"add", CallWord::Add),
     (b"offered", CallWord::Offered),
     (b"why", CallWord::Why),
+    (b"marked", CallWord::Marked),
     (b"claim", CallWord::Claim),
     (b"release", CallWord::Release),
     (b"mark", CallWord::Mark),
@@ -74,6 +77,7 @@ const CALLS: [(&'static [u8], CallWord); 13] = [
     (b"stop", CallWord::Stop),
     (b"start", CallWord::Start),
     (b"status", CallWord::Status),
+    (b"lines", CallWord::Lines),
     (b"next_out", CallWord::NextOut),
     (b"next_in", CallWord::NextIn),
 ];
@@ -86,6 +90,7 @@ fn read_call(alloc: Global, line: &[u8]) -> Result<Call, LineEnd> {
     };
     let call = match word {
         CallWord::Stop | CallWord::Start | CallWord::Status => read_of_key(word, &mut words),
+        CallWord::Lines => Ok(Call::Lines),
         CallWord::NextOut => Ok(Call::NextOut(words.number()?)),
         CallWord::NextIn => Ok(Call::NextIn(words.number()?)),
         _ => read_of_unit(alloc, word, &mut words),
@@ -120,6 +125,7 @@ fn read_of_unit(alloc: Global, word: CallWord, words: &mut Words) -> Result<Call
         CallWord::Add => Ok(Call::Add(tid, words.keys(alloc)?)),
         CallWord::Offered => Ok(Call::Offered(tid)),
         CallWord::Why => Ok(Call::WhyNot(tid)),
+        CallWord::Marked => Ok(Call::MarkOn(tid)),
         CallWord::Retry => Ok(Call::Retry(tid)),
         _ => read_of_claim(word, tid, words),
     }

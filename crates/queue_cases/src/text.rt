@@ -1,7 +1,7 @@
 //! Answers as text.
 
 use ale_base::{Mark, OutOfMemory, Tid};
-use multi_queue::{Claim, NotOffered, QueueKey, QueueStatus};
+use multi_queue::{Claim, NotOffered, QueueCount, QueueKey, QueueStatus};
 use std::alloc::Global;
 
 /// What was found, as it is compared.
@@ -73,6 +73,24 @@ impl Text {
             Some(status) => self.put_line(name_of(status)),
             None => self.put_line(b"none"),
         }
+    }
+
+    /// Puts a mark, or that there is none.
+    pub(crate) fn put_mark(&mut self, mark: Option<Mark>) -> Result<(), OutOfMemory> {
+        match mark {
+            Some(Mark::Cpicerr) => self.put_line(b"CPICERR"),
+            Some(Mark::Sysfail) => self.put_line(b"SYSFAIL"),
+            None => self.put_line(b"none"),
+        }
+    }
+
+    /// Puts the line of a queue: its key, how many units it holds, and its status.
+    pub(crate) fn put_count(&mut self, line: &QueueCount) -> Result<(), OutOfMemory> {
+        self.put_key(&line.key)?;
+        self.put(b" ")?;
+        self.put_number(line.count)?;
+        self.put(b" ")?;
+        self.put_line(name_of(line.status))
     }
 
     /// Puts why a unit is not offered, as a line.
