@@ -10,7 +10,8 @@ use Rattle.std.specs.Option.{option_map, option_and_then}
 use Rattle.std.specs.Ordering.{ordering_then, nat_cmp}
 use Rattle.std.specs.Prelude.{Contains, filter, slice_get, replicate, is_some}
 use Rattle.std.specs.declared.cmp.Ordering.TheVariants.{Less, Greater}
-use Rattle.std.proofs.Common.{◌≡◌, ◌<◌, ◌+◌, ◌-◌, ℕ, zero, suc, Bool, true, false, cond, Option, Some, None, List, [], ◌∷◌, ◌++◌, length, map, ◌⊎◌, inl, inr, refl, sym, ap, subst, ◌∙◌, arith}
+use Rattle.std.proofs.Common.{◌≡◌, ◌<◌, ◌+◌, ◌-◌, ℕ, zero, suc, Bool, true, false, cond, Option, Some, None, List, [], ◌∷◌, ◌++◌, length, map}
+use Rattle.std.proofs.Common.{◌⊎◌, inl, inr, refl, sym, ap, subst, ◌∙◌, arith}
 use Rattle.std.proofs.lemmas.Bool.{cases_Bool}
 use Rattle.std.proofs.lemmas.Bool.Decides.{nat_tests}
 use Rattle.std.proofs.lemmas.Cmp.{tied_itself, nat_cmp_total, nat_list_cmp_total, on_total, then_total}
@@ -104,7 +105,8 @@ ascending gives (e ∷ es) each ascend =
       | None ↦ λ is. rest
       | Some line ↦ λ is.
           let its = each.0 line is in
-          (below gives line.key es its.1 each.1 (subst (λ name. AllByRecursion (λ other. names_cmp name other ≡ Less) (names_in es)) (sym its.0) ascend.0), rest)
+          let head = subst (λ name. AllByRecursion (λ other. names_cmp name other ≡ Less) (names_in es)) (sym its.0) ascend.0 in
+          (below gives line.key es its.1 each.1 head, rest)
     ] refl
 
 -- ---- the units of a queue
@@ -125,8 +127,11 @@ count-standing test see q n (u ∷ us) agree live =
           ∙ ap suc rest
           ∙ ap (λ b. length (cond b (n ∷ standing q (n + 1) us) (standing q (n + 1) us))) (sym stands)
       | inr elsewhere ↦
-          elim u.live as (λ b. length (filter test (map see (cond b (u ∷ filter is_live us) (filter is_live us)))) ≡ length (filter test (map see (filter is_live us)))) [
-            | true ↦ ap (λ b. length (cond b (see u ∷ filter test (map see (filter is_live us))) (filter test (map see (filter is_live us))))) (same ∙ elsewhere)
+          elim u.live as (λ b. length (filter test (map see (cond b (u ∷ filter is_live us) (filter is_live us))))
+          ≡ length (filter test (map see (filter is_live us)))) [
+            | true ↦
+                ap (λ b. length (cond b (see u ∷ filter test (map see (filter is_live us))) (filter test (map see (filter is_live us)))))
+                (same ∙ elsewhere)
             | false ↦ refl
           ]
           ∙ rest
@@ -181,7 +186,8 @@ module _ {units : List Entry} {lanes : List Lane} {counts : List ℕ} {nodes : L
       → (w : Lane) × (slice_get lanes q ≡ Some w) × (line.key ≡ w.key) × IsLineOf (seen units lanes) line
   line-is q line is = by (slice_get lanes q) refl is
     where
-      by : (o : Option Lane) → slice_get lanes q ≡ o → option_and_then (λ (w : Lane). option_map (line_with w) (status_of_lane units lanes counts (Some w))) o ≡ Some line
+      by : (o : Option Lane) → slice_get lanes q ≡ o
+          → option_and_then (λ (w : Lane). option_map (line_with w) (status_of_lane units lanes counts (Some w))) o ≡ Some line
           → (w : Lane) × (slice_get lanes q ≡ Some w) × (line.key ≡ w.key) × IsLineOf (seen units lanes) line
       by None at_q is = absurd (cc)
       by (Some w) at_q is =
@@ -209,7 +215,8 @@ module _ {units : List Entry} {lanes : List Lane} {counts : List ℕ} {nodes : L
       Contains-map (λ (e : (ℕ × List ℕ) × ℕ). e.1) m.entries (place.1, q) (Contains-at m.entries place.0 (place.1, q) place.2)
 
   -- a key that a line has is that of a queue that has a status
-  listed-has : (key : QueueKey) → has_key key (keys_of (filter_map (line_at units lanes counts) (values m))) ≡ true → is_some (status_of key (seen units lanes)) ≡ true
+  listed-has : (key : QueueKey) → has_key key (keys_of (filter_map (line_at units lanes counts) (values m))) ≡ true
+      → is_some (status_of key (seen units lanes)) ≡ true
   listed-has key lists =
       let found = list_any-found (λ (other : QueueKey). is_key other key) (keys_of (filter_map (line_at units lanes counts) (values m))) lists in
       let line = Contains-map_back (λ (l : QueueCount). l.key) (filter_map (line_at units lanes counts) (values m)) found.0 found.1 in
@@ -219,7 +226,8 @@ module _ {units : List Entry} {lanes : List Lane} {counts : List ℕ} {nodes : L
       ap (λ (k : QueueKey). is_some (status_of k (seen units lanes))) (sym key_is) ∙ ap is_some its.3.status
 
   -- a queue that has a status is listed
-  has-listed : (key : QueueKey) → is_some (status_of key (seen units lanes)) ≡ true → has_key key (keys_of (filter_map (line_at units lanes counts) (values m))) ≡ true
+  has-listed : (key : QueueKey) → is_some (status_of key (seen units lanes)) ≡ true
+      → has_key key (keys_of (filter_map (line_at units lanes counts) (values m))) ≡ true
   has-listed key some =
       elim (lane-or-none key lanes) [
         | inr none ↦
