@@ -1,0 +1,135 @@
+//! Where the segments of a document stand in it.
+
+ghost use Rattle.std.specs.Prelude.{◌≡◌, ◌<◌, ◌≤◌, ◌+◌, ◌++◌, suc, List, IfOk, OnOk, length};
+ghost use Rattle.std.specs.List.{AllByRecursion};
+ghost use Rattle.unit_core.specs.declared.records.Record.{Record};
+ghost use Rattle.idoc_tree.specs.Forest.{preorder};
+ghost use Rattle.idoc_tree.specs.Nodes.{forest_of};
+ghost use Rattle.dist_model.specs.Model.{IsModel};
+ghost use Rattle.said_models.specs.OfLog.{model_of};
+ghost use Rattle.document_tables.specs.Tables.{AreTablesOf};
+ghost use Rattle.listings.specs.Places.{HasDigits, places_as, places_by, places_in, places_under, root_places};
+ghost use Rattle.listings.specs.steps.Levels.{LevelsWithin};
+
+use ale_base::{Items, OutOfMemory};
+use dist_model::{Lists, MessageNo, Model};
+use document_tables::DocumentTables;
+use idoc_record::{Control, ControlField, Data, Place};
+use idoc_tree::{Node, SyntaxFault, build};
+use outbound_build::type_of;
+use std::alloc::Global;
+use unit_core::RawUnitDoc;
+
+/// The most segments of which SEGNUM can tell the number.
+pub(crate) const MOST_NUMBERED: usize = 999_999;
+
+/// The places of the segments of a document, in order, under the model in force.
+pub(crate) fn places_under(
+    alloc: Global,
+    tables: &DocumentTables,
+    document: &RawUnitDoc,
+) -> Result<Items<Place>, OutOfMemory>
+    requires { length document.now.segments ≤ MOST_NUMBERED }
+    ensures are { (log : List Record) → AreTablesOf log tables.now → IfOk result (λ places. places ≡ places_under (model_of log) document.now) }
+    ensures each { IfOk result (λ places. length places ≡ length document.now.segments) }
+    ensures digits { IfOk result (λ places. AllByRecursion HasDigits places) }
+{
+    match tables.model() {
+        None => root_places(alloc, document.segments.as_slice()),
+        Some(model) => places_by(alloc, model, document),
+    }
+}
+
+/// The same, by the message type that MESTYP stands for.
+fn places_by(
+    alloc: Global,
+    model: &Model,
+    document: &RawUnitDoc,
+) -> Result<Items<Place>, OutOfMemory>
+    requires { length document.now.segments ≤ MOST_NUMBERED }
+    ensures are { IfOk result (λ places. places ≡ places_by model.now document.now) }
+    ensures each { IfOk result (λ places. length places ≡ length document.now.segments) }
+    ensures digits { IfOk result (λ places. AllByRecursion HasDigits places) }
+{
+    match model.message(document.control.get(ControlField::Mestyp)) {
+        None => root_places(alloc, document.segments.as_slice()),
+        Some(message) => places_as(alloc, model.as_lists(), document, message),
+    }
+}
+
+/// The same, by the IDoc type of a message type.
+fn places_as(
+    alloc: Global,
+    model: &Lists,
+    document: &RawUnitDoc,
+    message: MessageNo,
+) -> Result<Items<Place>, OutOfMemory>
+    requires few { length document.now.segments ≤ MOST_NUMBERED }
+    requires kept { IsModel model.now }
+    requires known { message < length model.now.messages }
+    ensures are { IfOk result (λ places. places ≡ places_as model.now document.now message) }
+    ensures each { IfOk result (λ places. length places ≡ length document.now.segments) }
+    ensures digits { IfOk result (λ places. AllByRecursion HasDigits places) }
+{
+    let ty = type_of(model, message);
+    let records = document.segments.as_slice();
+    match build(alloc, &model.definitions, ty, Control::blank(), records) {
+        Ok(built) => places_in(alloc, &built.forest),
+        Err(SyntaxFault::OutOfMemory) => Err(OutOfMemory),
+        Err(_) => root_places(alloc, records),
+    }
+}
+
+/// The places of the segments of a document that was read.
+fn places_in(alloc: Global, nodes: &[Node]) -> Result<Items<Place>, OutOfMemory>
+    requires few { length (preorder (forest_of nodes.now)) ≤ MOST_NUMBERED }
+    requires levels { LevelsWithin 1 (forest_of nodes.now) }
+    ensures are { IfOk result (λ places. places ≡ places_in 1 0 1 (forest_of nodes.now)) }
+    ensures each { IfOk result (λ places. length places ≡ length (preorder (forest_of nodes.now))) }
+    ensures digits { IfOk result (λ places. AllByRecursion HasDigits places) }
+{
+    let mut places = Items::new(alloc);
+    push_places(nodes, 0, 1, &mut places)?;
+    Ok(places)
+}
+
+/// Adds the places of some nodes, with all below them. Above them is the segment of a number, and they are at this level.
+fn push_places(
+    nodes: &[Node],
+    above: u32,
+    level: u8,
+    places: &mut Items<Place>,
+) -> Result<(), OutOfMemory>
+    requires few { length places.old + length (preorder (forest_of nodes.now)) ≤ MOST_NUMBERED }
+    requires levels { LevelsWithin level (forest_of nodes.now) }
+    ensures { OnOk result (places.new ≡ places.old ++ places_in (suc (length places.old)) above level (forest_of nodes.now)) }
+{
+    for node in nodes {
+        let segnum = places.len() as u32 + 1;
+        places.push(Place {
+            segnum,
+            parent: above,
+            level,
+        })?;
+        push_places(&node.children, segnum, level + 1, places)?;
+    }
+    Ok(())
+}
+
+/// The places of data records that hang together in no known way.
+fn root_places(alloc: Global, records: &[Data]) -> Result<Items<Place>, OutOfMemory>
+    requires { length records.now ≤ MOST_NUMBERED }
+    ensures are { IfOk result (λ places. places ≡ root_places 1 records.now) }
+    ensures each { IfOk result (λ places. length places ≡ length records.now) }
+    ensures digits { IfOk result (λ places. AllByRecursion HasDigits places) }
+{
+    let mut places = Items::new(alloc);
+    for at in 0..records.len() {
+        places.push(Place {
+            segnum: at as u32 + 1,
+            parent: 0,
+            level: 1,
+        })?;
+    }
+    Ok(places)
+}
