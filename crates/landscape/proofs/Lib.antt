@@ -1,0 +1,12 @@
+-- logs that begin with a model begin so for good
+pub mod BegunLemmas
+-- the tables of a system that is up
+pub mod StandingLemmas
+-- what a command asks for is carried out
+pub mod CarriedLemmas
+-- what an operator asks for is carried out
+pub mod OperatorLemmas
+-- volumes that are opened, and systems that begin
+pub mod OpeningLemmas
+-- the unit of a claim, and what goes with its record
+pub mod WorkingLemmas

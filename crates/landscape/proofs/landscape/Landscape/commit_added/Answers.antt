@@ -1,0 +1,26 @@
+use Rattle.std.specs.Prelude.{map}
+use Rattle.std.proofs.Common.{◌≡◌, ◌++◌, ◌∷◌, [], sym, subst}
+use Rattle.said_models.specs.OfLog.{models_of}
+use Rattle.outbound_build.specs.declared.added.OutUnit.{OutUnit}
+use Rattle.outbound_build.specs.Committed.{committed_of}
+use Rattle.trfc_protocol.specs.declared.event.Event.TheVariants as event
+use Rattle.trfc_protocol.specs.Worlds.{log_of}
+use Rattle.unit_landscape.specs.Appending.{at}
+use Rattle.kept_world.specs.Kept.{KeptOf}
+use Rattle.document_tables.specs.declared.document_tables.DocumentTables.{DocumentTables}
+use Rattle.model_rules.specs.declared.model_rules.ModelRules.{ModelRules}
+use Rattle.landscape.proofs.BegunLemmas.{begun-appends}
+use Rattle.landscape.proofs.CarriedLemmas.{commit-commits}
+use Rattle.landscape.proofs.landscape.Landscape.commit_added.Goals as goal
+
+pub commit-requires-clause-commits : goal.commit-requires-clause-commits
+commit-requires-clause-commits g c =
+    let are : c.as_slice.result.now ≡ map (λ (one : OutUnit). one.unit) c.args.added.units =
+    (let one = c.as_slice.ensures in let two = c.units.view_is in let three = c.in-Ok.ensures in cc) in
+    subst (λ (k : KeptOf ModelRules DocumentTables g.row.V.Denot). committed_of (models_of (log_of k.world c.args.system ++ c.args.next ∷ [])) (log_of k.world c.args.system ++ c.args.next ∷ [])
+    ≡ committed_of (models_of (log_of k.world c.args.system)) (log_of k.world c.args.system) ++ c.as_slice.result.now) (sym c.self.view_is)
+    (commit-commits (log_of c.args.self.now.world c.args.system) c.args.next c.args.added c.as_slice.result.now c.requires.ready.its_kind c.requires.ready.goes are)
+
+pub invariant_of-self : goal.invariant_of-self
+invariant_of-self g c =
+    begun-appends g.V.Volumes.faults c.self.inside.units c.commit.new.self c.world.ensures.safe c.self.invariant (event.Commit c.args.system c.args.next) (at c.args.system c.args.next) c.commit.result c.commit.ensures.ends

@@ -1,0 +1,19 @@
+use Rattle.std.proofs.Common.{subst}
+use Rattle.unit_landscape.specs.Late.{late_record}
+use Rattle.unit_landscape.specs.Writes.{DiskAs}
+use Rattle.unit_landscape.proofs.LateEndsLemmas.{late-still}
+use Rattle.kept_world.specs.Kept.{KeptOf}
+use Rattle.document_tables.specs.declared.document_tables.DocumentTables.{DocumentTables}
+use Rattle.model_rules.specs.declared.model_rules.ModelRules.{ModelRules}
+use Rattle.landscape.proofs.BegunLemmas.{meaning, begun-late}
+use Rattle.landscape.proofs.landscape.Landscape.late_ended.Goals as goal
+
+pub invariant_of-self : goal.invariant_of-self
+invariant_of-self g c =
+    begun-late g.V.Volumes.faults c.self.inside.units c.late.new.self c.world.ensures.safe c.self.invariant c.args.tid c.late.result c.late.ensures.ends
+
+pub returns-in-Err-clause-disk : goal.returns-in-Err-clause-disk
+returns-in-Err-clause-disk g c =
+    subst (λ (k : KeptOf ModelRules DocumentTables g.row.V.Denot). DiskAs g.V.Volumes.told g.V.Volumes.volume g.V.Volumes.moment g.V.Volumes.images_since k k (late_record (meaning k.world.rules) k.world c.args.tid)) c.self.view_is
+    (late-still g.V.Volumes.told g.V.Volumes.volume g.V.Volumes.moment g.V.Volumes.images_since c.self.inside.units g.met.V.Volumes.only_now
+    c.world.ensures.kept.on_volumes (meaning c.self.inside.units.world.rules) c.args.tid)

@@ -1,0 +1,22 @@
+use Rattle.trfc_protocol.specs.declared.world.World.{World}
+use Rattle.unit_landscape.proofs.HappenedLemmas.{disk-seen}
+use Rattle.unit_landscape.specs.Calls.{reply_event}
+use Rattle.model_rules.specs.declared.model_rules.ModelRules.{ModelRules}
+use Rattle.landscape.proofs.BegunLemmas.{meaning, is_lawful, begun-replied}
+use Rattle.landscape.proofs.landscape.Landscape.reply.Goals as goal
+
+pub returns-then-not-holds-clause-disk : goal.returns-then-not-holds-clause-disk
+returns-then-not-holds-clause-disk g c =
+    disk-seen g.V.Volumes.told g.V.Volumes.volume g.V.Volumes.moment g.V.Volumes.images_since g.met.V.Volumes.only_now
+    meaning is_lawful c.self.inside.units c.args.self.now c.self.view_is c.world.ensures.safe c.world.ensures.kept.on_volumes
+    (λ (world : World ModelRules). reply_event (meaning world.rules) world c.args.claim c.args.given)
+
+pub invariant_of-self : goal.invariant_of-self
+invariant_of-self g c =
+    begun-replied g.V.Volumes.faults c.self.inside.units c.reply.new.self c.world.ensures.safe c.self.invariant c.args.claim c.args.given c.reply.result c.reply.ensures.ends
+
+pub returns-in-Err-clause-disk : goal.returns-in-Err-clause-disk
+returns-in-Err-clause-disk g c =
+    disk-seen g.V.Volumes.told g.V.Volumes.volume g.V.Volumes.moment g.V.Volumes.images_since g.met.V.Volumes.only_now
+    meaning is_lawful c.self.inside.units c.args.self.now c.self.view_is c.world.ensures.safe c.world.ensures.kept.on_volumes
+    (λ (world : World ModelRules). reply_event (meaning world.rules) world c.args.claim c.args.given)

@@ -1,0 +1,14 @@
+-- what is kept beside what the protocol keeps
+pub mod Begun
+-- the tables of a system that is up
+pub mod Standing
+-- what commands ask for, and how they are carried out
+pub mod Carried
+-- what an operator asks for
+pub mod Operator
+-- what is prepared for the work of a claim
+pub mod Working
+-- a landscape that is opened over empty volumes
+pub mod Opened
+-- what only private functions cite
+pub mod steps

@@ -1,0 +1,6 @@
+-- What only private functions cite.
+
+-- records that are to be appended, and how their appending ends
+pub mod Ready
+-- the steps of an opening
+pub mod Opening

@@ -1,0 +1,159 @@
+//! The landscape: what it is, and what is read of it. Its calls are in `commands` and `working`.
+
+ghost use Rattle.std.specs.Prelude.{◌≡◌};
+
+mod changing;
+mod commanding;
+mod executing;
+mod opening;
+mod operating;
+mod working;
+
+use ale_base::{OutOfMemory, SystemNo, Tid};
+use ale_volumes::Volumes;
+use dist_model::Model;
+use document_tables::DocumentTables;
+use model_rules::ModelRules;
+use std::alloc::Global;
+use std::sync::Arc;
+use trfc_protocol::World;
+use unit_core::{AleUnit, Record};
+use unit_landscape::{OutClaim, UnitLandscape};
+
+/// Systems that work by the models which their logs name: logs, claims and tables, over volumes.
+#[derive(Drop)]
+pub struct Landscape<V: Volumes> {
+    alloc: Global,
+    units: UnitLandscape<ModelRules, DocumentTables, V>,
+}
+
+impl<V: Volumes> std::marker::Model for Landscape<V> {
+    ghost use Rattle.kept_world.specs.Kept.{KeptOf};
+    ghost use Rattle.document_tables.specs.declared.document_tables.DocumentTables.{DocumentTables};
+    ghost use Rattle.model_rules.specs.declared.model_rules.ModelRules.{ModelRules};
+    ghost use Rattle.landscape.specs.Begun.{AreBegun};
+
+    ghost Value = { KeptOf ModelRules DocumentTables V };
+
+    ghost view = { λ landscape. landscape.units };
+
+    ghost invariant = { λ landscape. AreBegun landscape.units.world };
+}
+
+impl<V: Volumes> Landscape<V> {
+    ghost use Rattle.std.specs.Prelude.{◌≡◌, ◌-◌, ◌↔◌, true, IfOk};
+    ghost use Rattle.std.specs.Arc.{arc_value};
+    ghost use Rattle.std.specs.Option.{option_copied, option_map};
+    ghost use Rattle.document_tables.specs.Tables.{AreTablesOf};
+    ghost use Rattle.trfc_protocol.specs.Worlds.{log_of, is_up, committed_unit};
+    ghost use Rattle.system_journals.specs.OnDisk.{moments_at};
+    ghost use Rattle.system_journals.specs.Changes.{with_moment};
+    ghost use Rattle.kept_world.specs.Kept.{IsKept};
+    ghost use Rattle.unit_landscape.specs.Kept.{IsLandscape};
+    ghost use Rattle.unit_landscape.specs.Calls.{stands_out};
+    ghost use Rattle.unit_landscape.specs.Quiet.{IsQuiet};
+    ghost use Rattle.model_rules.specs.Meaning.{model_meaning};
+    ghost use Rattle.landscape.specs.Begun.{AreBegun};
+    ghost use Rattle.landscape.specs.Standing.{StandIfUp, WorksBy};
+
+    /// The landscape of systems whose logs begin with models of so many systems.
+    pub fn new(alloc: Global, units: UnitLandscape<ModelRules, DocumentTables, V>) -> Landscape<V>
+        requires { AreBegun units.world }
+        ensures { result ≡ units }
+    {
+        Landscape { alloc, units }
+    }
+
+    /// The world: the logs and the claims. It is safe; the tables are in step with it, the volumes hold its logs, and each log begins
+    /// with a model of the systems.
+    pub fn world(&self) -> &World<ModelRules>
+        ensures world { result.now ≡ self.now.world }
+        ensures safe { IsLandscape (λ rules. model_meaning rules.systems) self.now.world }
+        ensures kept { IsKept (λ rules. model_meaning rules.systems) (λ tables log. AreTablesOf log tables) V.told V.volume self.now }
+        ensures begun { AreBegun self.now.world }
+    {
+        self.units.world()
+    }
+
+    /// The log of a system. It is empty where the landscape has no system of this number.
+    pub fn log(&self, system: SystemNo) -> &[Record]
+        ensures { result.now ≡ log_of self.now.world system }
+    {
+        self.units.log(system)
+    }
+
+    /// Whether a system is up.
+    pub fn is_up(&self, system: SystemNo) -> bool
+        ensures { result ≡ is_up self.now.world system }
+    {
+        self.units.is_up(system)
+    }
+
+    /// The unit of this id, as its sender committed it, in constant time. None exactly where it committed none.
+    pub fn unit(&self, tid: Tid) -> Option<&AleUnit>
+        ensures { option_copied result ≡ committed_unit (model_meaning self.now.world.rules.systems) self.now.world tid }
+    {
+        self.units.unit(tid)
+    }
+
+    /// The moments of the entries of a system's log, oldest first: none of them where there is no such system.
+    pub fn moments(&self, system: SystemNo) -> &[Option<u64>]
+        ensures { result.now ≡ moments_at self.now.journals (system - 1) }
+    {
+        self.units.moments(system)
+    }
+
+    /// Sets the moment with which records are written from now on; `None` where none is known.
+    pub fn set_moment(&mut self, moment: Option<u64>)
+        ensures { self.new ≡ record self.old { journals = with_moment moment self.old.journals } }
+    {
+        self.units.set_moment(moment);
+    }
+
+    /// Whether a claim stands. It takes no memory.
+    pub fn holds(&self, claim: &OutClaim) -> bool
+        ensures { result ≡ stands_out self.now.world claim.now }
+    {
+        self.units.holds(claim)
+    }
+
+    /// Whether nothing is left to do: no unit is offered at any system in either direction, and no unit that is done and not ended has
+    /// both its systems up. It takes no memory.
+    pub fn quiet(&self) -> bool
+        ensures { (result ≡ true) ↔ IsQuiet (model_meaning self.now.world.rules.systems) self.now.world }
+    {
+        self.units.quiet()
+    }
+
+    /// The tables of a system. None exactly where it is down.
+    pub fn tables(&self, system: SystemNo) -> Option<&DocumentTables>
+        ensures { StandIfUp self.now.world system (option_copied result) }
+    {
+        let _ = self.units.world();
+        if !self.units.is_up(system) {
+            return None;
+        }
+        self.units.application(system)
+    }
+
+    /// The model by which a system works, with which it is prepared what becomes of its units. None exactly where the system is down.
+    pub fn model(&self, system: SystemNo) -> Result<Option<Arc<Model>>, OutOfMemory>
+        ensures { IfOk result (λ model. WorksBy self.now.world system (option_map arc_value model)) }
+    {
+        let Some(tables) = self.tables(system) else {
+            return Ok(None);
+        };
+        match tables.model() {
+            Some(model) => Ok(Some(Arc::try_clone(model)?)),
+            None => unreachable!(),
+        }
+    }
+
+    /// The volumes.
+    pub fn into_volumes(self) -> V
+        ensures { result ≡ self.vols }
+    {
+        let Landscape { units, .. } = self;
+        units.into_volumes()
+    }
+}

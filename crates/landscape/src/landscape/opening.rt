@@ -1,0 +1,237 @@
+//! A landscape is opened over volumes that are empty: each volume is opened, and then each system begins with its Genesis.
+
+ghost use Rattle.std.specs.Prelude.{◌≡◌, ◌≤◌, ◌<◌, ℕ, suc, List, [], Option, Some, OnOk, length, slice_get};
+ghost use Rattle.std.specs.Arc.{arc_value};
+ghost use Rattle.said_models.specs.Said.{said};
+ghost use Rattle.unit_core.specs.declared.records.Record.TheVariants.{Genesis};
+ghost use Rattle.trfc_protocol.specs.Start.{first_state};
+ghost use Rattle.trfc_protocol.specs.Worlds.{with_record};
+ghost use Rattle.landscape_opening.specs.declared.beginning.TheConstants.{MOST_TEXT};
+ghost use Rattle.landscape_opening.specs.Opening.{begun_world};
+ghost use Rattle.landscape.specs.steps.Opening.{AreBegunSoFar, AreOpened, BeginsAs, BeginsNext, OpensAs, begun_of, opened_of};
+
+use super::Landscape;
+use crate::open_end::{OpenEnd, OpenWhy, why_begun, why_opened};
+use ale_base::{Items, OutOfMemory, SystemNo};
+use ale_volumes::Volumes;
+use dist_model::Model;
+use document_tables::{DocumentTables, Made};
+use kept_world::KeptWorld;
+use landscape_opening::{BeginEnd, NotOpened, Opening, begin, begun};
+use model_rules::ModelRules;
+use said_models::Readings;
+use std::alloc::Global;
+use std::sync::Arc;
+
+/// The logs, claims and tables of a landscape, over its volumes.
+type Kept<V> = KeptWorld<ModelRules, DocumentTables, V>;
+
+impl<V: Volumes> Landscape<V> {
+    ghost use Rattle.std.specs.Prelude.{◌≡◌, ◌≤◌, Some, length, IfOk};
+    ghost use Rattle.std.specs.Arc.{arc_value};
+    ghost use Rattle.said_models.specs.Said.{said};
+    ghost use Rattle.landscape_opening.specs.declared.beginning.TheConstants.{MOST_TEXT};
+    ghost use Rattle.landscape.specs.Opened.{FaultsOpened, HasOpened, LeavesOpening, WhyOpened, vols_after};
+
+    /// Opens the landscape of the systems of a model, over volumes that are empty: system i on volume i - 1. Each begins with a Genesis
+    /// of the model's text, which has at most `MOST_TEXT` bytes. Records are written with this moment, until another one is set; `None`
+    /// where none is known.
+    ///
+    /// An `Err` gives the volumes back. `NotBuilt` comes exactly where one of them does not stand for the empty log: landscapes of
+    /// earlier runs are not opened yet. `Volume` comes where a call on one of them failed, as the count of its faults tells, and
+    /// `OutOfMemory` where a request for memory was refused.
+    pub fn open(
+        alloc: Global,
+        model: Arc<Model>,
+        text: Items<u8>,
+        moment: Option<u64>,
+        vols: V,
+    ) -> Result<Landscape<V>, OpenEnd<V>>
+        requires said { said text ≡ Some (arc_value model) }
+        requires short { length text ≤ MOST_TEXT }
+        ensures opened { IfOk result (HasOpened (length (arc_value model).systems) text moment) }
+        ensures why { WhyOpened V.volume (length (arc_value model).systems) text moment vols (vols_after result) V.told result }
+        ensures faults { FaultsOpened (length (arc_value model).systems) V.faults vols (vols_after result) result }
+
+        // A crash at any moment of the call leaves of each volume what was handed in, or what reads as it; or the empty log, or the
+        // Genesis of its system alone. Volumes behind those of the systems are not called.
+        ensures volumes { V.told → LeavesOpening V.volume (length (arc_value model).systems) text moment vols (vols_after result) V.moment V.images_since }
+    {
+        let systems = model.as_lists().systems.len() as u8;
+        let readings = match readings_of(alloc, &text, model) {
+            Ok(readings) => readings,
+            Err(_) => {
+                return Err(OpenEnd {
+                    why: OpenWhy::OutOfMemory,
+                    vols,
+                });
+            }
+        };
+        match begin_over(alloc, readings, systems, text.as_slice(), moment, vols) {
+            Ok(kept) => Ok(Landscape::new(alloc, begun(alloc, kept))),
+            Err(end) => Err(end),
+        }
+    }
+}
+
+/// The text with its model, which need not be read again.
+fn readings_of(
+    alloc: Global,
+    text: &Items<u8>,
+    model: Arc<Model>,
+) -> Result<Arc<Readings>, OutOfMemory>
+    requires { said text.now ≡ Some (arc_value model) }
+{
+    let mut readings = Readings::new(alloc);
+    readings.enter(text.clone()?, model)?;
+    Ok(Arc::new(alloc, readings)?)
+}
+
+/// Opens the volumes of so many systems, and begins each system.
+fn begin_over<V: Volumes>(
+    alloc: Global,
+    readings: Arc<Readings>,
+    systems: u8,
+    text: &[u8],
+    moment: Option<u64>,
+    vols: V,
+) -> Result<Kept<V>, OpenEnd<V>>
+    requires least { 1 ≤ systems }
+    requires most { systems ≤ 16 }
+    requires short { length text.now ≤ MOST_TEXT }
+    ensures { BeginsAs V.told V.volume V.moment V.images_since V.faults systems text.now moment vols systems result }
+{
+    match open_all(alloc, readings, systems, moment, vols) {
+        Ok(kept) => begin_all(alloc, kept, systems, text),
+        Err(end) => Err(end),
+    }
+}
+
+/// Opens the volumes of so many systems.
+fn open_all<V: Volumes>(
+    alloc: Global,
+    readings: Arc<Readings>,
+    systems: u8,
+    moment: Option<u64>,
+    vols: V,
+) -> Result<Kept<V>, OpenEnd<V>>
+    requires least { 1 ≤ systems }
+    requires most { systems ≤ 16 }
+    ensures { (text : List ℕ) → BeginsAs V.told V.volume V.moment V.images_since V.faults systems text moment vols 0 result }
+{
+    let known = match Arc::try_clone(&readings) {
+        Ok(known) => known,
+        Err(_) => {
+            return Err(OpenEnd {
+                why: OpenWhy::OutOfMemory,
+                vols,
+            });
+        }
+    };
+    let rules = ModelRules::new(known, systems);
+    let mut opening = Opening::new(alloc, rules, moment, vols);
+    for _number in 0..systems {
+        opening = match open_next(alloc, opening, &readings) {
+            Ok(next) => next,
+            Err(end) => return Err(end),
+        };
+    }
+    Ok(opening.into_kept())
+}
+
+/// Opens the volume of the next system.
+fn open_next<V: Volumes>(
+    alloc: Global,
+    opening: Opening<ModelRules, DocumentTables, V>,
+    readings: &Arc<Readings>,
+) -> Result<Opening<ModelRules, DocumentTables, V>, OpenEnd<V>>
+    requires next { length opening.world.systems < opening.world.rules.systems }
+    ensures { (text : List ℕ) (set : Option ℕ) (before : V)
+        → AreOpened V.told V.volume V.moment V.images_since V.faults opening.world.rules.systems text set before (length opening.world.systems) opening
+        → OpensAs V.told V.volume V.moment V.images_since V.faults opening.world.rules.systems text set before (suc (length opening.world.systems)) result }
+{
+    match Arc::try_clone(readings) {
+        Ok(readings) => opened(opening.system(DocumentTables::new(alloc, readings))),
+        Err(_) => Err(OpenEnd {
+            why: OpenWhy::OutOfMemory,
+            vols: opening.into_volumes(),
+        }),
+    }
+}
+
+/// A volume that was opened, or why no landscape is.
+fn opened<T, V>(end: Result<T, NotOpened<V>>) -> Result<T, OpenEnd<V>>
+    ensures { result ≡ opened_of end }
+{
+    match end {
+        Ok(next) => Ok(next),
+        Err(NotOpened { why, vols }) => Err(OpenEnd {
+            why: why_opened(why),
+            vols,
+        }),
+    }
+}
+
+/// Each system begins with a Genesis of this text.
+fn begin_all<V: Volumes>(
+    alloc: Global,
+    kept: Kept<V>,
+    systems: u8,
+    text: &[u8],
+) -> Result<Kept<V>, OpenEnd<V>>
+    requires most { systems ≤ 16 }
+    requires short { length text.now ≤ MOST_TEXT }
+    requires begins { kept.world ≡ begun_world kept.world.rules [] systems }
+    ensures { (set : Option ℕ) (before : V)
+        → AreBegunSoFar V.told V.volume V.moment V.images_since V.faults systems text.now set before 0 kept
+        → BeginsAs V.told V.volume V.moment V.images_since V.faults systems text.now set before systems result }
+{
+    let mut kept = kept;
+    for number in 0..systems {
+        match begin_next(alloc, &mut kept, number, text) {
+            Ok(()) => {}
+            Err(why) => {
+                return Err(OpenEnd {
+                    why,
+                    vols: kept.into_volumes(),
+                });
+            }
+        }
+    }
+    Ok(kept)
+}
+
+/// The next system begins, behind so many.
+fn begin_next<V: Volumes>(
+    alloc: Global,
+    kept: &mut Kept<V>,
+    number: u8,
+    text: &[u8],
+) -> Result<(), OpenWhy>
+    requires short { length text.now ≤ MOST_TEXT }
+    requires few { number < 16 }
+    requires empty { slice_get kept.old.world.systems number ≡ Some (first_state []) }
+    requires no_claims { kept.old.world.claims ≡ [] }
+    ensures world { OnOk result (kept.new.world ≡ with_record kept.old.world (suc number) (Genesis (suc number) text.now)) }
+    ensures begun { (many : ℕ) (set : Option ℕ) (before : V) → number < many
+        → AreBegunSoFar V.told V.volume V.moment V.images_since V.faults many text.now set before number kept.old
+        → BeginsNext V.told V.volume V.moment V.images_since V.faults many text.now set before (suc number) kept.new result }
+{
+    let Some(system) = SystemNo::of(number + 1) else {
+        unreachable!();
+    };
+    let Ok(text) = Items::from_slice(alloc, text) else {
+        return Err(OpenWhy::OutOfMemory);
+    };
+    begun_as(begin(kept, system, text, Made::Nothing))
+}
+
+/// That a system has begun, or why no landscape is opened.
+fn begun_as(end: Result<(), BeginEnd>) -> Result<(), OpenWhy>
+    ensures { result ≡ begun_of end }
+{
+    match end {
+        Ok(()) => Ok(()),
+        Err(end) => Err(why_begun(end)),
+    }
+}

@@ -1,0 +1,16 @@
+//! Systems that work by a distribution model: commands, units and their application, over volumes.
+//!
+//! Contract: a command appends exactly the record that it asks for by the log of its system, and nothing where it asks for none, or is
+//! refused exactly for the first reason that applies; each call that moves a unit is its event of the protocol, under the models that
+//! the logs name. The definitions are in `specs/`: `Begun` (what is kept), `Standing` (the tables of a system), `Carried` (what commands
+//! ask for, and how they are carried out).
+#![tactic(auto)]
+
+mod commands;
+mod counts;
+mod landscape;
+mod open_end;
+
+pub use counts::{Gathered, Sent};
+pub use landscape::Landscape;
+pub use open_end::{OpenEnd, OpenWhy};
