@@ -1,0 +1,40 @@
+//! The suite: a case file's items, answered one after another on one bench.
+
+use crate::bench::Bench;
+use ale_base::{Items, OutOfMemory};
+use case_form::{CaseFault, Item, Outcome, Step, Suite, read_items};
+use std::alloc::Global;
+
+/// The cases of landscapes.
+pub(crate) struct LandscapeCases;
+
+impl Suite for LandscapeCases {
+    fn outcome(&self, alloc: Global, file: &str, bytes: &[u8]) -> Result<Outcome, OutOfMemory> {
+        Outcome::of(steps_of(alloc, file, bytes))
+    }
+}
+
+/// The steps of a case file: one for each item that finds a text.
+fn steps_of(alloc: Global, file: &str, bytes: &[u8]) -> Result<Items<Step>, CaseFault> {
+    let items = read_items(alloc, file, bytes)?;
+    let mut bench = Bench::new(alloc);
+    let mut steps = Items::new(alloc);
+    for item in &items {
+        put_step(alloc, &mut bench, item, &mut steps)?;
+    }
+    Ok(steps)
+}
+
+/// Adds the step of an item, where it finds a text.
+fn put_step(
+    alloc: Global,
+    bench: &mut Bench,
+    item: &Item,
+    steps: &mut Items<Step>,
+) -> Result<(), CaseFault> {
+    match bench.found(item) {
+        Ok(Some(found)) => Ok(steps.push(Step::of(alloc, item, found)?)?),
+        Ok(None) => Ok(()),
+        Err(end) => Err(end.at(item.line)),
+    }
+}
