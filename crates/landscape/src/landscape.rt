@@ -1,4 +1,5 @@
-//! The landscape: what it is, and what is read of it. Its calls are in `commands` and `working`.
+//! The landscape: what it is, and what is read of it. Its calls are in `opening`, `commanding`, `changing`, `operating`, `working` and
+//! `executing`.
 
 ghost use Rattle.std.specs.Prelude.{◌≡◌};
 

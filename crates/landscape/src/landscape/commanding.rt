@@ -28,7 +28,8 @@ impl<V: Volumes> Landscape<V> {
     ghost use Rattle.landscape.specs.Carried.{CarriedAs, DiskAsked, asked_at, counts_asked, counts_of, sent_counts};
     ghost use Rattle.landscape.specs.steps.Ready.{IsReady, IsJudged, ReadyAs, EndedAs, DoneAs, CountsAs, DiskJudged};
 
-    /// Sends a master, of at most `MOST_SEGMENTS` segments: it is committed, with a unit for each receiver that is entitled to it.
+    /// Sends a master, of at most `MOST_SEGMENTS` segments: it is committed, with what each receiver is sent that is entitled to it, in
+    /// units or as documents that wait to be dispatched.
     ///
     /// `N2` comes exactly where the system is down; `N12` else where MESTYP or IDOCTYP is refused; `N4` else where its data records are
     /// no document of its type; `N11` else where there would be over 65,536 units; `N10` else where the journal is full.

@@ -37,9 +37,9 @@ impl<V: Volumes> Landscape<V> {
     /// of the model's text, which has at most `MOST_TEXT` bytes. Records are written with this moment, until another one is set; `None`
     /// where none is known.
     ///
-    /// An `Err` gives the volumes back. `NotBuilt` comes exactly where one of them does not stand for the empty log: landscapes of
-    /// earlier runs are not opened yet. `Volume` comes where a call on one of them failed, as the count of its faults tells, and
-    /// `OutOfMemory` where a request for memory was refused.
+    /// An `Err` gives the volumes back. `NotBuilt` comes only where one of them does not stand for the empty log, and a landscape is
+    /// opened only where all of them do: those of earlier runs are not opened yet. `Volume` comes only where a call on one of them
+    /// failed, as the count of its faults tells, and `OutOfMemory` where a request for memory was refused.
     pub fn open(
         alloc: Global,
         model: Arc<Model>,
