@@ -7,3 +7,5 @@ pub mod Piece
 pub mod Written
 -- what a call does to a count of faults
 pub mod FaultCount
+-- what a clock in memory gives
+pub mod Moments
