@@ -1,0 +1,2 @@
+-- the numbers by which letters are kept
+pub mod NumberLemmas

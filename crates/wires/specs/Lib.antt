@@ -1,0 +1,2 @@
+-- letters, and those that are left of units
+pub mod Wires
