@@ -99,7 +99,8 @@ begun-steps world after first second is begun same =
     begun-step between (landscape-step meaning is_lawful world between first is refl) (begun-step world is begun between first refl) after second
     (same ∙ ap (λ (r : ModelRules). happens (meaning r) between second) (sym step.0))
 
-module _ {V : Type 0} (faults : V → ℕ → ℕ) (before after : KeptOf ModelRules DocumentTables V) (is : IsLandscape meaning before.world) (begun : AreBegun before.world) where
+module _ {V : Type 0} (faults : V → ℕ → ℕ) (before after : KeptOf ModelRules DocumentTables V) (is : IsLandscape meaning before.world)
+    (begun : AreBegun before.world) where
   pub begun-happened : (e : Event) → Happened (meaning before.world.rules) faults before after e → AreBegun after.world
   begun-happened e did = begun-step before.world is begun after.world e did.world
 
@@ -119,7 +120,8 @@ module _ {V : Type 0} (faults : V → ℕ → ℕ) (before after : KeptOf ModelR
   begun-as_before same = begun-same before.world is begun after.world (ap (λ (k : KeptOf ModelRules DocumentTables V). k.world) same)
 
   -- however a record was appended
-  pub begun-appends : {T : Type 0} (e : Event) (it : Writing) (result : Result T AppendEnd) → AppendsAs (meaning before.world.rules) faults before after e it result
+  pub begun-appends : {T : Type 0} (e : Event) (it : Writing) (result : Result T AppendEnd) → AppendsAs (meaning before.world.rules) faults before after e it
+      result
       → AreBegun after.world
   begun-appends e it (Ok done) did = begun-happened e did
   begun-appends e it (Err Volume) did = begun-failed it did
@@ -170,14 +172,16 @@ module _ {V : Type 0} (faults : V → ℕ → ℕ) (before after : KeptOf ModelR
   ]
   begun-arrived unit (Err why) did short = begun-short (event.Arrive unit.tid) short
 
-  pub begun-finished : (claim : InClaim) (result : Result Finished WorkEnd) → FinishedAs (meaning before.world.rules) faults before after claim result → AreBegun after.world
+  pub begun-finished : (claim : InClaim) (result : Result Finished WorkEnd) → FinishedAs (meaning before.world.rules) faults before after claim result →
+      AreBegun after.world
   begun-finished claim (Ok (finished.Executed receipt)) did = begun-happened (event.Finish claim.number) did.2
   begun-finished claim (Ok finished.Failed) did = begun-happened (event.Fail claim.number) did.2
   begun-finished claim (Ok finished.Down) did = begun-fell (finish_event (meaning before.world.rules) before.world claim) did.1
   begun-finished claim (Err Stale) did = begun-as_before did.1
   begun-finished claim (Err work.OutOfMemory) did = begun-short (finish_event (meaning before.world.rules) before.world claim) did.1
 
-  pub begun-replied : (claim : OutClaim) (given : Reply) (result : Result Replied WorkEnd) → RepliedAs (meaning before.world.rules) faults before after claim given result
+  pub begun-replied : (claim : OutClaim) (given : Reply) (result : Result Replied WorkEnd) → RepliedAs (meaning before.world.rules) faults before after claim
+      given result
       → AreBegun after.world
   begun-replied claim given (Ok replied.Recorded) did = begun-happened (reply_event (meaning before.world.rules) before.world claim given) did.2
   begun-replied claim given (Ok replied.Released) did = begun-happened (reply_event (meaning before.world.rules) before.world claim given) did.2
@@ -205,13 +209,15 @@ module _ {V : Type 0} (faults : V → ℕ → ℕ) (before after : KeptOf ModelR
   ]
   begun-closed tid (Err why) did short = begun-short (event.Reply (Forgotten tid)) short
 
-  pub begun-claimed_out : (system : ℕ) (result : Result (Option OutClaim) OutOfMemory) → IfOk result (ClaimedOut (meaning before.world.rules) faults before after system)
+  pub begun-claimed_out : (system : ℕ) (result : Result (Option OutClaim) OutOfMemory) → IfOk result
+      (ClaimedOut (meaning before.world.rules) faults before after system)
       → OnErr result (after ≡ before) → AreBegun after.world
   begun-claimed_out system (Ok None) did same = begun-as_before did.0
   begun-claimed_out system (Ok (Some claim)) did same = begun-happened (event.Claim claim.tid) did.0
   begun-claimed_out system (Err why) did same = begun-as_before same
 
-  pub begun-claimed_in : (system : ℕ) (result : Result (Option InClaim) OutOfMemory) → IfOk result (ClaimedIn (meaning before.world.rules) faults before after system)
+  pub begun-claimed_in : (system : ℕ) (result : Result (Option InClaim) OutOfMemory) → IfOk result
+      (ClaimedIn (meaning before.world.rules) faults before after system)
       → OnErr result (after ≡ before) → AreBegun after.world
   begun-claimed_in system (Ok None) did same = begun-as_before did.0
   begun-claimed_in system (Ok (Some claim)) did same = begun-happened (event.Run claim.tid) did.0
@@ -221,7 +227,8 @@ module _ {V : Type 0} (faults : V → ℕ → ℕ) (before after : KeptOf ModelR
 
   -- two events, and a third
   begun-behind_run : (tid : TidOf) (number system : ℕ)
-      → after.world ≡ happens (meaning before.world.rules) (happens (meaning before.world.rules) (happens (meaning before.world.rules) before.world (event.Arrive tid)) (event.Finish number)) (Fall system None)
+      → after.world ≡ happens (meaning before.world.rules)
+      (happens (meaning before.world.rules) (happens (meaning before.world.rules) before.world (event.Arrive tid)) (event.Finish number)) (Fall system None)
       → AreBegun after.world
   begun-behind_run tid number system same =
       let first : World ModelRules = happens (meaning before.world.rules) before.world (event.Arrive tid) in

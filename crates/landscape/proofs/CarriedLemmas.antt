@@ -50,7 +50,8 @@ module _ (world : World ModelRules) (system : ℕ) where
   pub allowed-by : (tables : DocumentTables) (stand : StandAt world system tables) (next : Record) → allowed_under (log_of world system) stand.model next ≡ true
       → allowed world.rules.systems (log_of world system) next ≡ true
   allowed-by tables stand next may =
-      ap (λ found. option_map_or (λ (m : Lists). (length m.systems == world.rules.systems) && allowed_under (log_of world system) m next) found false) stand.in_force
+      ap (λ found. option_map_or (λ (m : Lists). (length m.systems == world.rules.systems) && allowed_under (log_of world system) m next) found false)
+      stand.in_force
       ∙ and_from (length stand.model.systems == world.rules.systems) (allowed_under (log_of world system) stand.model next)
       (eq-eqb (length stand.model.systems) world.rules.systems stand.many) may
 
@@ -63,7 +64,8 @@ module _ (world : World ModelRules) (system : ℕ) where
 
   module _ (kind : Record → Bool) (asked : List Record → Asked) (tables : DocumentTables) (stand : StandAt world system tables)
       (may : (next : Record) → asked (log_of world system) ≡ Ok (Some next) → allowed_under (log_of world system) stand.model next ≡ true) where
-    is-asked : (wanted : Wanted) → IsWanted (log_of world system) kind (asked (log_of world system)) wanted → IsAsked world system kind (asked_at world system asked) wanted
+    is-asked : (wanted : Wanted) → IsWanted (log_of world system) kind (asked (log_of world system)) wanted → IsAsked world system kind
+        (asked_at world system asked) wanted
     is-asked wanted is = record {
       record_asked = asked-up asked stand.up ∙ is.record_asked;
       ready = record {
@@ -125,13 +127,15 @@ module _ (world : World ModelRules) (is : IsLandscape meaning world) (system : �
       ∙ ap (λ b. record_if b system next) (follows kind up may)
 
 -- what goes with a record that commits documents is what it adds
-goes-added : (records : List Record) (next : Record) (added : Added) → is_commit next ≡ true → GoesWith records next (made.Sent added) → added ≡ added_behind records next
+goes-added : (records : List Record) (next : Record) (added : Added) → is_commit next ≡ true → GoesWith records next (made.Sent added) → added ≡ added_behind
+    records next
 goes-added records (log.Commit origin docs) added kind goes = goes
 goes-added records log.Dispatch added kind goes = goes
 goes-added records _ added kind goes = absurd (cc)
 
 -- so the longer log commits the units of what goes with it
-pub commit-commits : (records : List Record) (next : Record) (added : Added) (units : List AleUnit) → is_commit next ≡ true → GoesWith records next (made.Sent added)
+pub commit-commits : (records : List Record) (next : Record) (added : Added) (units : List AleUnit) → is_commit next ≡ true → GoesWith records next
+    (made.Sent added)
     → units ≡ map (λ (one : OutUnit). one.unit) added.units
     → committed_of (models_of (records ++ next ∷ [])) (records ++ next ∷ []) ≡ committed_of (models_of records) records ++ units
 commit-commits records next added units kind goes are =
@@ -143,7 +147,8 @@ commit-commits records next added units kind goes are =
 
 module _ {V : Type 0} (faults : V → ℕ → ℕ) (before after : KeptOf ModelRules DocumentTables V) (system : ℕ) (event : Record → Event) where
   -- how its appending ended
-  pub ended-as : {T : Type 0} (next : Record) (result : Result T AppendEnd) → AppendsAs (meaning before.world.rules) faults before after (event next) (at system next) result
+  pub ended-as : {T : Type 0} (next : Record) (result : Result T AppendEnd) → AppendsAs (meaning before.world.rules) faults before after (event next)
+      (at system next) result
       → EndedAs faults before after system event next (ended_of result)
   ended-as next (Ok done) did = did
   ended-as next (Err end.Volume) did = did
@@ -163,9 +168,12 @@ module _ {V : Type 0} (faults : V → ℕ → ℕ) (before after : KeptOf ModelR
   asked-ended P asked next is (Err _) did answers = absurd did
 
   -- a command that was judged to be refused, or to want memory, changed nothing
-  refused : {T : Type 0} (P : T → Type 0) (kind : Record → Bool) (asked : Asked) (why : Refusal) → ReadyAs before.world system kind asked (Err why) → after ≡ before
+  refused : {T : Type 0} (P : T → Type 0) (kind : Record → Bool) (asked : Asked) (why : Refusal) → ReadyAs before.world system kind asked (Err why) → after
+      ≡ before
       → CarriedAs faults before after system event asked P (Err why)
-  refused P kind asked refusal.OutOfMemory is same = inl (subst (λ (k : KeptOf ModelRules DocumentTables V). Stays (meaning before.world.rules) faults before k) (sym same) (record { world = refl; tables = refl; journals = refl; no_faults = λ place. refl }))
+  refused P kind asked refusal.OutOfMemory is same = inl
+      (subst (λ (k : KeptOf ModelRules DocumentTables V). Stays (meaning before.world.rules) faults before k) (sym same)
+      (record { world = refl; tables = refl; journals = refl; no_faults = λ place. refl }))
   refused P kind asked refusal.Volume is same = absurd is
   refused P kind asked (refusal.N10 size) is same = absurd is
   refused P kind asked why is same = (is, same)

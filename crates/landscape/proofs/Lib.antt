@@ -2,6 +2,8 @@
 pub mod BegunLemmas
 -- the tables of a system that is up
 pub mod StandingLemmas
+-- what an operator is shown
+pub mod ShownLemmas
 -- what a command asks for is carried out
 pub mod CarriedLemmas
 -- what an operator asks for is carried out

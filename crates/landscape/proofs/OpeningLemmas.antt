@@ -86,7 +86,8 @@ first-all many text world is = is ∙ ap (first_world world.rules) (begun_logs-s
 
 -- ---- the next system of a world in which so many have begun with one text
 
-module _ (many count : ℕ) (text : List ℕ) (world : World ModelRules) (is : world ≡ begun_world world.rules (replicate count text) (many - count)) (less : count < many) where
+module _ (many count : ℕ) (text : List ℕ) (world : World ModelRules) (is : world ≡ begun_world world.rules (replicate count text) (many - count))
+    (less : count < many) where
   whole : world ≡ begun_world world.rules (replicate count text) (suc (many - suc count))
   whole = let more : many - count ≡ suc (many - suc count) = omega arith in is ∙ ap (begun_world world.rules (replicate count text)) more
 
@@ -154,12 +155,14 @@ module _ {V : Type 0} (told : Type 0) (volume : V → ℕ → OneVolume) (moment
   -- nothing was done yet
   left-none : (told → (vols : V) (n : ℕ) (image : List ℕ) → images_since vols n (moment vols) image → IsImage (volume vols n) image) → told → Left before
   left-none only tells = record {
-    leaves = λ place. started moment images_since before place (IsLeft volume many text set before before place) (λ image left. inl (inl (only tells before place image left)));
+    leaves = λ place. started moment images_since before place (IsLeft volume many text set before before place)
+        (λ image left. inl (inl (only tells before place image left)));
     beyond = λ place behind. untouched-none tells place;
   }
 
   pub AreOpened-none : (told → (vols : V) (n : ℕ) (image : List ℕ) → images_since vols n (moment vols) image → IsImage (volume vols n) image)
-      → (now : Kept) → now.world.rules.systems ≡ many → length now.world.systems ≡ 0 → count_of now.journals ≡ 0 → moment_of now.journals ≡ set → now.vols ≡ before
+      → (now : Kept) → now.world.rules.systems ≡ many → length now.world.systems ≡ 0 → count_of now.journals ≡ 0 → moment_of now.journals ≡ set → now.vols
+      ≡ before
       → Opened 0 now
   AreOpened-none only now all none journals is vols = record {
     all = all;
@@ -179,13 +182,15 @@ module _ {V : Type 0} (told : Type 0) (volume : V → ℕ → OneVolume) (moment
 
   -- a call on the volume at a place, which leaves of it what an opening may
   module _ (now after : V) (n : ℕ) where
-    left-more : Left now → n < many → LeavesOnly moment images_since now after n (IsLeft volume many text set before after n) → KeepsOthers volume moment images_since now after n
+    left-more : Left now → n < many → LeavesOnly moment images_since now after n (IsLeft volume many text set before after n) → KeepsOthers volume moment
+        images_since now after n
         → Left after
     left-more left less only others = record {
       leaves = λ place. elim (cases_eq place n) [
         | inl same ↦ subst (λ m. LeavesOnly moment images_since before after m (IsLeft volume many text set before after m)) (sym same)
             (joined moment images_since before now after n (IsLeft volume many text set before after n) (left.leaves n) only)
-        | inr other ↦ LeavesOnly-then_kept moment images_since volume before now after place (IsLeft volume many text set before after place) (left.leaves place)
+        | inr other ↦ LeavesOnly-then_kept moment images_since volume before now after place (IsLeft volume many text set before after place)
+            (left.leaves place)
             (KeepsVolume-other moment images_since volume now after n place only.later other others)
       ];
       beyond = λ place behind.
@@ -197,7 +202,8 @@ module _ {V : Type 0} (told : Type 0) (volume : V → ℕ → OneVolume) (moment
     failed-here : n < many → NoneFailed many faults before now → Rose (faults now n) (faults after n) → EndedByFault many faults before after Volume
     failed-here less none rose = (n, less, subst (λ k. Rose k (faults after n)) (none n) rose)
 
-    none-more : {Failed : Type 0} → NoneFailed many faults before now → CountsFault Failed (faults now) (faults after) n → (Failed → ⊥) → NoneFailed many faults before after
+    none-more : {Failed : Type 0} → NoneFailed many faults before now → CountsFault Failed (faults now) (faults after) n → (Failed → ⊥) → NoneFailed many
+        faults before after
     none-more none counts not place = elim (cases_eq place n) [
       | inl same ↦ subst (λ m. faults after m ≡ faults before m) (sym same) (counts.quiet not ∙ none n)
       | inr other ↦ counts.others place other ∙ none place
@@ -209,17 +215,20 @@ module _ {V : Type 0} (told : Type 0) (volume : V → ℕ → OneVolume) (moment
     known : told → volume now.vols (length now.world.systems) ≡ volume before (length now.world.systems)
     known tells = (is.untouched tells (length now.world.systems) (let here = is.opened in omega arith)).known
 
-    only-here : told → (after : V) → LeavesOnly moment images_since now.vols after (length now.world.systems) (IsLeftByOpening (volume now.vols (length now.world.systems)))
+    only-here : told → (after : V) → LeavesOnly moment images_since now.vols after (length now.world.systems)
+        (IsLeftByOpening (volume now.vols (length now.world.systems)))
         → LeavesOnly moment images_since now.vols after (length now.world.systems) (IsLeft volume many text set before after (length now.world.systems))
     only-here tells after only =
         weaker moment images_since now.vols after (length now.world.systems) (IsLeftByOpening (volume now.vols (length now.world.systems)))
         (IsLeft volume many text set before after (length now.world.systems))
         (λ image has. inl (subst (λ (v : OneVolume). IsLeftByOpening v image) (known tells) has)) only
 
-    opened-left : (after : V) → (told → LeavesOnly moment images_since now.vols after (length now.world.systems) (IsLeftByOpening (volume now.vols (length now.world.systems))))
+    opened-left : (after : V) → (told → LeavesOnly moment images_since now.vols after (length now.world.systems)
+        (IsLeftByOpening (volume now.vols (length now.world.systems))))
         → (told → KeepsOthers volume moment images_since now.vols after (length now.world.systems)) → told → Left after
     opened-left after only others tells =
-        left-more now.vols after (length now.world.systems) (is.leaves tells) (let here = is.opened in omega arith) (only-here tells after (only tells)) (others tells)
+        left-more now.vols after (length now.world.systems) (is.leaves tells) (let here = is.opened in omega arith) (only-here tells after (only tells))
+        (others tells)
 
     opened-ok : (application : DocumentTables) (next : Kept) → IsOpened application now next
         → (told → Stands (volume now.vols (length now.world.systems)).contents [])
@@ -230,7 +239,8 @@ module _ {V : Type 0} (told : Type 0) (volume : V → ℕ → OneVolume) (moment
     opened-ok application next opened empty only others counts not = record {
       all = ap (λ (w : World ModelRules). w.rules.systems) opened.world ∙ is.all;
       opened =
-          let grown : length next.world.systems ≡ length (now.world.systems ++ first_state [] ∷ []) = ap (λ (w : World ModelRules). length w.systems) opened.world in
+          let grown : length next.world.systems ≡ length (now.world.systems ++ first_state [] ∷ []) = ap (λ (w : World ModelRules). length w.systems)
+          opened.world in
           let added = length-append now.world.systems (first_state [] ∷ []) in
           let here = is.opened in
           omega arith;
@@ -281,7 +291,8 @@ module _ {V : Type 0} (told : Type 0) (volume : V → ℕ → OneVolume) (moment
     -- the volume of the next system is opened, or no landscape is
     pub opens-next : (application : DocumentTables) (result : Result Kept (NotOpened V)) → IfOk result (λ next. IsOpened application now next)
         → (told → OpenedAs (volume now.vols (length now.world.systems)).contents result)
-        → (told → LeavesOnly moment images_since now.vols (vols_of result) (length now.world.systems) (IsLeftByOpening (volume now.vols (length now.world.systems))))
+        → (told → LeavesOnly moment images_since now.vols (vols_of result) (length now.world.systems)
+        (IsLeftByOpening (volume now.vols (length now.world.systems))))
         → (told → KeepsOthers volume moment images_since now.vols (vols_of result) (length now.world.systems))
         → CountsFault (HasFailed result) (faults now.vols) (faults (vols_of result)) (length now.world.systems)
         → OpensAs told volume moment images_since faults many text set before (suc count) (opened_of result)
@@ -334,7 +345,8 @@ module _ {V : Type 0} (told : Type 0) (volume : V → ℕ → OneVolume) (moment
         ∙ ap (λ (texts : List (List ℕ)). begun_world now.world.rules texts (many - suc count)) (replicate_more count text ∙ ap (λ k. replicate k text) more)
 
     module _ (after : Kept)
-        (only : told → LeavesOnly moment images_since now.vols after.vols (system - 1) (IsBeforeOrAfter [] (entry_with (moment_of now.journals) (Genesis system text))))
+        (only : told → LeavesOnly moment images_since now.vols after.vols (system - 1)
+        (IsBeforeOrAfter [] (entry_with (moment_of now.journals) (Genesis system text))))
         (others : told → KeepsOthers volume moment images_since now.vols after.vols (system - 1)) where
       begun-left : told → Left after.vols
       begun-left tells =
@@ -342,8 +354,12 @@ module _ {V : Type 0} (told : Type 0) (volume : V → ℕ → OneVolume) (moment
           left-more now.vols after.vols (system - 1) (is.leaves tells) (omega (arith, place, less))
           (weaker moment images_since now.vols after.vols (system - 1) (IsBeforeOrAfter [] (entry_with (moment_of now.journals) (Genesis system text)))
           (IsLeft volume many text set before after.vols (system - 1))
-          (λ image has. inr (subst (λ k. IsBeforeOrAfter [] (entry_with set (Genesis k text)) image) (sym here)
-          (subst (λ (m : Option ℕ). IsBeforeOrAfter [] (entry_with m (Genesis system text)) image) is.moment_set has))) (only tells))
+          (λ image has. inr (
+            is.empty tells (system - 1) (omega (arith, place, less)),
+            subst (λ k. IsBeforeOrAfter [] (entry_with set (Genesis k text)) image)
+                (sym here)
+                (subst (λ (m : Option ℕ). IsBeforeOrAfter [] (entry_with m (Genesis system text)) image) is.moment_set has),
+          )) (only tells))
           (others tells)
 
       begun-ok : {Failed : Type 0} → after.world ≡ with_record now.world system (Genesis system text) → HasFirst (system - 1) now.journals after.journals
@@ -403,7 +419,8 @@ module _ {V : Type 0} (told : Type 0) (volume : V → ℕ → OneVolume) (moment
 -- what the opening of the next volume says, by how many systems there are and how many are opened
 pub opens-at : {V : Type 0} (told : Type 0) (volume : V → ℕ → OneVolume) (moment : V → ℕ) (images_since : V → ℕ → ℕ → List ℕ → Type 0) (faults : V → ℕ → ℕ)
     (opening : KeptOf ModelRules DocumentTables V) (result : Result (KeptOf ModelRules DocumentTables V) (OpenEnd V))
-    → ((text : List ℕ) (set : Option ℕ) (before : V) → AreOpened told volume moment images_since faults opening.world.rules.systems text set before (length opening.world.systems) opening
+    → ((text : List ℕ) (set : Option ℕ) (before : V) → AreOpened told volume moment images_since faults opening.world.rules.systems text set before
+    (length opening.world.systems) opening
     → OpensAs told volume moment images_since faults opening.world.rules.systems text set before (suc (length opening.world.systems)) result)
     → (many count : ℕ) (text : List ℕ) (set : Option ℕ) (before : V) → AreOpened told volume moment images_since faults many text set before count opening
     → OpensAs told volume moment images_since faults many text set before (suc count) result

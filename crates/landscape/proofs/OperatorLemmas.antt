@@ -47,7 +47,8 @@ asked_by world system next why =
     if is_up world system then (if may_follow (meaning world.rules) system (log_of world system) next then Ok (Some next) else Err why) else Err refusal.N2
 
 module _ (world : World ModelRules) (system : ℕ) (next : Record) (why : Refusal) where
-  by-may : is_up world system ≡ true → may_follow (meaning world.rules) system (log_of world system) next ≡ true → asked_by world system next why ≡ Ok (Some next)
+  by-may : is_up world system ≡ true → may_follow (meaning world.rules) system (log_of world system) next ≡ true → asked_by world system next why ≡ Ok
+      (Some next)
   by-may up may =
       ap (λ b. if b then (if may_follow (meaning world.rules) system (log_of world system) next then Ok (Some next) else Err why) else Err refusal.N2) up
       ∙ ap (λ b. if b then Ok (Some next) else Err why) may
@@ -115,7 +116,8 @@ module _ {V : Type 0} (faults : V → ℕ → ℕ) (before after : KeptOf ModelR
 module _ (world : World ModelRules) (is : IsLandscape meaning world) (system : ℕ) where
   -- a queue of a proper name is stopped or started where it leads somewhere
   queue-asks : (destination : Option ℕ) (name : List ℕ) (next : Record) → is_queue name ≡ true
-      → ((before : List Record) → may_follow_others (meaning world.rules) system before next ≡ is_destination world.rules.systems system (way_to destination) (number_to destination))
+      → ((before : List Record) → may_follow_others (meaning world.rules) system before next ≡ is_destination world.rules.systems system (way_to destination)
+      (number_to destination))
       → asked_at world system (λ log. asked_queue world.rules.systems system destination name next) ≡ asked_by world system next refusal.N5
   queue-asks destination name next proper follows = of (is_up world system) refl
     where
@@ -123,17 +125,20 @@ module _ (world : World ModelRules) (is : IsLandscape meaning world) (system : �
           → (if up then asked_queue world.rules.systems system destination name next else Err refusal.N2)
           ≡ (if up then (if may_follow (meaning world.rules) system (log_of world system) next then Ok (Some next) else Err refusal.N5) else Err refusal.N2)
       of true up =
-          ap (λ b. if b && is_destination world.rules.systems system (way_to destination) (number_to destination) then Ok (Some next) else Err refusal.N5) proper
+          ap (λ b. if b && is_destination world.rules.systems system (way_to destination) (number_to destination) then Ok (Some next) else Err refusal.N5)
+          proper
           ∙ ap (λ b. if b then Ok (Some next) else Err refusal.N5)
           (sym (up-others (meaning world.rules) (is_lawful world.rules) world is.safe system next up ∙ follows (log_of world system)))
       of false up = refl
 
   pub stop-asks : (destination : Option ℕ) (name : List ℕ) → is_queue name ≡ true
-      → asked_at world system (λ log. asked_queue world.rules.systems system destination name (stop_of destination name)) ≡ asked_by world system (stop_of destination name) refusal.N5
+      → asked_at world system (λ log. asked_queue world.rules.systems system destination name (stop_of destination name)) ≡ asked_by world system
+      (stop_of destination name) refusal.N5
   stop-asks destination name proper = queue-asks destination name (stop_of destination name) proper (λ before. refl)
 
   pub start-asks : (destination : Option ℕ) (name : List ℕ) → is_queue name ≡ true
-      → asked_at world system (λ log. asked_queue world.rules.systems system destination name (start_of destination name)) ≡ asked_by world system (start_of destination name) refusal.N5
+      → asked_at world system (λ log. asked_queue world.rules.systems system destination name (start_of destination name)) ≡ asked_by world system
+      (start_of destination name) refusal.N5
   start-asks destination name proper = queue-asks destination name (start_of destination name) proper (λ before. refl)
 
   -- a name that is no queue name is refused
@@ -141,7 +146,8 @@ module _ (world : World ModelRules) (is : IsLandscape meaning world) (system : �
       → asked_at world system (λ log. asked_queue world.rules.systems system destination name next) ≡ Err refusal.N5
   unnamed destination name next up improper =
       ap (λ b. if b then asked_queue world.rules.systems system destination name next else Err refusal.N2) up
-      ∙ ap (λ b. if b && is_destination world.rules.systems system (way_to destination) (number_to destination) then Ok (Some next) else Err refusal.N5) improper
+      ∙ ap (λ b. if b && is_destination world.rules.systems system (way_to destination) (number_to destination) then Ok (Some next) else Err refusal.N5)
+      improper
 
   -- a unit is tried again where it is outstanding
   pub retry-asks : (tid : TidOf)
@@ -150,7 +156,8 @@ module _ (world : World ModelRules) (is : IsLandscape meaning world) (system : �
     where
       of : (up : Bool) → is_up world system ≡ up
           → (if up then asked_retry world.rules.systems system tid (log_of world system) else Err refusal.N2)
-          ≡ (if up then (if may_follow (meaning world.rules) system (log_of world system) (log.Retry (way_at system tid) tid) then Ok (Some (log.Retry (way_at system tid) tid)) else Err refusal.N6) else Err refusal.N2)
+          ≡ (if up then (if may_follow (meaning world.rules) system (log_of world system) (log.Retry (way_at system tid) tid) then Ok
+          (Some (log.Retry (way_at system tid) tid)) else Err refusal.N6) else Err refusal.N2)
       of true up =
           ap (λ b. if b then Ok (Some (log.Retry (way_at system tid) tid)) else Err refusal.N6)
           (sym (up-others (meaning world.rules) (is_lawful world.rules) world is.safe system (log.Retry (way_at system tid) tid) up))
@@ -161,67 +168,89 @@ module _ (world : World ModelRules) (is : IsLandscape meaning world) (system : �
 module _ {V : Type 0} (faults : V → ℕ → ℕ) (before after : KeptOf ModelRules DocumentTables V) (is : IsLandscape meaning before.world) (system : ℕ) where
   pub retry-carried : {T : Type 0} (tid : TidOf) (way : Way) → way ≡ way_at system tid → (result : Result T OperatorEnd)
       → OperatedAs (meaning before.world.rules) faults before after system (log.Retry way tid) result
-      → CarriedAs faults before after system (operator_event system) (asked_at before.world system (asked_retry before.world.rules.systems system tid)) (λ (x : T). ⊤) (refused_of refusal.N6 result)
+      → CarriedAs faults before after system (operator_event system) (asked_at before.world system (asked_retry before.world.rules.systems system tid))
+      (λ (x : T). ⊤) (refused_of refusal.N6 result)
   retry-carried tid way same result did =
-      operated-carried faults before after system (log.Retry (way_at system tid) tid) refusal.N6 (asked_at before.world system (asked_retry before.world.rules.systems system tid))
+      operated-carried faults before after system (log.Retry (way_at system tid) tid) refusal.N6
+      (asked_at before.world system (asked_retry before.world.rules.systems system tid))
       (retry-asks before.world is system tid) result (λ asked stays. (asked, stays))
       (subst (λ w. OperatedAs (meaning before.world.rules) faults before after system (log.Retry w tid) result) same did)
 
   pub retry-disk : (tid : TidOf) (way : Way) → way ≡ way_at system tid
       → (told : Type 0) (volume : V → ℕ → OneVolume) (moment : V → ℕ) (images_since : V → ℕ → ℕ → List ℕ → Type 0)
-      → DiskAs told volume moment images_since before after (record_of (meaning before.world.rules) before.world (event.Operator (Append system (log.Retry way tid))))
+      → DiskAs told volume moment images_since before after
+      (record_of (meaning before.world.rules) before.world (event.Operator (Append system (log.Retry way tid))))
       → DiskAsked told volume moment images_since before after system (asked_at before.world system (asked_retry before.world.rules.systems system tid))
   retry-disk tid way same told volume moment images_since disk =
-      operated-disk faults before after system (log.Retry (way_at system tid) tid) refusal.N6 (asked_at before.world system (asked_retry before.world.rules.systems system tid))
+      operated-disk faults before after system (log.Retry (way_at system tid) tid) refusal.N6
+      (asked_at before.world system (asked_retry before.world.rules.systems system tid))
       (retry-asks before.world is system tid) told volume moment images_since
-      (subst (λ w. DiskAs told volume moment images_since before after (record_of (meaning before.world.rules) before.world (event.Operator (Append system (log.Retry w tid))))) same disk)
+      (subst (λ w. DiskAs told volume moment images_since before after
+      (record_of (meaning before.world.rules) before.world (event.Operator (Append system (log.Retry w tid))))) same disk)
 
-  module _ (destination : Option ℕ) (given name : List ℕ) (way : Way) (number : ℕ) (leads : way ≡ way_to destination) (numbered : number ≡ number_to destination)
+  module _ (destination : Option ℕ) (given name : List ℕ) (way : Way) (number : ℕ) (leads : way ≡ way_to destination)
+      (numbered : number ≡ number_to destination)
       (named : (name ≡ given) × IsQueueName given) where
-    pub stop-carried : {T : Type 0} (result : Result T OperatorEnd) → OperatedAs (meaning before.world.rules) faults before after system (log.Stop way number name) result
+    pub stop-carried : {T : Type 0} (result : Result T OperatorEnd) → OperatedAs (meaning before.world.rules) faults before after system
+        (log.Stop way number name) result
         → CarriedAs faults before after system (operator_event system)
-        (asked_at before.world system (λ log. asked_queue before.world.rules.systems system destination given (stop_of destination given))) (λ (x : T). ⊤) (refused_of refusal.N5 result)
+        (asked_at before.world system (λ log. asked_queue before.world.rules.systems system destination given (stop_of destination given))) (λ (x : T). ⊤)
+        (refused_of refusal.N5 result)
     stop-carried result did =
         operated-carried faults before after system (stop_of destination given) refusal.N5
         (asked_at before.world system (λ log. asked_queue before.world.rules.systems system destination given (stop_of destination given)))
         (stop-asks before.world is system destination given (is_queue_name given named.1)) result (λ asked stays. (asked, stays))
-        (subst (λ n. OperatedAs (meaning before.world.rules) faults before after system (log.Stop (way_to destination) (number_to destination) n) result) named.0
+        (subst (λ n. OperatedAs (meaning before.world.rules) faults before after system (log.Stop (way_to destination) (number_to destination) n) result)
+        named.0
         (subst (λ n. OperatedAs (meaning before.world.rules) faults before after system (log.Stop (way_to destination) n name) result) numbered
         (subst (λ w. OperatedAs (meaning before.world.rules) faults before after system (log.Stop w number name) result) leads did)))
 
-    pub start-carried : {T : Type 0} (result : Result T OperatorEnd) → OperatedAs (meaning before.world.rules) faults before after system (log.Start way number name) result
+    pub start-carried : {T : Type 0} (result : Result T OperatorEnd) → OperatedAs (meaning before.world.rules) faults before after system
+        (log.Start way number name) result
         → CarriedAs faults before after system (operator_event system)
-        (asked_at before.world system (λ log. asked_queue before.world.rules.systems system destination given (start_of destination given))) (λ (x : T). ⊤) (refused_of refusal.N5 result)
+        (asked_at before.world system (λ log. asked_queue before.world.rules.systems system destination given (start_of destination given))) (λ (x : T). ⊤)
+        (refused_of refusal.N5 result)
     start-carried result did =
         operated-carried faults before after system (start_of destination given) refusal.N5
         (asked_at before.world system (λ log. asked_queue before.world.rules.systems system destination given (start_of destination given)))
         (start-asks before.world is system destination given (is_queue_name given named.1)) result (λ asked stays. (asked, stays))
-        (subst (λ n. OperatedAs (meaning before.world.rules) faults before after system (log.Start (way_to destination) (number_to destination) n) result) named.0
+        (subst (λ n. OperatedAs (meaning before.world.rules) faults before after system (log.Start (way_to destination) (number_to destination) n) result)
+        named.0
         (subst (λ n. OperatedAs (meaning before.world.rules) faults before after system (log.Start (way_to destination) n name) result) numbered
         (subst (λ w. OperatedAs (meaning before.world.rules) faults before after system (log.Start w number name) result) leads did)))
 
     module _ (told : Type 0) (volume : V → ℕ → OneVolume) (moment : V → ℕ) (images_since : V → ℕ → ℕ → List ℕ → Type 0) where
-      pub stop-disk : DiskAs told volume moment images_since before after (record_of (meaning before.world.rules) before.world (event.Operator (Append system (log.Stop way number name))))
+      pub stop-disk : DiskAs told volume moment images_since before after
+          (record_of (meaning before.world.rules) before.world (event.Operator (Append system (log.Stop way number name))))
           → DiskAsked told volume moment images_since before after system
           (asked_at before.world system (λ log. asked_queue before.world.rules.systems system destination given (stop_of destination given)))
       stop-disk disk =
           operated-disk faults before after system (stop_of destination given) refusal.N5
           (asked_at before.world system (λ log. asked_queue before.world.rules.systems system destination given (stop_of destination given)))
           (stop-asks before.world is system destination given (is_queue_name given named.1)) told volume moment images_since
-          (subst (λ n. DiskAs told volume moment images_since before after (record_of (meaning before.world.rules) before.world (event.Operator (Append system (log.Stop (way_to destination) (number_to destination) n))))) named.0
-          (subst (λ n. DiskAs told volume moment images_since before after (record_of (meaning before.world.rules) before.world (event.Operator (Append system (log.Stop (way_to destination) n name))))) numbered
-          (subst (λ w. DiskAs told volume moment images_since before after (record_of (meaning before.world.rules) before.world (event.Operator (Append system (log.Stop w number name))))) leads disk)))
+          (subst (λ n. DiskAs told volume moment images_since before after
+          (record_of (meaning before.world.rules) before.world (event.Operator (Append system (log.Stop (way_to destination) (number_to destination) n)))))
+          named.0
+          (subst (λ n. DiskAs told volume moment images_since before after
+          (record_of (meaning before.world.rules) before.world (event.Operator (Append system (log.Stop (way_to destination) n name))))) numbered
+          (subst (λ w. DiskAs told volume moment images_since before after
+          (record_of (meaning before.world.rules) before.world (event.Operator (Append system (log.Stop w number name))))) leads disk)))
 
-      pub start-disk : DiskAs told volume moment images_since before after (record_of (meaning before.world.rules) before.world (event.Operator (Append system (log.Start way number name))))
+      pub start-disk : DiskAs told volume moment images_since before after
+          (record_of (meaning before.world.rules) before.world (event.Operator (Append system (log.Start way number name))))
           → DiskAsked told volume moment images_since before after system
           (asked_at before.world system (λ log. asked_queue before.world.rules.systems system destination given (start_of destination given)))
       start-disk disk =
           operated-disk faults before after system (start_of destination given) refusal.N5
           (asked_at before.world system (λ log. asked_queue before.world.rules.systems system destination given (start_of destination given)))
           (start-asks before.world is system destination given (is_queue_name given named.1)) told volume moment images_since
-          (subst (λ n. DiskAs told volume moment images_since before after (record_of (meaning before.world.rules) before.world (event.Operator (Append system (log.Start (way_to destination) (number_to destination) n))))) named.0
-          (subst (λ n. DiskAs told volume moment images_since before after (record_of (meaning before.world.rules) before.world (event.Operator (Append system (log.Start (way_to destination) n name))))) numbered
-          (subst (λ w. DiskAs told volume moment images_since before after (record_of (meaning before.world.rules) before.world (event.Operator (Append system (log.Start w number name))))) leads disk)))
+          (subst (λ n. DiskAs told volume moment images_since before after
+          (record_of (meaning before.world.rules) before.world
+          (event.Operator (Append system (log.Start (way_to destination) (number_to destination) n))))) named.0
+          (subst (λ n. DiskAs told volume moment images_since before after
+          (record_of (meaning before.world.rules) before.world (event.Operator (Append system (log.Start (way_to destination) n name))))) numbered
+          (subst (λ w. DiskAs told volume moment images_since before after
+          (record_of (meaning before.world.rules) before.world (event.Operator (Append system (log.Start w number name))))) leads disk)))
 
 -- ---- a late request
 

@@ -29,7 +29,8 @@ pub record HasModel (systems system : ℕ) (log : List Record) : Type 0 where
   pub in_force : model_of log ≡ Some model
   pub many : length model.systems ≡ systems
 
-pub begun-model : (systems system : ℕ) (log : List Record) → IsLegal (model_meaning systems) system log → IsBegun systems system log → HasModel systems system log
+pub begun-model : (systems system : ℕ) (log : List Record) → IsLegal (model_meaning systems) system log → IsBegun systems system log → HasModel systems system
+    log
 begun-model systems system log legal begun =
     let first = subst (IsLegal (model_meaning systems) system) begun.first legal in
     let has = has-model systems system begun.text begun.rest begun.model first begun.says begun.many in
@@ -48,7 +49,8 @@ module _ (world : World ModelRules) (is : IsLandscape meaning world) (begun : Ar
 
   module _ (tables : List (TablesOf DocumentTables)) (are : AreInStepWith (λ one log. AreTablesOf log one) meaning world tables) where
     -- the tables of a system that is up stand for its log
-    pub stand-at : (system : ℕ) (its : TablesOf DocumentTables) → is_up world system ≡ true → slice_get tables (system - 1) ≡ Some its → StandAt world system its.application
+    pub stand-at : (system : ℕ) (its : TablesOf DocumentTables) → is_up world system ≡ true → slice_get tables (system - 1) ≡ Some its → StandAt world system
+        its.application
     stand-at system its up here =
         let of = up-model system up in
         let legal = legal-log system in

@@ -51,7 +51,8 @@ module _ (world : World ModelRules) (is : IsLandscape meaning world) (number : �
       let holds = hold (meaning world.rules) (is_lawful world.rules) world is.safe held (claim_of-Some number world.claims held found).0 in
       let free : is_free_inbound (log_of world held.system) held.tid ≡ true = subst (λ k. is_due (meaning world.rules) world held k ≡ true) kind holds.due in
       let parts = is_free-parts (executed (log_of world held.system)) (is_marked Incoming held.tid (log_of world held.system))
-      (heads_inbound (executed (log_of world held.system)) (received (log_of world held.system))) (unit_named held.tid (received (log_of world held.system))) free in
+      (heads_inbound (executed (log_of world held.system)) (received (log_of world held.system))) (unit_named held.tid (received (log_of world held.system)))
+      free in
       let there = unit_named-Some held.tid (received (log_of world held.system)) parts.0 parts.1 in
       let its = received-is (meaning world.rules) (is_lawful world.rules) world is.safe held.system parts.0 there.0 in (
         parts.0,
@@ -68,7 +69,8 @@ module _ (world : World ModelRules) (is : IsLandscape meaning world) (number : �
 
   -- what is told of a unit at its receiver is told of the one that is worked on
   told-offered : (unit : AleUnit) → IsWorkedOn world held unit → (offered : Bool)
-      → IfSome (committed_unit (meaning world.rules) world held.tid) (λ u. is_up world u.receiver ≡ true → offered ≡ offers_now (meaning world.rules) world u.receiver u.function)
+      → IfSome (committed_unit (meaning world.rules) world held.tid)
+      (λ u. is_up world u.receiver ≡ true → offered ≡ offers_now (meaning world.rules) world u.receiver u.function)
       → offered ≡ is_offered_function (meaning world.rules) world held.tid
   told-offered unit works offered told =
       let of : IfSome (Some unit) (λ u. is_up world u.receiver ≡ true → offered ≡ offers_now (meaning world.rules) world u.receiver u.function) =
@@ -77,7 +79,8 @@ module _ (world : World ModelRules) (is : IsLandscape meaning world) (number : �
       ∙ sym (ap (λ f. option_map_or (λ (u : AleUnit). offers_now (meaning world.rules) world u.receiver u.function) f false) works.named)
 
   pub offered-told : (kind : HeldKind) → held.kind ≡ kind → is_kind kind Out ≡ false → (offered : Bool)
-      → IfSome (committed_unit (meaning world.rules) world held.tid) (λ u. is_up world u.receiver ≡ true → offered ≡ offers_now (meaning world.rules) world u.receiver u.function)
+      → IfSome (committed_unit (meaning world.rules) world held.tid)
+      (λ u. is_up world u.receiver ≡ true → offered ≡ offers_now (meaning world.rules) world u.receiver u.function)
       → offered ≡ is_offered_function (meaning world.rules) world held.tid
   offered-told In kind works offered told = let here = received-here kind in told-offered here.0 here.1 offered told
   offered-told Direct kind works offered told = let here = run-here kind in told-offered here.0 here.1 offered told
@@ -87,11 +90,13 @@ module _ (world : World ModelRules) (is : IsLandscape meaning world) (number : �
 
   module _ (begun : AreBegun world) (postings : List DocPosting) (prepared : IsPreparedFor world held.tid postings) where
     -- with the execution of a unit that was taken in go the unit and its postings
-    execute-goes : (unit : AleUnit) → IsWorkedOn world held unit → unit_named held.tid (received (log_of world held.system)) ≡ Some unit → (made : Made) → IsExecuted unit postings made
+    execute-goes : (unit : AleUnit) → IsWorkedOn world held unit → unit_named held.tid (received (log_of world held.system)) ≡ Some unit → (made : Made) →
+        IsExecuted unit postings made
         → GoesWith (log_of world held.system) (log.Execute held.tid) made
     execute-goes unit works named (Executed one its) made = (
       λ model in_force.
-          ap (unit_named held.tid) (received-applied world.rules.systems held.system (log_of world held.system) (legal-log world is begun held.system) model in_force)
+          ap (unit_named held.tid) (received-applied world.rules.systems held.system (log_of world held.system) (legal-log world is begun held.system) model
+          in_force)
           ∙ named ∙ ap Some (sym made.0),
       made.1 ∙ prepared unit works.named
           ∙ ap (λ s. postings_behind (log_of world s) unit) works.receiver ∙ ap (postings_behind (log_of world held.system)) (sym made.0),
@@ -101,7 +106,8 @@ module _ (world : World ModelRules) (is : IsLandscape meaning world) (number : �
     execute-goes unit works named (Postings its) made = absurd made
 
     -- with a run go its postings
-    run-goes : (unit : AleUnit) → IsWorkedOn world held unit → (made : Made) → made ≡ Postings postings → GoesWith (log_of world held.system) (log.Direct unit) made
+    run-goes : (unit : AleUnit) → IsWorkedOn world held unit → (made : Made) → made ≡ Postings postings → GoesWith (log_of world held.system) (log.Direct unit)
+        made
     run-goes unit works made is =
         subst (GoesWith (log_of world held.system) (log.Direct unit)) (sym is)
         (prepared unit works.named ∙ ap (λ s. postings_behind (log_of world s) unit) works.receiver)
@@ -113,14 +119,17 @@ module _ (world : World ModelRules) (is : IsLandscape meaning world) (number : �
         → (it : Writing) → record_of (meaning world.rules) world (event.Finish number) ≡ Some it → GoesWith (log_of world it.system) it.next made
     goes-with In kind made its it writes =
         let here = received-here kind in
-        record_if-each (λ it. GoesWith (log_of world it.system) it.next made) (offers_received_now (meaning world.rules) world held.system held.tid) held.system (log.Execute held.tid)
+        record_if-each (λ it. GoesWith (log_of world it.system) it.next made) (offers_received_now (meaning world.rules) world held.system held.tid)
+        held.system (log.Execute held.tid)
         (λ offers. execute-goes here.0 here.1 here.2 made (its here.0 here.1.named)) it
         (sym (of-kind (record_of_work (meaning world.rules) world) In kind) ∙ writes)
     goes-with Direct kind made its it writes =
         let here = run-here kind in
-        record_if-each (λ it. GoesWith (log_of world it.system) it.next made) (offers_now (meaning world.rules) world held.system here.0.function) held.system (log.Direct here.0)
+        record_if-each (λ it. GoesWith (log_of world it.system) it.next made) (offers_now (meaning world.rules) world held.system here.0.function) held.system
+        (log.Direct here.0)
         (λ offers. run-goes here.0 here.1 made its) it
-        (sym (ap (option_and_then (record_of_run (meaning world.rules) world held)) here.1.named) ∙ sym (of-kind (record_of_work (meaning world.rules) world) Direct kind) ∙ writes)
+        (sym (ap (option_and_then (record_of_run (meaning world.rules) world held)) here.1.named) ∙ sym
+        (of-kind (record_of_work (meaning world.rules) world) Direct kind) ∙ writes)
     goes-with Out kind made its it writes = absurd (let none = sym (of-kind (record_of_work (meaning world.rules) world) Out kind) ∙ writes in cc)
 
 -- a claim that stands to execute a unit is no shipment
@@ -135,17 +144,20 @@ works-kind world claim held found stands =
     not-true false is = refl
 
 -- so the function of its unit is told, and what goes with its record
-module _ (world : World ModelRules) (is : IsLandscape meaning world) (begun : AreBegun world) (claim : InClaim) (kind : HeldKind) (of : IsKindOf world claim (Some kind)) where
+module _ (world : World ModelRules) (is : IsLandscape meaning world) (begun : AreBegun world) (claim : InClaim) (kind : HeldKind)
+    (of : IsKindOf world claim (Some kind)) where
   works : is_kind kind Out ≡ false
   works = subst (λ k. is_kind k Out ≡ false) of.1.3 (works-kind world claim of.1.0 of.1.1 of.0)
 
   pub finish-offered : (offered : Bool)
-      → IfSome (committed_unit (meaning world.rules) world claim.tid) (λ u. is_up world u.receiver ≡ true → offered ≡ offers_now (meaning world.rules) world u.receiver u.function)
+      → IfSome (committed_unit (meaning world.rules) world claim.tid)
+      (λ u. is_up world u.receiver ≡ true → offered ≡ offers_now (meaning world.rules) world u.receiver u.function)
       → offered ≡ is_offered_function (meaning world.rules) world claim.tid
   finish-offered offered told =
       subst (λ t. offered ≡ is_offered_function (meaning world.rules) world t) of.1.2
       (offered-told world is claim.number of.1.0 of.1.1 kind of.1.3 works offered
-      (subst (λ t. IfSome (committed_unit (meaning world.rules) world t) (λ u. is_up world u.receiver ≡ true → offered ≡ offers_now (meaning world.rules) world u.receiver u.function)) (sym of.1.2) told))
+      (subst (λ t. IfSome (committed_unit (meaning world.rules) world t)
+      (λ u. is_up world u.receiver ≡ true → offered ≡ offers_now (meaning world.rules) world u.receiver u.function)) (sym of.1.2) told))
 
   pub finish-goes : (postings : List DocPosting) → IsPreparedFor world claim.tid postings → (made : Made) → IsMadeFor world kind claim.tid postings made
       → (it : Writing) → record_of (meaning world.rules) world (event.Finish claim.number) ≡ Some it → GoesWith (log_of world it.system) it.next made

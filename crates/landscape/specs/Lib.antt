@@ -8,6 +8,8 @@ pub mod Carried
 pub mod Operator
 -- what is prepared for the work of a claim
 pub mod Working
+-- what an operator is shown
+pub mod Shown
 -- a landscape that is opened over empty volumes
 pub mod Opened
 -- what only private functions cite

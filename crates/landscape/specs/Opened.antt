@@ -36,10 +36,12 @@ vols_after (Ok landscape) = landscape.vols
 vols_after (Err end) = end.vols
 
 module _ {V : Type 0} (volume : V → ℕ → OneVolume) (many : ℕ) (text : List ℕ) (set : Option ℕ) (before after : V) where
-  -- what a crash at any moment of the opening leaves of the volume at a place: what was handed in, or what reads as it; or what stands
-  -- for the empty log, or for the Genesis of its system alone
+  -- what a crash at any moment of the opening leaves of the volume at a place: what was handed in, or what reads as it; or, of one that stood
+  -- for the empty log, what stands for the empty log, or for the Genesis of its system alone
   abbrev pub IsLeft : ℕ → List ℕ → Type 0
-  IsLeft place image = IsLeftByOpening (volume before place) image ⊎ IsBeforeOrAfter [] (entry_with set (Genesis (suc place) text)) image
+  IsLeft place image =
+      IsLeftByOpening (volume before place) image
+      ⊎ (Stands (volume before place).contents [] × IsBeforeOrAfter [] (entry_with set (Genesis (suc place) text)) image)
 
   -- a crash leaves so of each volume, and the volumes behind those of the systems are as before
   pub record LeavesOpening (moment : V → ℕ) (images_since : V → ℕ → ℕ → List ℕ → Type 0) : Type 0 where

@@ -32,7 +32,8 @@ IsPreparedFor world tid postings =
 
 -- An earlier request of a unit came, or why not, by the number of the refusal: 6 where there is no such system or the unit is not
 -- committed, 2 where its sender is down, 7 where it is not marked CPICERR or is done, and 10 where the journal is full.
-abbrev pub CameOrRefused : {V : Type 0} → (V → ℕ → ℕ) → KeptOf ModelRules DocumentTables V → KeptOf ModelRules DocumentTables V → TidOf → Result Late Refusal → Type 0
+abbrev pub CameOrRefused : {V : Type 0} → (V → ℕ → ℕ) → KeptOf ModelRules DocumentTables V → KeptOf ModelRules DocumentTables V → TidOf → Result Late Refusal →
+    Type 0
 CameOrRefused faults before after tid (Ok came) = LateAs (model_meaning before.world.rules.systems) faults before after tid (Ok came)
 CameOrRefused faults before after tid (Err N2) = LateAs (model_meaning before.world.rules.systems) faults before after tid (Err late.SenderDown)
 CameOrRefused faults before after tid (Err N6) =

@@ -1,13 +1,15 @@
 //! The landscape: what it is, and what is read of it. Its calls are in `opening`, `commanding`, `changing`, `operating`, `working` and
-//! `executing`.
+//! `executing`; what an operator is shown is in `showing`, and which units wait for their confirmation in `confirming`.
 
 ghost use Rattle.std.specs.Prelude.{◌≡◌};
 
 mod changing;
 mod commanding;
+mod confirming;
 mod executing;
 mod opening;
 mod operating;
+mod showing;
 mod working;
 
 use ale_base::{OutOfMemory, SystemNo, Tid};

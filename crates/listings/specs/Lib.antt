@@ -11,5 +11,7 @@ pub mod UnitLines
 pub mod QueueLines
 -- what is shown of objects
 pub mod ObjectLines
+-- the listing that is asked for
+pub mod Listings
 -- what only private functions cite
 pub mod steps

@@ -17,10 +17,13 @@ pub commit-requires-clause-commits : goal.commit-requires-clause-commits
 commit-requires-clause-commits g c =
     let are : c.as_slice.result.now ≡ map (λ (one : OutUnit). one.unit) c.args.added.units =
     (let one = c.as_slice.ensures in let two = c.units.view_is in let three = c.in-Ok.ensures in cc) in
-    subst (λ (k : KeptOf ModelRules DocumentTables g.row.V.Denot). committed_of (models_of (log_of k.world c.args.system ++ c.args.next ∷ [])) (log_of k.world c.args.system ++ c.args.next ∷ [])
+    subst (λ (k : KeptOf ModelRules DocumentTables g.row.V.Denot). committed_of (models_of (log_of k.world c.args.system ++ c.args.next ∷ []))
+    (log_of k.world c.args.system ++ c.args.next ∷ [])
     ≡ committed_of (models_of (log_of k.world c.args.system)) (log_of k.world c.args.system) ++ c.as_slice.result.now) (sym c.self.view_is)
-    (commit-commits (log_of c.args.self.now.world c.args.system) c.args.next c.args.added c.as_slice.result.now c.requires.ready.its_kind c.requires.ready.goes are)
+    (commit-commits (log_of c.args.self.now.world c.args.system) c.args.next c.args.added c.as_slice.result.now c.requires.ready.its_kind c.requires.ready.goes
+    are)
 
 pub invariant_of-self : goal.invariant_of-self
 invariant_of-self g c =
-    begun-appends g.V.Volumes.faults c.self.inside.units c.commit.new.self c.world.ensures.safe c.self.invariant (event.Commit c.args.system c.args.next) (at c.args.system c.args.next) c.commit.result c.commit.ensures.ends
+    begun-appends g.V.Volumes.faults c.self.inside.units c.commit.new.self c.world.ensures.safe c.self.invariant (event.Commit c.args.system c.args.next)
+    (at c.args.system c.args.next) c.commit.result c.commit.ensures.ends

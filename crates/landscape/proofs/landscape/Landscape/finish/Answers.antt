@@ -28,23 +28,29 @@ pub finish-requires-clause-offered : goal.finish-requires-clause-offered
 finish-requires-clause-offered g c stands =
     let safe = subst (λ (k : KeptOf ModelRules DocumentTables g.row.V.Denot). IsLandscape meaning k.world) c.self.view_is c.world.ensures.safe in
     let begun = subst (λ (k : KeptOf ModelRules DocumentTables g.row.V.Denot). AreBegun k.world) c.self.view_is c.self.invariant in
-    subst (λ (k : KeptOf ModelRules DocumentTables g.row.V.Denot). c.offers_unit-offered.result ≡ is_offered_function (meaning k.world.rules) k.world c.args.claim.tid) (sym c.self.view_is)
+    subst (λ (k : KeptOf ModelRules DocumentTables g.row.V.Denot). c.offers_unit-offered.result ≡ is_offered_function (meaning k.world.rules) k.world
+    c.args.claim.tid) (sym c.self.view_is)
     (finish-offered c.args.self.now.world safe begun c.args.claim c.in-Some.kind c.in-Some.ensures c.offers_unit-offered.result
-    (subst (λ t. IfSome (committed_unit (meaning c.args.self.now.world.rules) c.args.self.now.world t) (λ (u : AleUnit). is_up c.args.self.now.world u.receiver ≡ true
-    → c.offers_unit-offered.result ≡ offers_now (meaning c.args.self.now.world.rules) c.args.self.now.world u.receiver u.function)) c.tid.ensures c.offers_unit-offered.ensures))
+    (subst (λ t. IfSome (committed_unit (meaning c.args.self.now.world.rules) c.args.self.now.world t)
+    (λ (u : AleUnit). is_up c.args.self.now.world u.receiver ≡ true
+    → c.offers_unit-offered.result ≡ offers_now (meaning c.args.self.now.world.rules) c.args.self.now.world u.receiver u.function)) c.tid.ensures
+    c.offers_unit-offered.ensures))
 
 pub finish-requires-clause-goes : goal.finish-requires-clause-goes
 finish-requires-clause-goes g c stands it writes its there =
     let safe = subst (λ (k : KeptOf ModelRules DocumentTables g.row.V.Denot). IsLandscape meaning k.world) c.self.view_is c.world.ensures.safe in
     let begun = subst (λ (k : KeptOf ModelRules DocumentTables g.row.V.Denot). AreBegun k.world) c.self.view_is c.self.invariant in
-    subst (λ (k : KeptOf ModelRules DocumentTables g.row.V.Denot). (it : Writing) → record_of (meaning k.world.rules) k.world (event.Finish c.args.claim.number) ≡ Some it
+    subst (λ (k : KeptOf ModelRules DocumentTables g.row.V.Denot). (it : Writing) → record_of (meaning k.world.rules) k.world
+    (event.Finish c.args.claim.number) ≡ Some it
     → GoesWith (log_of k.world it.system) it.next c.in-Ok.made) (sym c.self.view_is)
-    (λ it writes. finish-goes c.args.self.now.world safe begun c.args.claim c.in-Some.kind c.in-Some.ensures c.args.prepared.postings c.requires.prepared c.in-Ok.made
+    (λ it writes. finish-goes c.args.self.now.world safe begun c.args.claim c.in-Some.kind c.in-Some.ensures c.args.prepared.postings c.requires.prepared
+    c.in-Ok.made
     (subst (λ t. IsMadeFor c.args.self.now.world c.in-Some.kind t c.args.prepared.postings c.in-Ok.made) c.tid-2.ensures c.in-Ok.ensures) it writes) it writes
 
 pub invariant_of-self : goal.invariant_of-self
 invariant_of-self g c =
-    begun-finished g.V.Volumes.faults c.self.inside.units c.finish.new.self c.world.ensures.safe c.self.invariant c.args.claim c.finish.result c.finish.ensures.ends
+    begun-finished g.V.Volumes.faults c.self.inside.units c.finish.new.self c.world.ensures.safe c.self.invariant c.args.claim c.finish.result
+    c.finish.ensures.ends
 
 pub returns-in-Err-clause-disk : goal.returns-in-Err-clause-disk
 returns-in-Err-clause-disk g c =

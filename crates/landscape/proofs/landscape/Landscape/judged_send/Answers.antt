@@ -9,7 +9,8 @@ pub returns-in-Ok : goal.returns-in-Ok
 returns-in-Ok g c =
     let stand = c.in-Some.ensures in
     ready-ok c.args.self.now.world c.args.system is_commit (λ log. asked_send log c.args.master.now) c.in-Some.tables.now stand
-    (λ next asked. send-may (log_of c.args.self.now.world c.args.system) stand.model stand.in_force c.args.master.now next c.requires.short asked) c.in-Ok.wanted
+    (λ next asked. send-may (log_of c.args.self.now.world c.args.system) stand.model stand.in_force c.args.master.now next c.requires.short asked)
+    c.in-Ok.wanted
     (c.in-Ok.ensures (log_of c.args.self.now.world c.args.system) stand.stand stand.sent)
 
 pub returns-in-Err : goal.returns-in-Err

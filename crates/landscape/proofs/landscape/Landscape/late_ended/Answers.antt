@@ -14,6 +14,7 @@ invariant_of-self g c =
 
 pub returns-in-Err-clause-disk : goal.returns-in-Err-clause-disk
 returns-in-Err-clause-disk g c =
-    subst (λ (k : KeptOf ModelRules DocumentTables g.row.V.Denot). DiskAs g.V.Volumes.told g.V.Volumes.volume g.V.Volumes.moment g.V.Volumes.images_since k k (late_record (meaning k.world.rules) k.world c.args.tid)) c.self.view_is
+    subst (λ (k : KeptOf ModelRules DocumentTables g.row.V.Denot). DiskAs g.V.Volumes.told g.V.Volumes.volume g.V.Volumes.moment g.V.Volumes.images_since k k
+    (late_record (meaning k.world.rules) k.world c.args.tid)) c.self.view_is
     (late-still g.V.Volumes.told g.V.Volumes.volume g.V.Volumes.moment g.V.Volumes.images_since c.self.inside.units g.met.V.Volumes.only_now
     c.world.ensures.kept.on_volumes (meaning c.self.inside.units.world.rules) c.args.tid)

@@ -6,5 +6,6 @@ use Rattle.landscape.proofs.landscape.Landscape.operate_wanted.Goals as goal
 
 pub invariant_of-self : goal.invariant_of-self
 invariant_of-self g c =
-    begun-appends g.V.Volumes.faults c.self.inside.units c.operate.new.self c.world.ensures.safe c.self.invariant (event.Operator (Append c.args.system c.args.wanted.next)) (at c.args.system c.args.wanted.next) c.operate.result
+    begun-appends g.V.Volumes.faults c.self.inside.units c.operate.new.self c.world.ensures.safe c.self.invariant
+    (event.Operator (Append c.args.system c.args.wanted.next)) (at c.args.system c.args.wanted.next) c.operate.result
     c.operate.ensures.ends

@@ -13,7 +13,8 @@ returns-then-not-holds-clause-disk g c =
 
 pub invariant_of-self : goal.invariant_of-self
 invariant_of-self g c =
-    begun-replied g.V.Volumes.faults c.self.inside.units c.reply.new.self c.world.ensures.safe c.self.invariant c.args.claim c.args.given c.reply.result c.reply.ensures.ends
+    begun-replied g.V.Volumes.faults c.self.inside.units c.reply.new.self c.world.ensures.safe c.self.invariant c.args.claim c.args.given c.reply.result
+    c.reply.ensures.ends
 
 pub returns-in-Err-clause-disk : goal.returns-in-Err-clause-disk
 returns-in-Err-clause-disk g c =

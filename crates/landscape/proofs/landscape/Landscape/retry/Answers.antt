@@ -12,20 +12,24 @@ use Rattle.landscape.proofs.landscape.Landscape.retry.Goals as goal
 
 pub invariant_of-self : goal.invariant_of-self
 invariant_of-self g c =
-    begun-operated g.V.Volumes.faults c.self.inside.units c.retry.new.self c.world.ensures.safe c.self.invariant c.args.system (log.Retry c.way_at.result c.args.tid) c.retry.result c.retry.ensures.ends
+    begun-operated g.V.Volumes.faults c.self.inside.units c.retry.new.self c.world.ensures.safe c.self.invariant c.args.system
+    (log.Retry c.way_at.result c.args.tid) c.retry.result c.retry.ensures.ends
 
 pub returns-clause-ends : goal.returns-clause-ends
 returns-clause-ends g c =
     subst (λ (k : KeptOf ModelRules DocumentTables g.row.V.Denot). CarriedAs g.V.Volumes.faults k c.retry.new.self c.args.system (operator_event c.args.system)
     (asked_at k.world c.args.system (asked_retry k.world.rules.systems c.args.system c.args.tid)) {T = Unit {0}} (λ done. ⊤) c.refused.result) c.self.view_is
     (subst (CarriedAs g.V.Volumes.faults c.self.inside.units c.retry.new.self c.args.system (operator_event c.args.system)
-    (asked_at c.self.inside.units.world c.args.system (asked_retry c.self.inside.units.world.rules.systems c.args.system c.args.tid)) {T = Unit {0}} (λ done. ⊤))
+    (asked_at c.self.inside.units.world c.args.system (asked_retry c.self.inside.units.world.rules.systems c.args.system c.args.tid)) {T = Unit {0}}
+    (λ done. ⊤))
     (sym c.refused.ensures)
-    (retry-carried g.V.Volumes.faults c.self.inside.units c.retry.new.self c.world.ensures.safe c.args.system c.args.tid c.way_at.result c.way_at.ensures c.retry.result c.retry.ensures.ends))
+    (retry-carried g.V.Volumes.faults c.self.inside.units c.retry.new.self c.world.ensures.safe c.args.system c.args.tid c.way_at.result c.way_at.ensures
+    c.retry.result c.retry.ensures.ends))
 
 pub returns-clause-disk : goal.returns-clause-disk
 returns-clause-disk g c =
-    subst (λ (k : KeptOf ModelRules DocumentTables g.row.V.Denot). DiskAsked g.V.Volumes.told g.V.Volumes.volume g.V.Volumes.moment g.V.Volumes.images_since k c.retry.new.self c.args.system
+    subst (λ (k : KeptOf ModelRules DocumentTables g.row.V.Denot). DiskAsked g.V.Volumes.told g.V.Volumes.volume g.V.Volumes.moment g.V.Volumes.images_since k
+    c.retry.new.self c.args.system
     (asked_at k.world c.args.system (asked_retry k.world.rules.systems c.args.system c.args.tid))) c.self.view_is
     (retry-disk g.V.Volumes.faults c.self.inside.units c.retry.new.self c.world.ensures.safe c.args.system c.args.tid c.way_at.result c.way_at.ensures
     g.V.Volumes.told g.V.Volumes.volume g.V.Volumes.moment g.V.Volumes.images_since c.retry.ensures.disk)

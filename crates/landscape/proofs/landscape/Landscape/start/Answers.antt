@@ -13,21 +13,30 @@ use Rattle.landscape.proofs.landscape.Landscape.start.Goals as goal
 
 pub invariant_of-self : goal.invariant_of-self
 invariant_of-self g c =
-    begun-operated g.V.Volumes.faults c.self.inside.units c.start.new.self c.world.ensures.safe c.self.invariant c.args.system (log.Start c.queue_to-way.result.0 c.queue_to-way.result.1 c.in-Ok.name) c.start.result c.start.ensures.ends
+    begun-operated g.V.Volumes.faults c.self.inside.units c.start.new.self c.world.ensures.safe c.self.invariant c.args.system
+    (log.Start c.queue_to-way.result.0 c.queue_to-way.result.1 c.in-Ok.name) c.start.result c.start.ensures.ends
 
 pub returns-clause-ends : goal.returns-clause-ends
 returns-clause-ends g c =
     subst (λ (k : KeptOf ModelRules DocumentTables g.row.V.Denot). CarriedAs g.V.Volumes.faults k c.start.new.self c.args.system (operator_event c.args.system)
-    (asked_at k.world c.args.system (λ log. asked_queue k.world.rules.systems c.args.system c.args.destination c.args.name.now (start_of c.args.destination c.args.name.now))) {T = Unit {0}} (λ done. ⊤) c.refused.result) c.self.view_is
+    (asked_at k.world c.args.system (λ log. asked_queue k.world.rules.systems c.args.system c.args.destination c.args.name.now
+    (start_of c.args.destination c.args.name.now))) {T = Unit {0}} (λ done. ⊤) c.refused.result) c.self.view_is
     (subst (CarriedAs g.V.Volumes.faults c.self.inside.units c.start.new.self c.args.system (operator_event c.args.system)
-    (asked_at c.self.inside.units.world c.args.system (λ log. asked_queue c.self.inside.units.world.rules.systems c.args.system c.args.destination c.args.name.now (start_of c.args.destination c.args.name.now))) {T = Unit {0}} (λ done. ⊤))
+    (asked_at c.self.inside.units.world c.args.system (λ log. asked_queue c.self.inside.units.world.rules.systems c.args.system c.args.destination
+    c.args.name.now (start_of c.args.destination c.args.name.now))) {T = Unit {0}} (λ done. ⊤))
     (sym c.refused.ensures)
-    (start-carried g.V.Volumes.faults c.self.inside.units c.start.new.self c.world.ensures.safe c.args.system c.args.destination c.args.name.now c.in-Ok.name c.queue_to-way.result.0 c.queue_to-way.result.1 (ap (λ (t : Way × ℕ). t.0) c.queue_to-way.ensures) (ap (λ (t : Way × ℕ). t.1) c.queue_to-way.ensures) c.in-Ok.ensures.name
+    (start-carried g.V.Volumes.faults c.self.inside.units c.start.new.self c.world.ensures.safe c.args.system c.args.destination c.args.name.now c.in-Ok.name
+    c.queue_to-way.result.0 c.queue_to-way.result.1 (ap (λ (t : Way × ℕ). t.0) c.queue_to-way.ensures) (ap (λ (t : Way × ℕ). t.1) c.queue_to-way.ensures)
+    c.in-Ok.ensures.name
     c.start.result c.start.ensures.ends))
 
 pub returns-clause-disk : goal.returns-clause-disk
 returns-clause-disk g c =
-    subst (λ (k : KeptOf ModelRules DocumentTables g.row.V.Denot). DiskAsked g.V.Volumes.told g.V.Volumes.volume g.V.Volumes.moment g.V.Volumes.images_since k c.start.new.self c.args.system
-    (asked_at k.world c.args.system (λ log. asked_queue k.world.rules.systems c.args.system c.args.destination c.args.name.now (start_of c.args.destination c.args.name.now)))) c.self.view_is
-    (start-disk g.V.Volumes.faults c.self.inside.units c.start.new.self c.world.ensures.safe c.args.system c.args.destination c.args.name.now c.in-Ok.name c.queue_to-way.result.0 c.queue_to-way.result.1 (ap (λ (t : Way × ℕ). t.0) c.queue_to-way.ensures) (ap (λ (t : Way × ℕ). t.1) c.queue_to-way.ensures) c.in-Ok.ensures.name
+    subst (λ (k : KeptOf ModelRules DocumentTables g.row.V.Denot). DiskAsked g.V.Volumes.told g.V.Volumes.volume g.V.Volumes.moment g.V.Volumes.images_since k
+    c.start.new.self c.args.system
+    (asked_at k.world c.args.system (λ log. asked_queue k.world.rules.systems c.args.system c.args.destination c.args.name.now
+    (start_of c.args.destination c.args.name.now)))) c.self.view_is
+    (start-disk g.V.Volumes.faults c.self.inside.units c.start.new.self c.world.ensures.safe c.args.system c.args.destination c.args.name.now c.in-Ok.name
+    c.queue_to-way.result.0 c.queue_to-way.result.1 (ap (λ (t : Way × ℕ). t.0) c.queue_to-way.ensures) (ap (λ (t : Way × ℕ). t.1) c.queue_to-way.ensures)
+    c.in-Ok.ensures.name
     g.V.Volumes.told g.V.Volumes.volume g.V.Volumes.moment g.V.Volumes.images_since c.start.ensures.disk)

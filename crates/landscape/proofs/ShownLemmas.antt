@@ -1,0 +1,51 @@
+-- What an operator is shown of a system.
+use Rattle.std.proofs.lemmas.Bool.{and_from, le-leb, cases_Bool, false_from_ne_true, both_ways}
+use Rattle.std.proofs.Common.{◌≡◌, ℕ, true, false, ◌&&◌, ◌||◌, inl, inr, Option, Some, None, List, [], ◌∷◌, filter, refl, sym, ap, subst, ◌∙◌}
+use Rattle.ale_base.specs.Tid.{TidOf, IsTid, has_range, is_tid}
+use Rattle.unit_core.specs.Queues.{is_listed}
+use Rattle.unit_core.proofs.TidLemmas.{is_tid-true}
+use Rattle.system_tables.specs.OfLog.{is_unconfirmed}
+use Rattle.system_tables.specs.Tables.{TablesOf}
+use Rattle.trfc_protocol.specs.declared.world.World.{World}
+use Rattle.trfc_protocol.specs.Worlds.{log_of}
+use Rattle.kept_world.specs.Kept.{KeptOf}
+use Rattle.unit_landscape.specs.Tables.{AreTablesUp}
+use Rattle.document_tables.specs.declared.document_tables.DocumentTables.{DocumentTables}
+use Rattle.document_tables.specs.Tables.{AreTablesOf}
+use Rattle.model_rules.specs.declared.model_rules.ModelRules.{ModelRules}
+use Rattle.landscape.specs.Shown.{AreShownBy, AreUnconfirmedAt}
+use Rattle.landscape.proofs.BegunLemmas.{meaning}
+
+-- the tables of a system are those by which it is shown
+pub shown-by : {V : Type 0} (kept : KeptOf ModelRules DocumentTables V) (system : ℕ) (found : Option (TablesOf DocumentTables))
+    → AreTablesUp (λ one log. AreTablesOf log one) (meaning kept.world.rules) kept system found → AreShownBy kept.world system found
+shown-by kept system None is = is
+shown-by kept system (Some its) is = (is.up, is.agree)
+
+-- ---- ids in their range
+
+range_of : (tid : TidOf) → IsTid tid → has_range tid ≡ true
+range_of tid is =
+    and_from _ _ (and_from _ _ (le-leb 1 tid.system is.system_least) (le-leb tid.system 16 is.system_most))
+    (and_from _ _ (le-leb 1 tid.unit is.unit_least) (le-leb tid.unit 65536 is.unit_most))
+
+other_range : (tid one : TidOf) → IsTid tid → has_range one ≡ false → is_tid one tid ≡ false
+other_range tid one is outside =
+    false_from_ne_true (is_tid one tid)
+    (λ same. both_ways (has_range one) outside (subst (λ t. has_range t ≡ true) (sym (is_tid-true one tid same)) (range_of tid is)))
+
+-- an id that is listed is listed among those that are in the range of ids
+pub listed-range : (tid : TidOf) (tids : List TidOf) → IsTid tid → is_listed tid (filter has_range tids) ≡ is_listed tid tids
+listed-range tid [] is = refl
+listed-range tid (one ∷ rest) is =
+    elim (cases_Bool (has_range one)) [
+      | inl inside ↦ rw inside (ap (λ found. is_tid one tid || found) (listed-range tid rest is))
+      | inr outside ↦ rw outside (listed-range tid rest is ∙ sym (ap (λ b. b || is_listed tid rest) (other_range tid one is outside)))
+    ]
+
+-- the ids of those that the tables have are those of the units that are done and not ended
+pub unconfirmed-at : (world : World ModelRules) (system : ℕ) (its : TablesOf DocumentTables) (tids : List TidOf) → AreShownBy world system (Some its)
+    → tids ≡ filter has_range its.unconfirmed → AreUnconfirmedAt world system tids
+unconfirmed-at world system its tids by are = λ tid is.
+    ap (is_listed tid) are ∙ listed-range tid its.unconfirmed is ∙ by.1.unconfirmed.each tid
+    ∙ ap (λ up. up && is_unconfirmed tid (log_of world system)) (sym by.0)
