@@ -58,40 +58,43 @@ impl Bench {
             return Err(NO_SUCH_ITEM.into());
         };
         match about {
+            About::Replies => Ok(Some(self.replies()?)),
+            About::Repeats => Ok(Some(self.repeats(item)?)),
+            About::Walk => Ok(Some(self.walk(item)?)),
+            _ => {
+                self.set(item, about)?;
+                Ok(None)
+            }
+        }
+    }
+
+    /// Sets up what an item says.
+    fn set(&mut self, item: &Item, about: About) -> Result<(), LineEnd> {
+        match about {
             About::Model => self.text = Items::from_vec(text_of(self.alloc, item)?),
             About::Master => self.masters.push(master(self.alloc, item)?)?,
             About::Script => self.script = script_of(self.alloc, item)?,
-            About::Replies => return Ok(Some(self.replies()?)),
-            About::Repeats => return Ok(Some(self.repeats(item)?)),
-            About::Walk => return Ok(Some(self.walk(item)?)),
+            _ => {}
         }
-        Ok(None)
+        Ok(())
     }
 
     /// `replies`: the replies to the script, a line each, over a landscape that begins; and that the protocol's machine has other logs,
     /// where it has.
     fn replies(&self) -> Result<Vec<u8>, LineEnd> {
         let mut player = self.player()?;
-        let mut text = Vec::new(self.alloc);
-        for command in self.script.as_slice() {
-            player.reply(command, &mut text)?;
-        }
-        player.compare(&mut text)?;
-        Ok(text)
+        let text = player.replies(self.script.as_slice());
+        drop(player);
+        text
     }
 
     /// `repeats COUNT`: the last reply to the script's commands, which are carried out so often, one after the other.
     fn repeats(&self, item: &Item) -> Result<Vec<u8>, LineEnd> {
         let count = number_of(item.rest.as_slice())?;
         let mut player = self.player()?;
-        let mut text = Vec::new(self.alloc);
-        for _ in 0..count {
-            text.clear();
-            for command in self.script.as_slice() {
-                player.reply(command, &mut text)?;
-            }
-        }
-        Ok(text)
+        let text = player.repeats(self.script.as_slice(), count);
+        drop(player);
+        text
     }
 
     /// `walk SEED COUNT UNITS`: so many commands of the script, in random order, with works between them, after which at least so many
@@ -100,13 +103,12 @@ impl Bench {
         let (seed, rest) = first_word(item.rest.as_slice());
         let (count, units) = first_word(rest);
         let mut dice = Dice::of(number_of(seed)?);
+        let count = number_of(count)?;
+        let units = number_of(units)?;
         let mut player = self.player()?;
-        player.walk(
-            self.script.as_slice(),
-            &mut dice,
-            number_of(count)?,
-            number_of(units)?,
-        )
+        let text = player.walk(self.script.as_slice(), &mut dice, count, units);
+        drop(player);
+        text
     }
 
     /// A landscape that begins, of the model and the masters.

@@ -1,6 +1,6 @@
 //! The calls of a landscape that have a condition: it is tested, and where it does not hold nothing is called.
 
-ghost use Rattle.std.specs.Prelude.{◌≡◌, IfOk, IfSome};
+ghost use Rattle.std.specs.Prelude.{◌≡◌, Some, IfOk, IfSome};
 ghost use Rattle.unit_core.specs.Filters.{done_in, forgotten_in};
 ghost use Rattle.unit_core.specs.Queues.{is_listed};
 ghost use Rattle.trfc_protocol.specs.Worlds.{committed_unit};
@@ -28,10 +28,24 @@ pub(crate) fn arrive(
     let Some(unit) = unit_of(landscape, tid)? else {
         return Ok(None);
     };
-    if unit.tid != tid || !landscape.world().may_arrive(alloc, &unit)? {
+    let arrival = arrive_as(alloc, landscape, tid, &unit);
+    drop(unit);
+    arrival
+}
+
+/// The same of the unit that was committed under an id.
+fn arrive_as(
+    alloc: Global,
+    landscape: &mut Landscape,
+    tid: Tid,
+    unit: &AleUnit,
+) -> Result<Option<Arrival>, OutOfMemory>
+    requires { committed_unit (model_meaning landscape.old.world.rules.systems) landscape.old.world tid ≡ Some unit.now }
+{
+    if unit.tid != tid || !landscape.world().may_arrive(alloc, unit)? {
         return Ok(None);
     }
-    Ok(Some(landscape.arrive(&unit)?))
+    Ok(Some(landscape.arrive(unit)?))
 }
 
 /// A copy of the unit of an id.

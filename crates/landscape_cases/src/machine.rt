@@ -19,6 +19,17 @@ impl Player {
     /// Appends a line for each log that the protocol's machine has otherwise.
     pub(crate) fn compare(&self, text: &mut Vec<u8>) -> Result<(), LineEnd> {
         let world = self.machine()?;
+        let end = self.put_differences(&world, text);
+        drop(world);
+        end
+    }
+
+    /// Appends a line for each log that a world has otherwise.
+    fn put_differences(
+        &self,
+        world: &World<ModelRules>,
+        text: &mut Vec<u8>,
+    ) -> Result<(), LineEnd> {
         for system in self.systems()? {
             if world.log(system) != self.landscape.log(system) {
                 text.extend_from_slice(b"the protocol has another log\n")?;

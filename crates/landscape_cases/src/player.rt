@@ -1,6 +1,9 @@
 //! A landscape that carries out commands, and the events that its calls were.
 
-ghost use Rattle.std.specs.Prelude.{IsTrue};
+ghost use Rattle.std.specs.Prelude.{◌≡◌, ◌≤◌, Some, length, IsTrue};
+ghost use Rattle.std.specs.Arc.{arc_value};
+ghost use Rattle.said_models.specs.Said.{said};
+ghost use Rattle.landscape_opening.specs.declared.beginning.TheConstants.{MOST_TEXT};
 ghost use Rattle.report_text.specs.Reply.{IsPrintable};
 
 use crate::machine::model_of;
@@ -48,25 +51,49 @@ impl Player {
             return Err(NO_MODEL.into());
         }
         let model = model_of(alloc, text)?;
-        let own = Arc::try_clone(&model)?;
-        let vols = MemoryVolumes::new(alloc);
-        match Landscape::open(alloc, model, text.clone()?, None, vols) {
-            Ok(landscape) => Ok(Player {
-                alloc,
-                model: own,
-                text: text.clone()?,
-                masters: masters.clone()?,
-                landscape,
-                events: Vec::new(alloc),
-                wires: Wires::new(alloc),
-                finished: 0,
-            }),
-            Err(OpenEnd { .. }) => Err(NOT_OPENED.into()),
+        let masters = masters.clone()?;
+        let own = text.clone()?;
+        let landscape = opened(alloc, &model, text)?;
+        Ok(Player {
+            alloc,
+            model,
+            text: own,
+            masters,
+            landscape,
+            events: Vec::new(alloc),
+            wires: Wires::new(alloc),
+            finished: 0,
+        })
+    }
+
+    /// The lines of the replies to commands, and what the protocol's machine has otherwise.
+    pub(crate) fn replies(&mut self, commands: &[Command]) -> Result<Vec<u8>, LineEnd> {
+        let mut text = Vec::new(self.alloc);
+        self.reply_all(commands, &mut text)?;
+        self.compare(&mut text)?;
+        Ok(text)
+    }
+
+    /// The lines of the replies to commands that are carried out so often, the last time.
+    pub(crate) fn repeats(&mut self, commands: &[Command], count: u32) -> Result<Vec<u8>, LineEnd> {
+        let mut text = Vec::new(self.alloc);
+        for _ in 0..count {
+            text.clear();
+            self.reply_all(commands, &mut text)?;
         }
+        Ok(text)
+    }
+
+    /// Carries out commands, and appends the lines of their replies.
+    fn reply_all(&mut self, commands: &[Command], text: &mut Vec<u8>) -> Result<(), LineEnd> {
+        for command in commands {
+            self.reply(command, text)?;
+        }
+        Ok(())
     }
 
     /// Carries out a command, and appends the line of its reply.
-    pub(crate) fn reply(&mut self, command: &Command, text: &mut Vec<u8>) -> Result<(), LineEnd> {
+    fn reply(&mut self, command: &Command, text: &mut Vec<u8>) -> Result<(), LineEnd> {
         let reply = self.perform(&command.form)?;
         let lengths = self.lengths()?;
         put_reply(self.alloc, command, &reply, lengths.as_slice(), text)
@@ -111,6 +138,23 @@ impl Player {
                 Ok(self.events.push(event)?)
             }
         }
+    }
+}
+
+/// A landscape that begins with a model, which is that of a text.
+fn opened(
+    alloc: Global,
+    model: &Arc<Model>,
+    text: &Items<u8>,
+) -> Result<Landscape<MemoryVolumes>, LineEnd>
+    requires said { said text.now ≡ Some (arc_value model.now) }
+    requires short { length text.now ≤ MOST_TEXT }
+{
+    let text = text.clone()?;
+    let model = Arc::try_clone(model)?;
+    match Landscape::open(alloc, model, text, None, MemoryVolumes::new(alloc)) {
+        Ok(landscape) => Ok(landscape),
+        Err(OpenEnd { .. }) => Err(NOT_OPENED.into()),
     }
 }
 

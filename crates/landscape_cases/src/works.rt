@@ -6,8 +6,9 @@ use crate::rules::NOT_CALLED;
 use ale_base::{OutOfMemory, SystemNo, Tid};
 use case_form::LineEnd;
 use report_text::Reply;
+use std::alloc::Global;
 use trfc_protocol::{CoreAnswer, Event, ReplyTo};
-use unit_core::{done_in, ended_in, is_listed};
+use unit_core::{Record, done_in, ended_in, is_listed};
 use unit_landscape::{Arrival, Confirmed, Finished, InClaim, OutClaim, Replied, Reply as Given};
 
 /// More works than any case has.
@@ -44,14 +45,7 @@ impl Player {
     fn due(&self) -> Result<Vec<Tid>, LineEnd> {
         let mut due = Vec::new(self.alloc);
         for system in &self.systems()? {
-            let log = self.landscape.log(*system);
-            let done = done_in(self.alloc, log)?;
-            let ended = ended_in(self.alloc, log)?;
-            for tid in &done {
-                if !is_listed(*tid, ended.as_slice()) {
-                    due.push(*tid)?;
-                }
-            }
+            put_due(self.alloc, self.landscape.log(*system), &mut due)?;
         }
         Ok(due)
     }
@@ -180,6 +174,23 @@ impl Player {
         let _receipt = self.finish(claim)?;
         Ok(true)
     }
+}
+
+/// Adds the units that are done in a log and not ended.
+fn put_due(alloc: Global, log: &[Record], due: &mut Vec<Tid>) -> Result<(), LineEnd> {
+    let ended = ended_in(alloc, log)?;
+    let done = done_in(alloc, log)?;
+    put_unlisted(done.as_slice(), ended.as_slice(), due)
+}
+
+/// Adds the ids that are not among others.
+fn put_unlisted(tids: &[Tid], others: &[Tid], due: &mut Vec<Tid>) -> Result<(), LineEnd> {
+    for tid in tids {
+        if !is_listed(*tid, others) {
+            due.push(*tid)?;
+        }
+    }
+    Ok(())
 }
 
 /// The event of a reply.
