@@ -11,6 +11,7 @@ use inbound_post::ApplicationTables;
 use model_text::{ModelFault, read};
 use object_store::Objects;
 use std::alloc::Global;
+use std::mem::replace;
 use unit_core::RawUnitDoc;
 
 /// What came of an item.
@@ -95,24 +96,33 @@ impl Bench {
     pub(crate) fn answer(&mut self, alloc: Global, item: &Item) -> Result<Answer, LineEnd> {
         match meaning_of(&WORDS, item.word.as_slice()) {
             None => Ok(Answer::Foreign),
-            Some(About::Model) => {
-                self.model = Some(model_of(alloc, item)?);
-                Ok(Answer::Taken)
-            }
-            Some(About::Required) => {
-                self.required = changing::names(alloc, item.rest.as_slice())?;
-                Ok(Answer::Taken)
-            }
-            Some(About::Document) => {
-                self.document = receiving::document(alloc, item)?;
-                Ok(Answer::Taken)
-            }
-            Some(About::Clear) => {
-                pointing::clear(self, item)?;
-                Ok(Answer::Taken)
-            }
+            Some(About::Model) => self.set_model(alloc, item),
+            Some(About::Required) => self.set_required(alloc, item),
+            Some(About::Document) => self.set_document(alloc, item),
+            Some(About::Clear) => self.clear(item),
             Some(about) => Ok(Answer::Text(self.found(alloc, item, about)?)),
         }
+    }
+
+    fn set_model(&mut self, alloc: Global, item: &Item) -> Result<Answer, LineEnd> {
+        let model = model_of(alloc, item)?;
+        drop(replace(&mut self.model, Some(model)));
+        Ok(Answer::Taken)
+    }
+
+    fn set_required(&mut self, alloc: Global, item: &Item) -> Result<Answer, LineEnd> {
+        self.required = changing::names(alloc, item.rest.as_slice())?;
+        Ok(Answer::Taken)
+    }
+
+    fn set_document(&mut self, alloc: Global, item: &Item) -> Result<Answer, LineEnd> {
+        self.document = receiving::document(alloc, item)?;
+        Ok(Answer::Taken)
+    }
+
+    fn clear(&mut self, item: &Item) -> Result<Answer, LineEnd> {
+        pointing::clear(self, item)?;
+        Ok(Answer::Taken)
     }
 
     /// What an item finds.

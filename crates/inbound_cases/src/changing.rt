@@ -30,17 +30,22 @@ pub(crate) fn names(alloc: Global, text: &[u8]) -> Result<Items<Items<u8>>, Line
 pub(crate) fn change_of(alloc: Global, text: &[u8]) -> Result<Change, LineEnd> {
     let (kind, rest) = first_word(text);
     let (key, rest) = first_word(rest);
+    let fields = fields_of(alloc, rest)?;
+    let kind = Items::from_slice(alloc, kind)?;
+    let key = plain(alloc, key)?;
+    Ok(Change { kind, key, fields })
+}
+
+/// Fields and their values, as `FIELD=VALUE ..`; none as no text.
+fn fields_of(alloc: Global, text: &[u8]) -> Result<Items<FieldValue>, LineEnd> {
     let mut fields = Items::new(alloc);
-    if !rest.is_empty() {
-        for word in rest.split(|byte| *byte == b' ') {
-            fields.push(field_of(alloc, word)?)?;
-        }
+    if text.is_empty() {
+        return Ok(fields);
     }
-    Ok(Change {
-        kind: Items::from_slice(alloc, kind)?,
-        key: plain(alloc, key)?,
-        fields,
-    })
+    for word in text.split(|byte| *byte == b' ') {
+        fields.push(field_of(alloc, word)?)?;
+    }
+    Ok(fields)
 }
 
 /// A field and its value, as `FIELD=VALUE`.
@@ -59,15 +64,33 @@ pub(crate) fn post(
     text: &[u8],
     insert: bool,
 ) -> Result<Vec<u8>, LineEnd> {
+    let posting = posting_of(alloc, bench.required.as_slice(), text, insert)?;
+    let outcome = apply(alloc, &mut bench.objects, &posting);
+    drop(posting);
+    outcome_text(alloc, outcome?)
+}
+
+/// The posting that a change spells.
+fn posting_of(
+    alloc: Global,
+    required: &[Items<u8>],
+    text: &[u8],
+    insert: bool,
+) -> Result<Posting, LineEnd> {
     let Change { kind, key, fields } = change_of(alloc, text)?;
-    let posting = Posting {
+    let required = required_of(alloc, required)?;
+    Ok(Posting {
         kind,
         key,
         fields,
-        required: required_of(alloc, bench.required.as_slice())?,
+        required,
         insert,
-    };
-    let found: &[u8] = match apply(alloc, &mut bench.objects, &posting)? {
+    })
+}
+
+/// What comes of a posting, as a text.
+fn outcome_text(alloc: Global, outcome: Outcome) -> Result<Vec<u8>, LineEnd> {
+    let found: &[u8] = match outcome {
         Outcome::Posted => b"posted\n",
         Outcome::Refused(1) => b"refused 1\n",
         Outcome::Refused(2) => b"refused 2\n",

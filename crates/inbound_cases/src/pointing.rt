@@ -11,20 +11,23 @@ use case_form::{Item, LineEnd, first_word};
 use change_pointers::{ObjectKey, Pointer, Pointers, master_of, noted};
 use dist_model::{MessageNo, Model};
 use idoc_record::ControlField;
-use idoc_tree::Doc;
+use idoc_tree::{Doc, Node};
 use object_store::{Objects, put as put_fields};
-use std::alloc::Global;
+use std::alloc::{AllocError, Global};
 
 /// `put`: changes an object, and finds the pointers that this notes, a line each, as `FIELD MESSAGE`, or `nothing`. With no model
 /// there are none.
 pub(crate) fn put(alloc: Global, bench: &mut Bench, text: &[u8]) -> Result<Vec<u8>, LineEnd> {
     let change = change_of(alloc, text)?;
+    let found = put_change(alloc, bench, &change);
+    drop(change);
+    found
+}
+
+/// Makes a change, and finds the pointers that it notes.
+fn put_change(alloc: Global, bench: &mut Bench, change: &Change) -> Result<Vec<u8>, LineEnd> {
     let mut found = Vec::new(alloc);
-    if let Some(model) = &bench.model {
-        let new = noted_by(alloc, model, &bench.objects, &change)?;
-        put_pointers(&mut found, model, new.as_slice())?;
-        note_all(&mut bench.pointers, new)?;
-    }
+    note_change(alloc, bench, change, &mut found)?;
     put_fields(
         alloc,
         &mut bench.objects,
@@ -34,6 +37,21 @@ pub(crate) fn put(alloc: Global, bench: &mut Bench, text: &[u8]) -> Result<Vec<u
     )?;
     or_nothing(&mut found)?;
     Ok(found)
+}
+
+/// Notes the pointers of a change, and appends a line for each. With no model there are none.
+fn note_change(
+    alloc: Global,
+    bench: &mut Bench,
+    change: &Change,
+    found: &mut Vec<u8>,
+) -> Result<(), LineEnd> {
+    let Some(model) = &bench.model else {
+        return Ok(());
+    };
+    let new = noted_by(alloc, model, &bench.objects, change)?;
+    put_pointers(found, model, new.as_slice())?;
+    note_all(&mut bench.pointers, new)
 }
 
 /// The pointers that a change notes.
@@ -101,8 +119,14 @@ pub(crate) fn pending(alloc: Global, bench: &Bench, name: &[u8]) -> Result<Vec<u
     let Some(message) = message_named(model, name) else {
         return Err(NO_SUCH_MESSAGE.into());
     };
+    let objects = bench.pointers.pending(alloc, message)?;
+    keys_text(alloc, objects.as_slice())
+}
+
+/// Objects, a line each.
+fn keys_text(alloc: Global, objects: &[ObjectKey]) -> Result<Vec<u8>, LineEnd> {
     let mut found = Vec::new(alloc);
-    for object in &bench.pointers.pending(alloc, message)? {
+    for object in objects {
         put_words(&mut found, object.kind.as_slice(), object.key.as_slice())?;
         found.push(b'\n')?;
     }
@@ -132,15 +156,21 @@ pub(crate) fn master(alloc: Global, bench: &Bench, text: &[u8]) -> Result<Vec<u8
     let Some(message) = message_named(model, name) else {
         return Err(NO_SUCH_MESSAGE.into());
     };
-    let (kind, key) = first_word(rest);
-    let key = ObjectKey {
-        kind: Items::from_slice(alloc, kind)?,
-        key: plain(alloc, key)?,
-    };
-    match master_of(alloc, model, &bench.objects, message, &key)? {
+    let key = key_of(alloc, rest)?;
+    let master = master_of(alloc, model, &bench.objects, message, &key);
+    drop(key);
+    match master? {
         None => Ok(Vec::from_slice(alloc, b"no object\n")?),
         Some(doc) => master_text(alloc, model, &doc),
     }
+}
+
+/// The object of `KIND KEY`.
+fn key_of(alloc: Global, text: &[u8]) -> Result<ObjectKey, LineEnd> {
+    let (kind, key) = first_word(text);
+    let kind = Items::from_slice(alloc, kind)?;
+    let key = plain(alloc, key)?;
+    Ok(ObjectKey { kind, key })
 }
 
 /// The lines of a master.
@@ -153,15 +183,30 @@ fn master_text(alloc: Global, model: &Model, doc: &Doc) -> Result<Vec<u8>, LineE
     )?;
     text.push(b'\n')?;
     for node in &doc.forest {
-        let segment = node.segment.0;
-        let version = node.version.0;
-        let types = &model.as_lists().definitions.types;
-        if let Some(ty) = types.get(usize::from(segment)) {
-            if let Some(definition) = ty.versions.get(usize::from(version)) {
-                put_words(&mut text, definition.name.as_slice(), node.sdata.as_slice())?;
-                text.push(b'\n')?;
-            }
-        }
+        put_node(&mut text, model, node)?;
     }
     Ok(text)
+}
+
+/// Appends the line of a node: its definition and its data.
+fn put_node(text: &mut Vec<u8>, model: &Model, node: &Node) -> Result<(), AllocError> {
+    let Some(definition) = definition_of(model, node) else {
+        return Ok(());
+    };
+    put_words(text, definition, node.sdata.as_slice())?;
+    text.push(b'\n')?;
+    Ok(())
+}
+
+/// The name of the definition of a node's segment.
+fn definition_of<'a>(model: &'a Model, node: &Node) -> Option<&'a [u8]> {
+    let segment = node.segment.0;
+    let version = node.version.0;
+    let ty = model
+        .as_lists()
+        .definitions
+        .types
+        .get(usize::from(segment))?;
+    let definition = ty.versions.get(usize::from(version))?;
+    Some(definition.name.as_slice())
 }

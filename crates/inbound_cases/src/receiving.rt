@@ -5,6 +5,7 @@ use crate::changing::plain;
 use crate::rules::{NO_MODEL, NO_RECORD, NO_SUCH_NUMBER};
 use ale_base::{DocNum, Fixed, Items, SystemNo, Tid};
 use case_form::{Item, LineEnd, first_word, number_of};
+use dist_model::Model;
 use idoc_record::{Control, ControlField, Data, RecordFault, read_data};
 use inbound_post::{ApplicationTables, prepare};
 use std::alloc::{AllocError, Global};
@@ -19,15 +20,20 @@ pub(crate) fn document(alloc: Global, item: &Item) -> Result<RawUnitDoc, LineEnd
     }
     let mut segments = Items::new(alloc);
     for line in &item.block {
-        let (name, sdata) = first_word(line.text.as_slice());
-        let sdata = plain(alloc, sdata)?;
-        segments.push(record_of(alloc, name, sdata.as_slice())?)?;
+        segments.push(record_of(alloc, line.text.as_slice())?)?;
     }
     Ok(RawUnitDoc { control, segments })
 }
 
-/// A data record.
-fn record_of(alloc: Global, name: &[u8], sdata: &[u8]) -> Result<Data, LineEnd> {
+/// A data record, as `NAME DATA`.
+fn record_of(alloc: Global, text: &[u8]) -> Result<Data, LineEnd> {
+    let (name, sdata) = first_word(text);
+    let sdata = plain(alloc, sdata)?;
+    record_with(alloc, name, sdata.as_slice())
+}
+
+/// A data record of a name and data.
+fn record_with(alloc: Global, name: &[u8], sdata: &[u8]) -> Result<Data, LineEnd> {
     let mut line = Vec::from_slice(alloc, name)?;
     line.resize(63, b' ')?;
     line.extend_from_slice(sdata)?;
@@ -45,17 +51,29 @@ pub(crate) fn executes(alloc: Global, bench: &mut Bench, text: &[u8]) -> Result<
     let (Some(receiver), Some(sender)) = (system_of(receiver), system_of(sender)) else {
         return Err(NO_SUCH_NUMBER.into());
     };
-    let unit = unit_of(alloc, sender, receiver, &bench.document)?;
     let Some(model) = &bench.model else {
         return Err(NO_MODEL.into());
     };
-    let prepared = prepare(alloc, model, receiver, &unit)?;
-    let docs = unit.docs.as_slice();
-    bench
-        .tables
-        .execute(alloc, sender, docs, prepared.postings.as_slice())?;
+    let unit = unit_of(alloc, sender, receiver, &bench.document)?;
+    let end = execute(alloc, model, &mut bench.tables, receiver, &unit);
+    drop(unit);
+    end?;
     let last = bench.tables.count();
     Ok(statuses_text(alloc, &bench.tables, DocNum(last as u64))?)
+}
+
+/// A unit is executed by its receiver.
+fn execute(
+    alloc: Global,
+    model: &Model,
+    tables: &mut ApplicationTables,
+    receiver: SystemNo,
+    unit: &AleUnit,
+) -> Result<(), LineEnd> {
+    let prepared = prepare(alloc, model, receiver, unit)?;
+    let docs = unit.docs.as_slice();
+    tables.execute(alloc, unit.sender, docs, prepared.postings.as_slice())?;
+    Ok(())
 }
 
 /// `again NUMBER`: the document of a number is passed to the application again, and finds its statuses.
