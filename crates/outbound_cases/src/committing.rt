@@ -25,9 +25,14 @@ struct Made {
 /// Commit.
 pub(crate) fn documents(alloc: Global, bench: &Bench, item: &Item) -> Result<Vec<u8>, LineEnd> {
     let made = made_by(alloc, &bench.log)?;
+    made_text(alloc, &made, item.rest.as_slice())
+}
+
+/// The documents of these numbers, or all with no number, a line each.
+fn made_text(alloc: Global, made: &Made, numbers: &[u8]) -> Result<Vec<u8>, LineEnd> {
     let mut text = Vec::new(alloc);
     for document in &made.documents {
-        if is_asked(item.rest.as_slice(), document.number)? {
+        if is_asked(numbers, document.number)? {
             put_document(alloc, &mut text, document, made.units.as_slice())?;
         }
     }
@@ -44,17 +49,23 @@ fn made_by(alloc: Global, log: &Log) -> Result<Made, LineEnd> {
         documents: Items::new(alloc),
         units: Items::new(alloc),
     };
+    add_all(alloc, log, system, &mut made)?;
+    Ok(made)
+}
+
+/// Adds what the records of a log add, one after the other.
+fn add_all(alloc: Global, log: &Log, system: SystemNo, made: &mut Made) -> Result<(), LineEnd> {
     let mut outbox = Outbox::new(alloc);
     let mut models = 0usize;
     for next in &log.records {
         if let Some(model) = in_force(log.models.as_slice(), models) {
-            add(alloc, model, system, next, &mut outbox, &mut made)?;
+            add(alloc, model, system, next, &mut outbox, made)?;
         }
         if is_model(next) {
             models = models.saturating_add(1);
         }
     }
-    Ok(made)
+    Ok(())
 }
 
 /// Adds what one more record adds.
@@ -153,8 +164,13 @@ fn fate_text(fate: Fate) -> &'static [u8] {
 /// names of its queues, or `-`; DOCUMENTS are the numbers of its documents, each as the control record has it.
 pub(crate) fn units(alloc: Global, bench: &Bench) -> Result<Vec<u8>, LineEnd> {
     let units = committed_by(alloc, &bench.log)?;
+    units_text(alloc, units.as_slice())
+}
+
+/// Units, a line each.
+fn units_text(alloc: Global, units: &[AleUnit]) -> Result<Vec<u8>, LineEnd> {
     let mut text = Vec::new(alloc);
-    for unit in &units {
+    for unit in units {
         put_unit(alloc, &mut text, unit)?;
     }
     or_nothing(&mut text)?;
@@ -246,8 +262,13 @@ fn put_range(alloc: Global, text: &mut Vec<u8>, first: u32, last: u32) -> Result
 pub(crate) fn carries(alloc: Global, bench: &Bench, item: &Item) -> Result<Vec<u8>, LineEnd> {
     let number = number_of(item.rest.as_slice())?;
     let units = committed_by(alloc, &bench.log)?;
+    carried_text(alloc, number, units.as_slice())
+}
+
+/// The data records that the unit of a number carries, a line each.
+fn carried_text(alloc: Global, number: u32, units: &[AleUnit]) -> Result<Vec<u8>, LineEnd> {
     let mut text = Vec::new(alloc);
-    for unit in &units {
+    for unit in units {
         if unit.tid.unit() == number {
             put_documents(&mut text, unit.docs.as_slice())?;
         }

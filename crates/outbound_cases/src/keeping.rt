@@ -70,7 +70,7 @@ fn kept_of(
 {
     match document(alloc, lists, ty, records)? {
         None => Err(NO_DOCUMENT.into()),
-        Some(doc) => Ok(kept_text(alloc, lists, ty, groups, doc.forest.as_slice())?),
+        Some(doc) => kept_text(alloc, lists, ty, groups, doc.forest.as_slice()),
     }
 }
 
@@ -111,8 +111,17 @@ pub(crate) fn kept_text(
     requires { AllNodes (IsNode lists.now.definitions) (forest_of forest.now) }
 {
     let kept = keep_groups(alloc, lists, groups, ty, forest)?;
+    nodes_text(alloc, &lists.definitions, kept.as_slice())
+}
+
+/// The lines of some nodes, and of all below them; `nothing` where there are none.
+pub(crate) fn nodes_text(
+    alloc: Global,
+    definitions: &Definitions,
+    nodes: &[Node],
+) -> Result<Vec<u8>, LineEnd> {
     let mut text = Vec::new(alloc);
-    put_nodes(alloc, &mut text, &lists.definitions, kept.as_slice(), 0)?;
+    put_nodes(alloc, &mut text, definitions, nodes, 0)?;
     or_nothing(&mut text)?;
     Ok(text)
 }

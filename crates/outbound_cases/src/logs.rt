@@ -139,18 +139,18 @@ fn put_genesis(alloc: Global, bench: &Bench, text: &[u8], log: &mut Log) -> Resu
     };
     let text = taken_model(alloc, bench, name, log)?;
     log.system = Some(system);
-    log.records.push(Record::Genesis {
-        system: number,
-        text,
-    })?;
-    Ok(())
+    Ok(
+        log.records.push(Record::Genesis {
+            system: number,
+            text,
+        })?,
+    )
 }
 
 /// Adds a Model record with the model of a name.
 fn put_model(alloc: Global, bench: &Bench, name: &[u8], log: &mut Log) -> Result<(), LineEnd> {
     let text = taken_model(alloc, bench, name, log)?;
-    log.records.push(Record::Model { text })?;
-    Ok(())
+    Ok(log.records.push(Record::Model { text })?)
 }
 
 /// Adds the model of a name to those of a log, and gives its text.
@@ -169,7 +169,7 @@ fn taken_model(
 }
 
 /// The model of a text.
-fn model_of(alloc: Global, text: &[u8]) -> Result<Model, LineEnd> {
+pub(crate) fn model_of(alloc: Global, text: &[u8]) -> Result<Model, LineEnd> {
     match read(alloc, text) {
         Ok(model) => Ok(model),
         Err(ModelFault::OutOfMemory) => Err(LineEnd::OutOfMemory),
@@ -181,17 +181,24 @@ fn model_of(alloc: Global, text: &[u8]) -> Result<Model, LineEnd> {
 fn put_commit(alloc: Global, bench: &Bench, name: &[u8], log: &mut Log) -> Result<(), LineEnd> {
     let mut docs = Items::new(alloc);
     docs.push(master_named(bench, name)?)?;
-    log.records.push(Record::Commit { origin: None, docs })?;
-    Ok(())
+    put_committed(log, None, docs)
+}
+
+/// Adds a Commit of documents, and of the message for which they were gathered.
+fn put_committed(
+    log: &mut Log,
+    origin: Option<Items<u8>>,
+    docs: Items<RawUnitDoc>,
+) -> Result<(), LineEnd> {
+    Ok(log.records.push(Record::Commit { origin, docs })?)
 }
 
 /// Adds a Commit of masters that were gathered, as `MESSAGE NAME ..`.
 fn put_gather(alloc: Global, bench: &Bench, text: &[u8], log: &mut Log) -> Result<(), LineEnd> {
     let (message, names) = first_word(text);
+    let origin = Items::from_slice(alloc, message)?;
     let docs = masters_named(alloc, bench, names)?;
-    let origin = Some(Items::from_slice(alloc, message)?);
-    log.records.push(Record::Commit { origin, docs })?;
-    Ok(())
+    put_committed(log, Some(origin), docs)
 }
 
 /// Copies of the masters of names, in order.

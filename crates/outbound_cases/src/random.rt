@@ -10,7 +10,7 @@ use crate::bench::Bench;
 use crate::dice::Dice;
 use crate::groups::values_of;
 use crate::keeping::{document, kept_text, record_of};
-use crate::plain::plain_nodes;
+use crate::plain::{PlainNode, plain_nodes};
 use crate::rules::NOT_VALID;
 use crate::subsets::{MOST_NODES, plain_text};
 use ale_base::Items;
@@ -120,17 +120,55 @@ fn compare(
 ) -> Result<Option<Vec<u8>>, LineEnd>
     requires { AllNodes (IsNode lists.now.definitions) (forest_of forest.now) }
 {
-    let mut kept = kept_text(alloc, lists, ty, groups, forest)?;
-    let nodes = plain_nodes(alloc, &lists.definitions, forest)?;
-    let plain = plain_text(alloc, lists, ty, groups, nodes.as_slice())?;
-    let whole = plain_text(alloc, lists, ty, &[], nodes.as_slice())?;
-    if kept.as_slice() != plain.as_slice() {
-        kept.extend_from_slice(b"and not\n")?;
-        kept.extend_from_slice(plain.as_slice())?;
-        return Ok(Some(kept));
+    let plain = plain_texts(alloc, lists, ty, groups, forest)?;
+    let kept = kept_text(alloc, lists, ty, groups, forest)?;
+    if kept.as_slice() != plain.part.as_slice() {
+        return differing(alloc, kept.as_slice(), plain.part.as_slice());
     }
-    count_in(tally, kept.as_slice(), whole.as_slice());
+    count_in(tally, kept.as_slice(), plain.whole.as_slice());
     Ok(None)
+}
+
+/// What is found of a document by trying all sets.
+#[derive(Drop)]
+struct Plain {
+    /// What groups keep.
+    part: Vec<u8>,
+    /// What is kept where there are no groups: all of it.
+    whole: Vec<u8>,
+}
+
+/// What is found by trying all sets.
+fn plain_texts(
+    alloc: Global,
+    lists: &Lists,
+    ty: &IdocType,
+    groups: &[Group],
+    forest: &[Node],
+) -> Result<Plain, AllocError> {
+    let nodes = plain_nodes(alloc, &lists.definitions, forest)?;
+    plain_of(alloc, lists, ty, groups, nodes.as_slice())
+}
+
+/// The same of nodes in a plain list.
+fn plain_of(
+    alloc: Global,
+    lists: &Lists,
+    ty: &IdocType,
+    groups: &[Group],
+    nodes: &[PlainNode],
+) -> Result<Plain, AllocError> {
+    let part = plain_text(alloc, lists, ty, groups, nodes)?;
+    let whole = plain_text(alloc, lists, ty, &[], nodes)?;
+    Ok(Plain { part, whole })
+}
+
+/// Two texts that differ.
+fn differing(alloc: Global, kept: &[u8], plain: &[u8]) -> Result<Option<Vec<u8>>, LineEnd> {
+    let mut text = Vec::from_slice(alloc, kept)?;
+    text.extend_from_slice(b"and not\n")?;
+    text.extend_from_slice(plain)?;
+    Ok(Some(text))
 }
 
 /// Counts a document.

@@ -6,17 +6,17 @@ ghost use Rattle.idoc_tree.specs.Lines.{IsNode};
 ghost use Rattle.idoc_tree.specs.Nodes.{forest_of};
 
 use crate::bench::Bench;
-use crate::keeping::{document, put_nodes};
+use crate::keeping::{document, nodes_text, put_nodes};
+use crate::logs::model_of;
 use crate::rules::{NO_DOCUMENT, NO_RECORD, NO_SUCH_ITEM, NO_SUCH_NUMBER, NOT_VALID};
-use crate::text::{or_nothing, plain};
+use crate::text::{nothing, or_nothing, plain};
 use ale_base::{DocNum, NameFault, QueueName};
 use case_form::{Item, LineEnd, first_word, number_of};
 use dist_model::{Lists, Model, RowNo};
 use idoc_record::{Control, ControlField, Data, read_control};
 use idoc_tree::{Doc, Node};
-use model_text::{ModelFault, read};
 use outbound_build::{BuildFault, sent};
-use segment_defs::IdocType;
+use segment_defs::{Definitions, IdocType};
 use std::alloc::{AllocError, Global};
 use version_reduce::{convert_fields, reduce_message, remove_segments, to_release};
 
@@ -36,11 +36,10 @@ pub(crate) fn model(alloc: Global, item: &Item) -> Result<Vec<u8>, LineEnd> {
 pub(crate) fn leaves(alloc: Global, bench: &Bench, item: &Item) -> Result<Vec<u8>, LineEnd> {
     let (number, steps) = first_word(item.rest.as_slice());
     let row = u16::try_from(number_of(number)?).map_err(|_| NO_SUCH_NUMBER)?;
-    match read(alloc, bench.model.as_slice()) {
-        Err(ModelFault::OutOfMemory) => Err(LineEnd::OutOfMemory),
-        Err(_) => Err(NOT_VALID.into()),
-        Ok(model) => left(alloc, &model, RowNo(row), steps, bench.records.as_slice()),
-    }
+    let model = model_of(alloc, bench.model.as_slice())?;
+    let text = left(alloc, &model, RowNo(row), steps, bench.records.as_slice());
+    drop(model);
+    text
 }
 
 /// `control`: each line of the block is `FIELD TEXT`, a field of the control record of the master, in the order of the record.
@@ -74,11 +73,10 @@ pub(crate) fn sends(alloc: Global, bench: &Bench, item: &Item) -> Result<Vec<u8>
     let (row, number) = first_word(item.rest.as_slice());
     let row = u16::try_from(number_of(row)?).map_err(|_| NO_SUCH_NUMBER)?;
     let number = DocNum(u64::from(number_of(number)?));
-    match read(alloc, bench.model.as_slice()) {
-        Err(ModelFault::OutOfMemory) => Err(LineEnd::OutOfMemory),
-        Err(_) => Err(NOT_VALID.into()),
-        Ok(model) => sent_text(alloc, &model, RowNo(row), number, bench),
-    }
+    let model = model_of(alloc, bench.model.as_slice())?;
+    let text = sent_text(alloc, &model, RowNo(row), number, bench);
+    drop(model);
+    text
 }
 
 /// What is sent, as a text.
@@ -89,14 +87,29 @@ fn sent_text(
     number: DocNum,
     bench: &Bench,
 ) -> Result<Vec<u8>, LineEnd> {
-    let master = master_of_row(alloc, model.as_lists(), row, bench)?;
-    let made = sent(alloc, model, row, number, &master)?;
-    let mut text = Vec::new(alloc);
-    if let Some(doc) = &made {
-        put_control(&mut text, &doc.control)?;
-        let nodes = doc.forest.as_slice();
-        put_nodes(alloc, &mut text, &model.as_lists().definitions, nodes, 0)?;
+    match made_of_row(alloc, model, row, number, bench)? {
+        None => Ok(nothing(alloc)?),
+        Some(doc) => document_text(alloc, &model.as_lists().definitions, &doc),
     }
+}
+
+/// The document that a row sends.
+fn made_of_row(
+    alloc: Global,
+    model: &Model,
+    row: RowNo,
+    number: DocNum,
+    bench: &Bench,
+) -> Result<Option<Doc>, LineEnd> {
+    let master = master_of_row(alloc, model.as_lists(), row, bench)?;
+    Ok(sent(alloc, model, row, number, &master)?)
+}
+
+/// The fields of a document's control record that are not blank, and its nodes.
+fn document_text(alloc: Global, definitions: &Definitions, doc: &Doc) -> Result<Vec<u8>, LineEnd> {
+    let mut text = Vec::new(alloc);
+    put_control(&mut text, &doc.control)?;
+    put_nodes(alloc, &mut text, definitions, doc.forest.as_slice(), 0)?;
     or_nothing(&mut text)?;
     Ok(text)
 }
@@ -119,11 +132,10 @@ fn put_control(text: &mut Vec<u8>, control: &Control) -> Result<(), AllocError> 
 /// or why a rule makes no name: `too long`, `bad byte` or `no byte`.
 pub(crate) fn queues(alloc: Global, bench: &Bench, item: &Item) -> Result<Vec<u8>, LineEnd> {
     let row = u16::try_from(number_of(item.rest.as_slice())?).map_err(|_| NO_SUCH_NUMBER)?;
-    match read(alloc, bench.model.as_slice()) {
-        Err(ModelFault::OutOfMemory) => Err(LineEnd::OutOfMemory),
-        Err(_) => Err(NOT_VALID.into()),
-        Ok(model) => queues_text(alloc, &model, RowNo(row), bench),
-    }
+    let model = model_of(alloc, bench.model.as_slice())?;
+    let text = queues_text(alloc, &model, RowNo(row), bench);
+    drop(model);
+    text
 }
 
 /// The queues of a document, as a text.
@@ -134,19 +146,30 @@ fn queues_text(
     bench: &Bench,
 ) -> Result<Vec<u8>, LineEnd> {
     let master = master_of_row(alloc, model.as_lists(), row, bench)?;
-    let mut text = Vec::new(alloc);
     match outbound_build::queues(alloc, model, row, &master) {
-        Ok(lists) => {
-            put_queues(&mut text, b"out ", lists.outq.as_slice())?;
-            put_queues(&mut text, b"in ", lists.inq.as_slice())?;
-            or_nothing(&mut text)?;
-        }
-        Err(BuildFault::OutOfMemory) => return Err(LineEnd::OutOfMemory),
-        Err(BuildFault::Name(NameFault::TooLong)) => text.extend_from_slice(b"too long\n")?,
-        Err(BuildFault::Name(NameFault::BadByte(_))) => text.extend_from_slice(b"bad byte\n")?,
-        Err(BuildFault::Name(NameFault::Empty)) => text.extend_from_slice(b"no byte\n")?,
+        Ok(lists) => lists_text(alloc, lists.outq.as_slice(), lists.inq.as_slice()),
+        Err(BuildFault::OutOfMemory) => Err(LineEnd::OutOfMemory),
+        Err(BuildFault::Name(fault)) => name_fault_text(alloc, fault),
     }
+}
+
+/// The names of queues, as a text.
+fn lists_text(alloc: Global, outq: &[QueueName], inq: &[QueueName]) -> Result<Vec<u8>, LineEnd> {
+    let mut text = Vec::new(alloc);
+    put_queues(&mut text, b"out ", outq)?;
+    put_queues(&mut text, b"in ", inq)?;
+    or_nothing(&mut text)?;
     Ok(text)
+}
+
+/// Why a rule makes no name, as a text.
+fn name_fault_text(alloc: Global, fault: NameFault) -> Result<Vec<u8>, LineEnd> {
+    let text: &[u8] = match fault {
+        NameFault::TooLong => b"too long\n",
+        NameFault::BadByte(_) => b"bad byte\n",
+        NameFault::Empty => b"no byte\n",
+    };
+    Ok(Vec::from_slice(alloc, text)?)
 }
 
 /// Appends a line for each queue.
@@ -188,10 +211,7 @@ fn left(
     }
     let forest = forest_of_row(alloc, lists, row, records)?;
     let nodes = stepped(alloc, model, row, steps, forest)?;
-    let mut text = Vec::new(alloc);
-    put_nodes(alloc, &mut text, &lists.definitions, nodes.as_slice(), 0)?;
-    or_nothing(&mut text)?;
-    Ok(text)
+    nodes_text(alloc, &lists.definitions, nodes.as_slice())
 }
 
 /// The document that records make by the message type of a row.

@@ -19,9 +19,16 @@ impl Suite for Outbound {
 fn steps_of(alloc: Global, file: &str, bytes: &[u8]) -> Result<Items<Step>, CaseFault> {
     let items = read_items(alloc, file, bytes)?;
     let mut bench = Bench::new(alloc);
+    let steps = steps_on(alloc, &mut bench, items.as_slice());
+    drop(bench);
+    steps
+}
+
+/// The steps of items on a bench.
+fn steps_on(alloc: Global, bench: &mut Bench, items: &[Item]) -> Result<Items<Step>, CaseFault> {
     let mut steps = Items::new(alloc);
-    for item in &items {
-        put_step(alloc, &mut bench, item, &mut steps)?;
+    for item in items {
+        put_step(alloc, bench, item, &mut steps)?;
     }
     Ok(steps)
 }

@@ -53,3 +53,8 @@ pub(crate) fn or_nothing(text: &mut Vec<u8>) -> Result<(), AllocError> {
     }
     Ok(())
 }
+
+/// The text of no lines.
+pub(crate) fn nothing(alloc: Global) -> Result<Vec<u8>, AllocError> {
+    Vec::from_slice(alloc, b"nothing\n")
+}
