@@ -38,8 +38,13 @@ pub(crate) fn receivers(alloc: Global, model: &Model, words: &[u8]) -> Result<Ve
         return Err(LineEnd::from(NO_SUCH_NUMBER));
     };
     let rows = model.receivers(alloc, sender, MessageNo(message as u16))?;
+    Ok(rows_text(alloc, rows.as_slice())?)
+}
+
+/// The places of rows, in a line.
+fn rows_text(alloc: Global, rows: &[RowNo]) -> Result<Vec<u8>, AllocError> {
     let mut text = Vec::from_slice(alloc, b"rows")?;
-    for row in &rows {
+    for row in rows {
         put_number(alloc, &mut text, u32::from(row.0))?;
     }
     put_line(&mut text, b"")?;

@@ -33,24 +33,41 @@ pub(crate) fn answer(alloc: Global, text: &mut ModelText, item: &Item) -> Result
     let word = item.word.as_slice();
     let block = item.block.as_slice();
     if word == b"head".as_slice() {
-        let mut head = Vec::new(alloc);
-        put_block(alloc, &mut head, block)?;
-        text.head = head;
+        text.head = lines_of(alloc, &[], block)?;
         return Ok(Answer::Taken);
     }
     if word == b"model".as_slice() {
-        let mut whole = Vec::from_slice(alloc, text.head.as_slice())?;
-        put_block(alloc, &mut whole, block)?;
-        text.whole = whole;
+        text.whole = lines_of(alloc, text.head.as_slice(), block)?;
         return Ok(Answer::Taken);
     }
+    asked(alloc, text.whole.as_slice(), word, item.rest.as_slice())
+}
+
+/// Answers an item that asks something of a text.
+fn asked(alloc: Global, bytes: &[u8], word: &[u8], rest: &[u8]) -> Result<Answer, LineEnd> {
     if word == b"says".as_slice() {
-        return Ok(Answer::Text(reading(alloc, text.whole.as_slice())?));
+        return Ok(Answer::Text(reading(alloc, bytes)?));
     }
-    match read(alloc, text.whole.as_slice()) {
-        Err(fault) => Ok(Answer::Text(fault_told(alloc, &fault)?)),
-        Ok(model) => looked_up(alloc, &model, word, item.rest.as_slice()),
+    found(alloc, bytes, word, rest)
+}
+
+/// What is looked up in the model of a text, or the text's first fault.
+fn found(alloc: Global, bytes: &[u8], word: &[u8], rest: &[u8]) -> Result<Answer, LineEnd> {
+    match read(alloc, bytes) {
+        Ok(model) => {
+            let answer = looked_up(alloc, &model, word, rest);
+            drop(model);
+            answer
+        }
+        Err(fault) => Ok(Answer::Text(told_fault(alloc, fault)?)),
     }
+}
+
+/// First lines, and the lines of a block.
+fn lines_of(alloc: Global, head: &[u8], block: &[BlockLine]) -> Result<Vec<u8>, LineEnd> {
+    let mut text = Vec::from_slice(alloc, head)?;
+    put_block(alloc, &mut text, block)?;
+    Ok(text)
 }
 
 /// What is looked up in a model.
@@ -85,8 +102,12 @@ fn put_block(alloc: Global, text: &mut Vec<u8>, block: &[BlockLine]) -> Result<(
 /// `says`: the model of the text, or its first fault.
 fn reading(alloc: Global, bytes: &[u8]) -> Result<Vec<u8>, LineEnd> {
     match read(alloc, bytes) {
-        Ok(model) => Ok(model_told(alloc, model.as_lists())?),
-        Err(fault) => fault_told(alloc, &fault),
+        Ok(model) => {
+            let told = model_told(alloc, model.as_lists());
+            drop(model);
+            Ok(told?)
+        }
+        Err(fault) => told_fault(alloc, fault),
     }
 }
 
@@ -103,6 +124,13 @@ fn named(alloc: Global, model: &Model, name: &[u8]) -> Result<Vec<u8>, LineEnd> 
 }
 
 /// A fault and its path.
+fn told_fault(alloc: Global, fault: ModelFault) -> Result<Vec<u8>, LineEnd> {
+    let told = fault_told(alloc, &fault);
+    drop(fault);
+    told
+}
+
+/// The same of a fault that is lent.
 fn fault_told(alloc: Global, fault: &ModelFault) -> Result<Vec<u8>, LineEnd> {
     match fault {
         ModelFault::OutOfMemory => Err(LineEnd::OutOfMemory),

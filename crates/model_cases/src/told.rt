@@ -11,23 +11,32 @@ use std::alloc::{AllocError, Global};
 
 /// The lists of a model.
 pub(crate) fn model_told(alloc: Global, model: &Lists) -> Result<Vec<u8>, AllocError> {
-    let mut text = Vec::from_slice(alloc, b"releases")?;
-    for release in &model.releases {
-        put_word(&mut text, release.as_slice())?;
-    }
-    put_line(&mut text, b"")?;
+    let mut text = Vec::new(alloc);
+    put_model(alloc, &mut text, model)?;
+    Ok(text)
+}
+
+fn put_model(alloc: Global, text: &mut Vec<u8>, model: &Lists) -> Result<(), AllocError> {
+    put_releases(text, model)?;
     for system in &model.systems {
-        put_system(&mut text, system)?;
+        put_system(text, system)?;
     }
     for segment in &model.definitions.types {
-        put_segment(alloc, &mut text, segment)?;
+        put_segment(alloc, text, segment)?;
     }
     for idoc_type in &model.types {
-        put_idoc_type(alloc, &mut text, idoc_type)?;
+        put_idoc_type(alloc, text, idoc_type)?;
     }
-    put_subjects(alloc, &mut text, model)?;
-    put_traffic(alloc, &mut text, model)?;
-    Ok(text)
+    put_subjects(alloc, text, model)?;
+    put_traffic(alloc, text, model)
+}
+
+fn put_releases(text: &mut Vec<u8>, model: &Lists) -> Result<(), AllocError> {
+    text.extend_from_slice(b"releases")?;
+    for release in &model.releases {
+        put_word(text, release.as_slice())?;
+    }
+    put_line(text, b"")
 }
 
 /// What is sent.
