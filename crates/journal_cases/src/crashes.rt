@@ -131,19 +131,33 @@ fn put_log(
 fn log_of(alloc: Global, n: u8, image: Items<u8>) -> Result<Vec<u8>, OutOfMemory>
     requires { n < 16 }
 {
+    let mut vols = volumes_of(alloc, n, image)?;
+    match open(alloc, &mut vols, n) {
+        Ok((_, log)) => log_text(alloc, &log),
+        Err(_) => no_log(alloc),
+    }
+}
+
+/// Volumes of which one has these bytes, and the others have none.
+fn volumes_of(alloc: Global, n: u8, image: Items<u8>) -> Result<MemoryVolumes, OutOfMemory>
+    requires { n < 16 }
+{
     let mut held = array::from_fn(|_| Items::new(alloc));
     held[usize::from(n)] = image;
-    let mut vols = MemoryVolumes::with_contents(alloc, held)?;
-    let mut text = Vec::new(alloc);
-    match open(alloc, &mut vols, n) {
-        Ok((_, log)) => {
-            text.extend_from_slice(b" log")?;
-            for body in &log {
-                text.push(b' ')?;
-                text.extend_from_slice(body.as_slice())?;
-            }
-        }
-        Err(_) => text.extend_from_slice(b" no log")?,
+    MemoryVolumes::with_contents(alloc, held)
+}
+
+/// The bodies of a log, each behind a blank.
+fn log_text(alloc: Global, log: &Items<Items<u8>>) -> Result<Vec<u8>, OutOfMemory> {
+    let mut text = Vec::from_slice(alloc, b" log")?;
+    for body in log {
+        text.push(b' ')?;
+        text.extend_from_slice(body.as_slice())?;
     }
     Ok(text)
+}
+
+/// That there is no log.
+fn no_log(alloc: Global) -> Result<Vec<u8>, OutOfMemory> {
+    Ok(Vec::from_slice(alloc, b" no log")?)
 }

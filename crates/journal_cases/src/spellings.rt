@@ -3,10 +3,11 @@
 
 ghost use Rattle.std.specs.Prelude.{◌<◌, ◌≤◌};
 
+use crate::records::is_written_as;
 use crate::text::{line_of, number_word};
 use case_form::LineEnd;
 use std::alloc::{AllocError, Global};
-use unit_codec::{CodecFault, read_entry, write_entry};
+use unit_codec::{CodecFault, read_entry};
 
 /// Numbers that look like chance, and are the same for one seed.
 #[derive(Drop)]
@@ -48,14 +49,24 @@ pub(crate) fn random(alloc: Global, rest: &[u8]) -> Result<Vec<u8>, LineEnd> {
 
 /// Whether a spelling of an entry of this kind is read, and written again as it was.
 fn is_same_again(alloc: Global, dice: &mut Dice, kind: u8) -> Result<bool, LineEnd> {
-    let mut bytes = Vec::new(alloc);
-    put_moment(&mut bytes, dice)?;
-    put_record(alloc, &mut bytes, dice, kind)?;
+    let bytes = spelling(alloc, dice, kind)?;
     match read_entry(alloc, bytes.as_slice()) {
-        Ok(entry) => Ok(write_entry(alloc, entry.moment, &entry.what)? == bytes),
+        Ok(entry) => {
+            let same = is_written_as(alloc, &entry, bytes.as_slice());
+            drop(entry);
+            same
+        }
         Err(CodecFault::OutOfMemory) => Err(LineEnd::OutOfMemory),
         Err(CodecFault::Bad(_)) => Ok(false),
     }
+}
+
+/// A spelling of an entry of this kind.
+fn spelling(alloc: Global, dice: &mut Dice, kind: u8) -> Result<Vec<u8>, AllocError> {
+    let mut bytes = Vec::new(alloc);
+    put_moment(&mut bytes, dice)?;
+    put_record(alloc, &mut bytes, dice, kind)?;
+    Ok(bytes)
 }
 
 /// A moment, or none.

@@ -24,14 +24,26 @@ fn steps_of(alloc: Global, file: &str, bytes: &[u8]) -> Result<Items<Step>, Case
     let mut vols = MemoryVolumes::new(alloc);
     let mut steps = Items::new(alloc);
     for item in &items {
-        if item.word.as_slice() == b"disk".as_slice() {
-            vols = disk_of(alloc, item)?;
-        } else {
-            let found = found_by(alloc, &mut vols, item).map_err(|end| end.at(item.line))?;
-            steps.push(Step::of(alloc, item, found)?)?;
-        }
+        put_step(alloc, &mut vols, item, &mut steps)?;
     }
     Ok(steps)
+}
+
+/// Makes the disk of an item that gives one, and else adds the item's step.
+fn put_step(
+    alloc: Global,
+    vols: &mut MemoryVolumes,
+    item: &Item,
+    steps: &mut Items<Step>,
+) -> Result<(), CaseFault> {
+    if item.word.as_slice() == b"disk".as_slice() {
+        *vols = disk_of(alloc, item)?;
+        return Ok(());
+    }
+    match found_by(alloc, vols, item) {
+        Ok(found) => Ok(steps.push(Step::of(alloc, item, found)?)?),
+        Err(end) => Err(end.at(item.line)),
+    }
 }
 
 /// What an item finds.

@@ -5,9 +5,9 @@ ghost use Rattle.std.specs.Prelude.{◌<◌};
 use crate::answer::Answer;
 use crate::rules::{NO_SUCH_MOMENT, PAST_THE_END};
 use crate::text::{line_of, number_word, plain, put_shown, shown, volume_word};
-use ale_volumes::{MemoryVolumes, Volumes};
+use ale_volumes::{MemoryVolumes, Volume, Volumes};
 use case_form::{LineEnd, meaning_of};
-use std::alloc::Global;
+use std::alloc::{AllocError, Global};
 
 /// What an item on volumes is about.
 #[derive(Clone, Copy)]
@@ -136,14 +136,25 @@ fn known(alloc: Global, vols: &MemoryVolumes, n: u8, rest: &[u8]) -> Result<Vec<
         return Err(NO_SUCH_MOMENT.into());
     }
     let volume = vols.volume_at(u64::from(moment), n)?;
-    let mut text = Vec::from_slice(alloc, b"holds ")?;
+    known_text(alloc, &volume)
+}
+
+/// What was known of a volume, as a text.
+fn known_text(alloc: Global, volume: &Volume) -> Result<Vec<u8>, LineEnd> {
+    let mut text = Vec::new(alloc);
+    put_known(alloc, &mut text, volume)?;
+    Ok(text)
+}
+
+/// Appends what was known of a volume.
+fn put_known(alloc: Global, text: &mut Vec<u8>, volume: &Volume) -> Result<(), AllocError> {
+    text.extend_from_slice(b"holds ")?;
     text.extend_from_slice(volume.contents.as_slice())?;
     text.extend_from_slice(b"\nsynced ")?;
     text.extend_from_slice(volume.synced.as_slice())?;
     text.push(b'\n')?;
     for length in &volume.lengths {
-        put_shown(alloc, &mut text, "length", length)?;
+        put_shown(alloc, text, "length", length)?;
     }
-    put_shown(alloc, &mut text, "writes", &volume.writes.len())?;
-    Ok(text)
+    put_shown(alloc, text, "writes", &volume.writes.len())
 }
