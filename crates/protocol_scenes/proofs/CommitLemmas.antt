@@ -58,6 +58,17 @@ next_commits world system unit docs here same fits may = record {
   commits = one_more (list_of world.rules.units system) (log_of world system) (Commit None docs) unit refl here;
 }
 
+-- the same of a copy of the unit, and of a record that is made anew
+pub copies_commit : (world : World ListedRules) (system : ℕ) (unit copy : AleUnit) (tried next : Record)
+    → IsNextUnit world system unit → copy ≡ unit → IsUnit unit
+    → tried ≡ Commit None unit.docs → may_keep (listed_meaning world.rules.units) world system tried ≡ true
+    → next ≡ Commit None copy.docs → IsNextCommit world system copy next
+copies_commit world system unit copy tried next here same fits is_tried may is_next =
+    let possible = subst (λ (r : Record). may_keep (listed_meaning world.rules.units) world system r ≡ true) is_tried may in
+    let first = next_commits world system unit unit.docs here refl fits possible in
+    let second = subst (λ (u : AleUnit). IsNextCommit world system u (Commit None u.docs)) (sym same) first in
+    subst (IsNextCommit world system copy) (sym is_next) second
+
 -- a copy of documents is these documents
 pub same_docs : (docs copies : List RawUnitDoc) → AllZip (λ doc copy. copy ≡ doc) docs copies → copies ≡ docs
 same_docs [] [] all = refl

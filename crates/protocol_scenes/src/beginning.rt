@@ -1,6 +1,6 @@
 //! The landscape of the units that a case lists, over volumes in memory, each system with its Genesis.
 
-ghost use Rattle.std.specs.Prelude.{◌≡◌, [], IsTrue, IfSome};
+ghost use Rattle.std.specs.Prelude.{◌≡◌, [], IsTrue, IfOk, IfSome};
 ghost use Rattle.trfc_protocol.specs.ListedRules.{listed_meaning};
 ghost use Rattle.unit_landscape.specs.Kept.{CommitWritable};
 ghost use Rattle.landscape_opening.specs.Opening.{begun_world};
@@ -27,15 +27,28 @@ type Kept = KeptWorld<ListedRules, NoApplication, MemoryVolumes>;
 
 /// The landscape of the units that these items list. Where they say so, calls on its volumes fail.
 pub(crate) fn landscape_of(alloc: Global, items: &[Item]) -> Result<Landscape, CaseFault> {
-    let vols = MemoryVolumes::new(alloc);
-    let first = first_landscape(alloc, items, vols)?;
+    let rules = rules_of(alloc, items)?;
+    let vols = volumes_of(alloc, items)?;
+    begun_landscape(alloc, rules, vols)
+}
+
+/// Empty volumes. Where the items say so, calls on them fail.
+fn volumes_of(alloc: Global, items: &[Item]) -> Result<MemoryVolumes, CaseFault> {
     let numbers = failing_calls(alloc, items)?;
     if numbers.is_empty() {
-        return Ok(first);
+        return Ok(MemoryVolumes::new(alloc));
     }
-    let made = first.into_volumes().calls().made;
-    let vols = failing_volumes(alloc, made, numbers.as_slice())?;
-    first_landscape(alloc, items, vols)
+    let made = calls_of_beginning(alloc, items)?;
+    Ok(failing_volumes(alloc, made, numbers.as_slice())?)
+}
+
+/// How many calls on volumes the beginning makes.
+fn calls_of_beginning(alloc: Global, items: &[Item]) -> Result<u64, CaseFault> {
+    let rules = rules_of(alloc, items)?;
+    match begun_landscape(alloc, rules, MemoryVolumes::new(alloc)) {
+        Ok(first) => Ok(first.into_volumes().calls().made),
+        Err(fault) => Err(fault),
+    }
 }
 
 /// The numbers of the calls on a volume that fail, counted from 1 behind the beginning.
@@ -74,22 +87,17 @@ fn no_contents(alloc: Global) -> [Items<u8>; 16] {
     array::from_fn(|_| Items::new(alloc))
 }
 
-/// The landscape of listed units over empty volumes.
-fn first_landscape(
-    alloc: Global,
-    items: &[Item],
-    vols: MemoryVolumes,
-) -> Result<Landscape, CaseFault> {
+/// The rules of listed units, all of which can be written.
+fn rules_of(alloc: Global, items: &[Item]) -> Result<ListedRules, CaseFault>
+    ensures { IfOk result (λ rules. CommitWritable (listed_meaning rules.units)) }
+{
     let Some(rules) = ListedRules::of(lists_of(alloc, items)?) else {
         return Err(LineEnd::Broken(rules::REFUSED).at(1));
     };
     if !is_writable(&rules) {
         return Err(LineEnd::Broken(rules::NOT_WRITABLE).at(1));
     }
-    match begun_landscape(alloc, rules, vols) {
-        Some(landscape) => Ok(landscape),
-        None => Err(CaseFault::OutOfMemory),
-    }
+    Ok(rules)
 }
 
 /// Whether all that rules commit can be written.
@@ -99,8 +107,22 @@ fn is_writable(rules: &ListedRules) -> bool
     are_writable_lists(rules.units.as_slice())
 }
 
+/// The landscape that begins.
+fn begun_landscape(
+    alloc: Global,
+    rules: ListedRules,
+    vols: MemoryVolumes,
+) -> Result<Landscape, CaseFault>
+    requires { CommitWritable (listed_meaning rules.units) }
+{
+    match begun_or_none(alloc, rules, vols) {
+        Some(landscape) => Ok(landscape),
+        None => Err(CaseFault::OutOfMemory),
+    }
+}
+
 /// The landscape that begins. None where memory runs out, or a call on a volume fails.
-fn begun_landscape(alloc: Global, rules: ListedRules, vols: MemoryVolumes) -> Option<Landscape>
+fn begun_or_none(alloc: Global, rules: ListedRules, vols: MemoryVolumes) -> Option<Landscape>
     requires { CommitWritable (listed_meaning rules.units) }
 {
     let systems = rules.systems();
@@ -131,11 +153,17 @@ fn begin_all(alloc: Global, kept: Kept, systems: u8) -> Option<Landscape>
 {
     let mut kept = kept;
     for number in 0..systems {
-        let system = SystemNo::of(number + 1)?;
+        let Some(system) = SystemNo::of(number + 1) else {
+            drop(kept);
+            return None;
+        };
         let text = Items::new(alloc);
         match begin(&mut kept, system, text, ()) {
             Ok(()) => {}
-            Err(_) => return None,
+            Err(_) => {
+                drop(kept);
+                return None;
+            }
         }
     }
     Some(begun(alloc, kept))

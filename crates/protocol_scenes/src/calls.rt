@@ -1,7 +1,6 @@
 //! A scene of calls on a landscape, beside the protocol: after each call its world is compared with that of the event which the call
 //! is.
 
-mod deeds;
 mod handed;
 mod late;
 mod operating;
@@ -12,15 +11,15 @@ use crate::beginning::{Landscape, landscape_of};
 use crate::law::logs_of;
 use crate::listing::{lengths_of, put_world};
 use crate::rules;
-use crate::scene::first_world;
+use crate::scene::{first_world, whole};
 use crate::text::Text;
 use crate::units::{Lists, lists_of};
 use crate::words::{ItemWord, Words, meaning_of};
-use ale_base::{Items, OutOfMemory, SystemNo};
+use ale_base::{Items, SystemNo};
 use case_form::{CaseFault, Item, LineEnd, Step};
-use deeds::Deed;
 use std::alloc::Global;
-use trfc_protocol::{Event, ListedRules, World, run_events};
+use trfc_protocol::{Action, Event, run_events};
+use unit_core::Record;
 use unit_landscape::{InClaim, OutClaim, Receipt};
 
 /// The word that begins a call.
@@ -81,24 +80,48 @@ struct Caller {
 pub(crate) fn steps_of_calls(alloc: Global, items: &[Item]) -> Result<Items<Step>, CaseFault> {
     let lists = lists_of(alloc, items)?;
     let landscape = landscape_of(alloc, items)?;
-    let mut caller = Caller {
-        alloc,
-        landscape,
-        outs: Vec::new(alloc),
-        ins: Vec::new(alloc),
-        receipts: Vec::new(alloc),
-        events: Vec::new(alloc),
-    };
-    let mut steps = Items::new(alloc);
-    for item in items {
-        if let Some(found) = caller.look(&lists, items, item)? {
-            steps.push(Step::of(alloc, item, found.into_bytes())?)?;
-        }
-    }
-    Ok(steps)
+    let mut caller = Caller::of(alloc, landscape);
+    let steps = caller.steps(&lists, items);
+    drop(caller);
+    steps
 }
 
 impl Caller {
+    /// A landscape that was not called yet.
+    fn of(alloc: Global, landscape: Landscape) -> Caller {
+        Caller {
+            alloc,
+            landscape,
+            outs: Vec::new(alloc),
+            ins: Vec::new(alloc),
+            receipts: Vec::new(alloc),
+            events: Vec::new(alloc),
+        }
+    }
+
+    /// The steps of all items.
+    fn steps(&mut self, lists: &Lists, items: &[Item]) -> Result<Items<Step>, CaseFault> {
+        let mut steps = Items::new(self.alloc);
+        for item in items {
+            self.put_step(lists, items, item, &mut steps)?;
+        }
+        Ok(steps)
+    }
+
+    /// Adds the step of an item, where it is one.
+    fn put_step(
+        &mut self,
+        lists: &Lists,
+        items: &[Item],
+        item: &Item,
+        steps: &mut Items<Step>,
+    ) -> Result<(), CaseFault> {
+        match self.look(lists, items, item)? {
+            Some(found) => Ok(steps.push(Step::of(self.alloc, item, found.into_bytes())?)?),
+            None => Ok(()),
+        }
+    }
+
     /// What is found at an item. None where it is no step.
     fn look(
         &mut self,
@@ -123,19 +146,26 @@ impl Caller {
 
     /// What is found at a call: its answer, the records that joined the logs, the claims, and whether the protocol has another world.
     fn call(&mut self, lists: &Lists, items: &[Item], item: &Item) -> Result<Text, CaseFault> {
-        let lengths = lengths_of(self.alloc, self.landscape.world())?;
         let mut found = Text::new(self.alloc);
-        self.play(item, &mut found)?;
-        put_world(
-            &mut found,
-            lists,
-            lengths.as_slice(),
-            self.landscape.world(),
-        )?;
+        self.put_call(lists, items, item, &mut found)?;
+        Ok(found)
+    }
+
+    /// Puts what is found at a call.
+    fn put_call(
+        &mut self,
+        lists: &Lists,
+        items: &[Item],
+        item: &Item,
+        found: &mut Text,
+    ) -> Result<(), CaseFault> {
+        let lengths = lengths_of(self.alloc, self.landscape.world())?;
+        self.play(item, found)?;
+        put_world(found, lists, lengths.as_slice(), self.landscape.world())?;
         if self.differs(lists, items)? {
             found.put_line(b"differs from the protocol")?;
         }
-        Ok(found)
+        Ok(())
     }
 
     /// Makes the call of an item, puts its answer, and notes the event that it was.
@@ -152,18 +182,12 @@ impl Caller {
         let Some(word) = meaning_of(&CallWord::WORDS, words.word()) else {
             return Err(rules::BAD_CALL.into());
         };
-        let deed = self.make(word, &mut words, found)?;
-        self.note(deed)?;
-        Ok(words.end()?)
+        self.make(word, &mut words, found)?;
+        words.end()
     }
 
-    /// Makes the call of a word.
-    fn make(
-        &mut self,
-        word: CallWord,
-        words: &mut Words,
-        found: &mut Text,
-    ) -> Result<Deed, LineEnd> {
+    /// Makes the call of a word, and notes the event that it was.
+    fn make(&mut self, word: CallWord, words: &mut Words, found: &mut Text) -> Result<(), LineEnd> {
         match word {
             CallWord::Commit => self.commit(words, found),
             CallWord::Claim => self.claim(words, found),
@@ -183,45 +207,52 @@ impl Caller {
         }
     }
 
-    /// Notes the event that a call was.
-    fn note(&mut self, deed: Deed) -> Result<(), OutOfMemory> {
-        match deed {
-            Deed::Nothing => Ok(()),
-            Deed::Happens(event) => Ok(self.events.push(event)?),
-            Deed::Both(event, next) => {
-                self.events.push(event)?;
-                Ok(self.events.push(next)?)
-            }
-            Deed::Falls(system) => self.note_fall(system),
-            Deed::FallsBehind(event, system) => {
-                self.events.push(event)?;
-                self.note_fall(system)
-            }
-        }
+    /// Notes that this event happened.
+    fn note(&mut self, event: Event) -> Result<(), LineEnd> {
+        Ok(self.events.push(event)?)
+    }
+
+    /// Notes that this record of an operator was appended.
+    fn note_operator(&mut self, system: SystemNo, next: Record) -> Result<(), LineEnd> {
+        self.note(Event::Operator {
+            action: Action::Append(system, next),
+        })
     }
 
     /// Notes the fall of a system, with the record that it may find.
-    fn note_fall(&mut self, system: SystemNo) -> Result<(), OutOfMemory> {
-        let kept = match self.landscape.world().rest(system) {
-            Some(rest) => Some(rest.copied()?),
-            None => None,
-        };
-        Ok(self.events.push(Event::Fall { system, kept })?)
+    fn note_fall(&mut self, system: SystemNo) -> Result<(), LineEnd> {
+        let kept = self.rest_of(system)?;
+        self.note(Event::Fall { system, kept })
+    }
+
+    /// A copy of the record that a system may find at its opening.
+    fn rest_of(&self, system: SystemNo) -> Result<Option<Record>, LineEnd> {
+        match self.landscape.world().rest(system) {
+            Some(rest) => Ok(Some(rest.copied()?)),
+            None => Ok(None),
+        }
+    }
+
+    /// Notes the fall of a system that is down, where it was up before.
+    fn note_down(&mut self, was_up: bool, system: SystemNo) -> Result<(), LineEnd> {
+        if was_up {
+            self.note_fall(system)
+        } else {
+            Ok(())
+        }
     }
 
     /// Whether the protocol, to which the same events happened, has another world.
     fn differs(&self, lists: &Lists, items: &[Item]) -> Result<bool, CaseFault> {
+        let theirs = self.protocol_text(lists, items)?.into_bytes();
+        let ours = whole(self.alloc, lists, self.landscape.world())?.into_bytes();
+        Ok(ours.as_slice() != theirs.as_slice())
+    }
+
+    /// All that the protocol's world holds, to which the same events happened.
+    fn protocol_text(&self, lists: &Lists, items: &[Item]) -> Result<Text, CaseFault> {
         let world = first_world(self.alloc, items)?;
         let world = run_events(self.alloc, world, self.events.as_slice())?;
-        let ours = whole(self.alloc, lists, self.landscape.world())?;
-        let theirs = whole(self.alloc, lists, &world)?;
-        Ok(ours.into_bytes().as_slice() != theirs.into_bytes().as_slice())
+        whole(self.alloc, lists, &world)
     }
-}
-
-/// All that a world holds: its logs, its claims, and which systems are down.
-fn whole(alloc: Global, lists: &Lists, world: &World<ListedRules>) -> Result<Text, OutOfMemory> {
-    let mut text = Text::new(alloc);
-    put_world(&mut text, lists, &[], world)?;
-    Ok(text)
 }

@@ -1,7 +1,8 @@
 //! The next commit of a system in a landscape of listed units.
 
-ghost use Rattle.std.specs.Prelude.{◌≡◌, IfOk, IfSome, slice_get};
+ghost use Rattle.std.specs.Prelude.{◌≡◌, None, IfOk, IfSome, slice_get};
 ghost use Rattle.std.specs.Option.{option_copied};
+ghost use Rattle.unit_core.specs.declared.records.Record.TheVariants.{Commit};
 ghost use Rattle.trfc_protocol.specs.ListedRules.{is_commit_record, commits_of, list_of};
 ghost use Rattle.trfc_protocol.specs.Worlds.{log_of};
 ghost use Rattle.protocol_scenes.specs.Worlds.{IsSafeWorld};
@@ -30,19 +31,29 @@ pub(crate) fn next_commit(
     requires { IsSafeWorld world.now }
     ensures { IfOk result (λ found. IfSome found (λ commit. IsNextCommit world.now system commit.unit commit.next)) }
 {
-    let unit = match next_unit(world, system) {
-        Some(unit) => unit.clone()?,
-        None => return Ok(None),
+    let Some(unit) = next_unit(world, system) else {
+        return Ok(None);
     };
-    if !is_writable(&unit) {
+    if !is_writable(unit) {
         return Ok(None);
     }
-    let docs = unit.docs.clone()?;
-    let next = Record::Commit { origin: None, docs };
-    if !world.may_keep(alloc, system, &next)? {
+    let next = commit_of(unit)?;
+    let may = world.may_keep(alloc, system, &next);
+    drop(next);
+    if !may? {
         return Ok(None);
     }
+    let unit = unit.clone()?;
+    let next = commit_of(&unit)?;
     Ok(Some(NextCommit { unit, next }))
+}
+
+/// The record that commits a unit, by its documents.
+fn commit_of(unit: &AleUnit) -> Result<Record, OutOfMemory>
+    ensures { IfOk result (λ next. next ≡ Commit None unit.now.docs) }
+{
+    let docs = unit.docs.clone()?;
+    Ok(Record::Commit { origin: None, docs })
 }
 
 /// The unit that the next commit of a system commits.

@@ -1,9 +1,10 @@
 //! The calls of a landscape that have a condition: it is tested, and where it does not hold nothing is called.
 
-ghost use Rattle.std.specs.Prelude.{◌≡◌, IfOk};
+ghost use Rattle.std.specs.Prelude.{◌≡◌, Some, IfOk};
 ghost use Rattle.unit_core.specs.Filters.{done_in, forgotten_in};
 ghost use Rattle.unit_core.specs.Queues.{is_listed};
 ghost use Rattle.trfc_protocol.specs.ListedRules.{listed_meaning};
+ghost use Rattle.trfc_protocol.specs.Worlds.{committed_unit};
 ghost use Rattle.unit_landscape.specs.Calls.{is_offered_function};
 ghost use Rattle.protocol_scenes.specs.Worlds.{IsSafeWorld};
 
@@ -13,7 +14,7 @@ use ale_base::{OutOfMemory, SystemNo, Tid};
 use kept_world::AppendEnd;
 use std::alloc::Global;
 use trfc_protocol::{HeldKind, ListedRules, World};
-use unit_core::{Record, done_in, forgotten_in, is_listed};
+use unit_core::{AleUnit, Record, done_in, forgotten_in, is_listed};
 use unit_landscape::{
     Arrival, Closed, Confirmed, Finished, InClaim, Late, LateEnd, OutClaim, Replied, Reply, WorkEnd,
 };
@@ -37,15 +38,29 @@ pub(crate) fn arrive(
     landscape: &mut Landscape,
     tid: Tid,
 ) -> Result<Option<Arrival>, OutOfMemory> {
-    let world = world_of(landscape);
-    let Some(unit) = world.committed_unit(alloc, tid)? else {
+    let Some(unit) = world_of(landscape).committed_unit(alloc, tid)? else {
         return Ok(None);
     };
-    if unit.tid != tid || !world.may_arrive(alloc, &unit)? {
+    let arrival = arrive_as(alloc, landscape, tid, &unit);
+    drop(unit);
+    arrival
+}
+
+/// The same of the unit that was committed under an id.
+fn arrive_as(
+    alloc: Global,
+    landscape: &mut Landscape,
+    tid: Tid,
+    unit: &AleUnit,
+) -> Result<Option<Arrival>, OutOfMemory>
+    requires { committed_unit (listed_meaning landscape.old.world.rules.units) landscape.old.world tid ≡ Some unit.now }
+{
+    let world = world_of(landscape);
+    if unit.tid != tid || !world.may_arrive(alloc, unit)? {
         return Ok(None);
     }
-    let offered = world.offers(alloc, unit.receiver, &unit)?;
-    Ok(Some(landscape.arrive(&unit, offered)?))
+    let offered = world.offers(alloc, unit.receiver, unit)?;
+    Ok(Some(landscape.arrive(unit, offered)?))
 }
 
 /// The reply to a shipment comes to its claim.

@@ -3,7 +3,8 @@
 use crate::records::read_record;
 use crate::rules;
 use crate::units::Lists;
-use crate::words::{Words, meaning_of};
+use crate::words::{Words, last_number, last_tid, meaning_of};
+use ale_base::Tid;
 use case_form::LineEnd;
 use std::alloc::Global;
 use trfc_protocol::{Action, CoreAnswer, Event, ReplyTo};
@@ -51,34 +52,37 @@ pub(crate) fn read_event(alloc: Global, lists: &Lists, line: &[u8]) -> Result<Ev
         Some(EventWord::Commit) => read_commit(alloc, lists, words),
         Some(EventWord::Operate) => read_operation(alloc, lists, words),
         Some(EventWord::Fall) => read_fall(alloc, lists, words),
-        Some(word) => {
-            let event = read_short(word, &mut words)?;
-            words.end()?;
-            Ok(event)
-        }
+        Some(word) => read_short(word, words),
         None => Err(rules::BAD_EVENT.into()),
     }
 }
 
-/// An event that has no record.
-fn read_short(word: EventWord, words: &mut Words) -> Result<Event, LineEnd> {
+/// An event that has no record, and ends the line.
+fn read_short(word: EventWord, words: Words) -> Result<Event, LineEnd> {
     match word {
         EventWord::Finish | EventWord::Fail => read_of_claim(word, words),
         EventWord::Reply => read_reply(words),
         EventWord::Lose => read_loss(words),
-        EventWord::Revoke => Ok(Event::Operator {
-            action: Action::Revoke,
-        }),
+        EventWord::Revoke => read_revocation(words),
         EventWord::Open => read_opening(words),
         _ => read_of_unit(word, words),
     }
 }
 
-fn read_opening(words: &mut Words) -> Result<Event, LineEnd> {
-    match words.system() {
-        Some(system) => Ok(Event::Open { system }),
-        None => Err(rules::NO_SYSTEM.into()),
-    }
+fn read_revocation(words: Words) -> Result<Event, LineEnd> {
+    words.end()?;
+    Ok(Event::Operator {
+        action: Action::Revoke,
+    })
+}
+
+fn read_opening(words: Words) -> Result<Event, LineEnd> {
+    let mut words = words;
+    let Some(system) = words.system() else {
+        return Err(rules::NO_SYSTEM.into());
+    };
+    words.end()?;
+    Ok(Event::Open { system })
 }
 
 fn read_commit(alloc: Global, lists: &Lists, words: Words) -> Result<Event, LineEnd> {
@@ -112,20 +116,24 @@ fn read_fall(alloc: Global, lists: &Lists, words: Words) -> Result<Event, LineEn
     Ok(Event::Fall { system, kept })
 }
 
-fn read_of_unit(word: EventWord, words: &mut Words) -> Result<Event, LineEnd> {
-    let Some(tid) = words.tid() else {
-        return Err(rules::NO_TID.into());
-    };
-    Ok(match word {
+fn read_of_unit(word: EventWord, words: Words) -> Result<Event, LineEnd> {
+    match last_tid(words) {
+        Ok(tid) => Ok(event_of_unit(word, tid)),
+        Err(end) => Err(end),
+    }
+}
+
+fn event_of_unit(word: EventWord, tid: Tid) -> Event {
+    match word {
         EventWord::Claim => Event::Claim { tid },
         EventWord::Arrive => Event::Arrive { tid },
         EventWord::Run => Event::Run { tid },
         _ => Event::Confirm { tid },
-    })
+    }
 }
 
-fn read_of_claim(word: EventWord, words: &mut Words) -> Result<Event, LineEnd> {
-    let number = words.number()?;
+fn read_of_claim(word: EventWord, words: Words) -> Result<Event, LineEnd> {
+    let number = last_number(words)?;
     Ok(match word {
         EventWord::Finish => Event::Finish { number },
         _ => Event::Fail { number },
@@ -139,7 +147,8 @@ const ANSWERS: [(&'static [u8], CoreAnswer); 3] = [
 ];
 
 /// A reply: `forgotten TID`, or what is replied to the claim of a number, as `done 3`.
-fn read_reply(words: &mut Words) -> Result<Event, LineEnd> {
+fn read_reply(words: Words) -> Result<Event, LineEnd> {
+    let mut words = words;
     let word = words.word();
     if word == b"forgotten".as_slice() {
         return read_forgotten(words);
@@ -147,16 +156,23 @@ fn read_reply(words: &mut Words) -> Result<Event, LineEnd> {
     let Some(answer) = meaning_of(&ANSWERS, word) else {
         return Err(rules::BAD_EVENT.into());
     };
-    let to = ReplyTo::Claim(words.number()?, answer);
-    Ok(Event::Reply { to })
+    let number = last_number(words)?;
+    Ok(Event::Reply {
+        to: ReplyTo::Claim(number, answer),
+    })
 }
 
-fn read_forgotten(words: &mut Words) -> Result<Event, LineEnd> {
-    match words.tid() {
-        Some(tid) => Ok(Event::Reply {
-            to: ReplyTo::Forgotten(tid),
-        }),
-        None => Err(rules::NO_TID.into()),
+/// The event of the news that a unit's id is forgotten.
+pub(crate) fn forgotten(tid: Tid) -> Event {
+    Event::Reply {
+        to: ReplyTo::Forgotten(tid),
+    }
+}
+
+fn read_forgotten(words: Words) -> Result<Event, LineEnd> {
+    match last_tid(words) {
+        Ok(tid) => Ok(forgotten(tid)),
+        Err(end) => Err(end),
     }
 }
 
@@ -174,22 +190,29 @@ const MESSAGES: [(&'static [u8], Message); 3] = [
     (b"confirmation", Message::Confirmation),
 ];
 
-fn read_loss(words: &mut Words) -> Result<Event, LineEnd> {
+fn read_loss(words: Words) -> Result<Event, LineEnd> {
+    let mut words = words;
     match meaning_of(&MESSAGES, words.word()) {
-        Some(Message::Request) => Ok(Event::LoseRequest {
-            number: words.number()?,
-        }),
-        Some(Message::Reply) => Ok(Event::LoseReply {
-            number: words.number()?,
-        }),
+        Some(Message::Request) => read_lost_request(words),
+        Some(Message::Reply) => read_lost_reply(words),
         Some(Message::Confirmation) => read_lost_confirmation(words),
         None => Err(rules::BAD_EVENT.into()),
     }
 }
 
-fn read_lost_confirmation(words: &mut Words) -> Result<Event, LineEnd> {
-    match words.tid() {
-        Some(tid) => Ok(Event::LoseConfirm { tid }),
-        None => Err(rules::NO_TID.into()),
+fn read_lost_request(words: Words) -> Result<Event, LineEnd> {
+    let number = last_number(words)?;
+    Ok(Event::LoseRequest { number })
+}
+
+fn read_lost_reply(words: Words) -> Result<Event, LineEnd> {
+    let number = last_number(words)?;
+    Ok(Event::LoseReply { number })
+}
+
+fn read_lost_confirmation(words: Words) -> Result<Event, LineEnd> {
+    match last_tid(words) {
+        Ok(tid) => Ok(Event::LoseConfirm { tid }),
+        Err(end) => Err(end),
     }
 }

@@ -1,7 +1,8 @@
 //! Falls and openings of a walk, and the records that a system may be writing as it falls.
 
+use crate::records::{accept, commit, direct};
 use crate::walks::Dice;
-use ale_base::{Items, Mark, OutOfMemory, SystemNo};
+use ale_base::{Mark, OutOfMemory, SystemNo};
 use std::alloc::Global;
 use trfc_protocol::Event;
 use unit_core::{AleUnit, Record};
@@ -34,15 +35,19 @@ fn fall_writing(
     is_sender: bool,
     dice: &mut Dice,
 ) -> Result<Event, OutOfMemory> {
-    let record = if is_sender {
-        written_by_sender(alloc, unit, dice)
-    } else {
-        written_by_receiver(unit, dice)?
-    };
-    Ok(Event::Fall {
+    if is_sender {
+        return Ok(fall_with(system, written_by_sender(alloc, unit, dice)));
+    }
+    let record = written_by_receiver(unit, dice)?;
+    Ok(fall_with(system, record))
+}
+
+/// A fall with the record that the system may find.
+fn fall_with(system: SystemNo, record: Record) -> Event {
+    Event::Fall {
         system,
         kept: Some(record),
-    })
+    }
 }
 
 /// A record that the sender of a unit writes.
@@ -59,25 +64,18 @@ fn written_by_sender(alloc: Global, unit: &AleUnit, dice: &mut Dice) -> Record {
             tid,
             cause: Mark::Sysfail,
         },
-        _ => Record::Commit {
-            origin: None,
-            docs: Items::new(alloc),
-        },
+        _ => commit(alloc, None),
     }
 }
 
 /// A record that the receiver of a unit writes.
 fn written_by_receiver(unit: &AleUnit, dice: &mut Dice) -> Result<Record, OutOfMemory> {
     let tid = unit.tid;
-    Ok(match dice.below(5) {
-        0 => Record::Accept {
-            unit: unit.clone()?,
-        },
-        1 => Record::Direct {
-            unit: unit.clone()?,
-        },
-        2 => Record::Execute { tid },
-        3 => Record::Fail { tid },
-        _ => Record::Forget { tid },
-    })
+    match dice.below(5) {
+        0 => accept(unit),
+        1 => direct(unit),
+        2 => Ok(Record::Execute { tid }),
+        3 => Ok(Record::Fail { tid }),
+        _ => Ok(Record::Forget { tid }),
+    }
 }

@@ -133,7 +133,9 @@ impl Given {
             return Err(rules::NO_SYSTEM.into());
         }
         let record = read_record(self.alloc, &self.lists, words)?;
-        self.logs.at_mut(at).push(record.copied()?)?;
+        let copy = record.copied();
+        drop(record);
+        self.logs.at_mut(at).push(copy?)?;
         Ok(())
     }
 

@@ -3,7 +3,7 @@
 use crate::rules;
 use crate::text::Text;
 use crate::units::{Lists, unit_of};
-use crate::words::{Words, meaning_of};
+use crate::words::{Words, last_number, last_tid, meaning_of};
 use ale_base::{DocNum, FieldValue, Items, Mark, OutOfMemory, QueueName, Tid, Way};
 use case_form::{LineEnd, cut};
 use std::alloc::Global;
@@ -61,22 +61,20 @@ pub(crate) fn read_record(alloc: Global, lists: &Lists, words: Words) -> Result<
     let Some(word) = meaning_of(&RecordWord::WORDS, words.word()) else {
         return Err(rules::BAD_RECORD.into());
     };
-    let record = read_kind(alloc, lists, word, &mut words)?;
-    words.end()?;
-    Ok(record)
+    read_kind(alloc, lists, word, words)
 }
 
-/// The record that a word begins.
+/// The record that a word begins, and that ends the line.
 fn read_kind(
     alloc: Global,
     lists: &Lists,
     word: RecordWord,
-    words: &mut Words,
+    words: Words,
 ) -> Result<Record, LineEnd> {
     match word {
         RecordWord::Genesis => read_genesis(alloc, words),
         RecordWord::Commit => read_commit(alloc, words),
-        RecordWord::Dispatch => Ok(Record::Dispatch),
+        RecordWord::Dispatch => read_dispatch(words),
         RecordWord::Mark => read_mark(words),
         RecordWord::Accept | RecordWord::Direct => read_taken(lists, word, words),
         RecordWord::Stop => read_switch(words, true),
@@ -89,51 +87,77 @@ fn read_kind(
     }
 }
 
-fn read_mark(words: &mut Words) -> Result<Record, LineEnd> {
+fn read_dispatch(words: Words) -> Result<Record, LineEnd> {
+    words.end()?;
+    Ok(Record::Dispatch)
+}
+
+fn read_mark(words: Words) -> Result<Record, LineEnd> {
+    let mut words = words;
     let Some(tid) = words.tid() else {
         return Err(rules::NO_TID.into());
     };
     let cause = words.cause()?;
+    words.end()?;
     Ok(Record::Mark { tid, cause })
 }
 
 /// A record that tells something of a unit's id.
-fn read_told(word: RecordWord, words: &mut Words) -> Result<Record, LineEnd> {
-    let Some(tid) = words.tid() else {
-        return Err(rules::NO_TID.into());
-    };
-    Ok(match word {
+fn read_told(word: RecordWord, words: Words) -> Result<Record, LineEnd> {
+    match last_tid(words) {
+        Ok(tid) => Ok(told_of_unit(word, tid)),
+        Err(end) => Err(end),
+    }
+}
+
+fn told_of_unit(word: RecordWord, tid: Tid) -> Record {
+    match word {
         RecordWord::Done => Record::Done { tid },
         RecordWord::Ended => Record::Ended { tid },
         RecordWord::Execute => Record::Execute { tid },
         RecordWord::Fail => Record::Fail { tid },
         _ => Record::Forget { tid },
-    })
+    }
 }
 
 /// A record that takes in a unit that is listed.
-fn read_taken(lists: &Lists, word: RecordWord, words: &mut Words) -> Result<Record, LineEnd> {
+fn read_taken(lists: &Lists, word: RecordWord, words: Words) -> Result<Record, LineEnd> {
+    let mut words = words;
     let Some(tid) = words.tid() else {
         return Err(rules::NO_TID.into());
     };
     let Some(listed) = unit_of(lists, tid) else {
         return Err(rules::NO_UNIT.into());
     };
+    words.end()?;
+    match word {
+        RecordWord::Accept => Ok(accept(listed)?),
+        _ => Ok(direct(listed)?),
+    }
+}
+
+/// An Accept of a copy of a unit.
+pub(crate) fn accept(listed: &AleUnit) -> Result<Record, OutOfMemory> {
     let unit = listed.clone()?;
-    Ok(match word {
-        RecordWord::Accept => Record::Accept { unit },
-        _ => Record::Direct { unit },
-    })
+    Ok(Record::Accept { unit })
+}
+
+/// A Direct of a copy of a unit.
+pub(crate) fn direct(listed: &AleUnit) -> Result<Record, OutOfMemory> {
+    let unit = listed.clone()?;
+    Ok(Record::Direct { unit })
 }
 
 /// A record of a queue that is stopped or started.
-fn read_switch(words: &mut Words, stops: bool) -> Result<Record, LineEnd> {
+fn read_switch(words: Words, stops: bool) -> Result<Record, LineEnd> {
+    let mut words = words;
     let way = words.way()?;
     let destination = words.byte()?;
-    match words.name() {
-        Some(name) => Ok(switch(way, destination, name, stops)),
-        None => Err(rules::BAD_RECORD.into()),
-    }
+    let Some(name) = words.name() else {
+        return Err(rules::BAD_RECORD.into());
+    };
+    words.end()?;
+    Ok(switch(way, destination, name, stops))
 }
 
 /// A Stop or a Start of a queue.
@@ -153,38 +177,50 @@ pub(crate) fn switch(way: Way, destination: u8, name: QueueName, stops: bool) ->
     }
 }
 
-fn read_retry(words: &mut Words) -> Result<Record, LineEnd> {
+fn read_retry(words: Words) -> Result<Record, LineEnd> {
+    let mut words = words;
     let way = words.way()?;
-    let Some(tid) = words.tid() else {
-        return Err(rules::NO_TID.into());
-    };
-    Ok(Record::Retry { way, tid })
+    match last_tid(words) {
+        Ok(tid) => Ok(Record::Retry { way, tid }),
+        Err(end) => Err(end),
+    }
 }
 
 /// A Genesis, with its system and its text.
-fn read_genesis(alloc: Global, words: &mut Words) -> Result<Record, LineEnd> {
+fn read_genesis(alloc: Global, words: Words) -> Result<Record, LineEnd> {
+    let mut words = words;
     let system = words.byte()?;
     let text = Items::from_slice(alloc, words.rest())?;
     Ok(Record::Genesis { system, text })
 }
 
 /// A Commit, with its message where it has one.
-fn read_commit(alloc: Global, words: &mut Words) -> Result<Record, LineEnd> {
-    let docs = Items::new(alloc);
+fn read_commit(alloc: Global, words: Words) -> Result<Record, LineEnd> {
+    let mut words = words;
     if words.is_at_end() {
-        return Ok(Record::Commit { origin: None, docs });
+        return Ok(commit(alloc, None));
     }
-    let origin = Some(Items::from_slice(alloc, words.rest())?);
-    Ok(Record::Commit { origin, docs })
+    let origin = Items::from_slice(alloc, words.rest())?;
+    Ok(commit(alloc, Some(origin)))
 }
 
-fn read_model(alloc: Global, words: &mut Words) -> Result<Record, LineEnd> {
+/// A Commit of no document.
+pub(crate) fn commit(alloc: Global, origin: Option<Items<u8>>) -> Record {
+    Record::Commit {
+        origin,
+        docs: Items::new(alloc),
+    }
+}
+
+fn read_model(alloc: Global, words: Words) -> Result<Record, LineEnd> {
+    let mut words = words;
     let text = Items::from_slice(alloc, words.rest())?;
     Ok(Record::Model { text })
 }
 
 /// A Put: the kind and the key of its object, and the fields with their values.
-fn read_put(alloc: Global, words: &mut Words) -> Result<Record, LineEnd> {
+fn read_put(alloc: Global, words: Words) -> Result<Record, LineEnd> {
+    let mut words = words;
     let kind = Items::from_slice(alloc, words.word())?;
     let key = Items::from_slice(alloc, words.word())?;
     let fields = read_fields(alloc, words.rest())?;
@@ -211,8 +247,8 @@ fn read_field(alloc: Global, part: &[u8]) -> Result<FieldValue, LineEnd> {
 }
 
 /// A record of an inbound document.
-fn read_document(word: RecordWord, words: &mut Words) -> Result<Record, LineEnd> {
-    let doc = DocNum(words.number()?);
+fn read_document(word: RecordWord, words: Words) -> Result<Record, LineEnd> {
+    let doc = DocNum(last_number(words)?);
     Ok(match word {
         RecordWord::App => Record::App { doc },
         _ => Record::Repost { doc },

@@ -87,7 +87,11 @@ fn play_event(
     ensures { IfOk result IsSafeWorld }
 {
     match event_of(alloc, lists, item) {
-        Ok(event) => happen(alloc, lists, world, &event, item, steps),
+        Ok(event) => {
+            let after = happen(alloc, lists, world, &event, item, steps);
+            drop(event);
+            after
+        }
         Err(fault) => Err(fault),
     }
 }
@@ -190,16 +194,31 @@ fn is_event(item: &Item) -> bool {
 /// The whole logs and the claims after all events so far, which happen at once to the world at first.
 fn again(alloc: Global, lists: &Lists, before: &[Item]) -> Result<Text, CaseFault> {
     let world = first_world(alloc, before)?;
+    let events = events_of(alloc, lists, before)?;
+    let world = run_events(alloc, world, events.as_slice())?;
+    whole(alloc, lists, &world)
+}
+
+/// The events of these items.
+fn events_of(alloc: Global, lists: &Lists, items: &[Item]) -> Result<Vec<Event>, CaseFault> {
     let mut events = Vec::new(alloc);
-    for item in before {
+    for item in items {
         if is_event(item) {
             events.push(event_of(alloc, lists, item)?)?;
         }
     }
-    let world = run_events(alloc, world, events.as_slice())?;
-    let mut found = Text::new(alloc);
-    put_world(&mut found, lists, &[], &world)?;
-    Ok(found)
+    Ok(events)
+}
+
+/// All that a world holds: its logs, its claims, and which systems are down.
+pub(crate) fn whole(
+    alloc: Global,
+    lists: &Lists,
+    world: &World<ListedRules>,
+) -> Result<Text, CaseFault> {
+    let mut text = Text::new(alloc);
+    put_world(&mut text, lists, &[], world)?;
+    Ok(text)
 }
 
 /// The world at first of the units that these items list.

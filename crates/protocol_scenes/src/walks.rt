@@ -5,9 +5,10 @@
 ghost use Rattle.std.specs.Prelude.{◌<◌, ◌≤◌, IfOk};
 ghost use Rattle.protocol_scenes.specs.Worlds.{IsSafeWorld};
 
+use crate::events::forgotten;
 use crate::falling::fall_or_open;
 use crate::law::{executed, logs_found, logs_of, logs_with};
-use crate::records::switch;
+use crate::records::{commit, switch};
 use crate::rules;
 use crate::scene::{first_world, world_after};
 use crate::text::Text;
@@ -166,7 +167,11 @@ fn go_on(
     ensures { IfOk result IsSafeWorld }
 {
     match event(alloc, lists, dice, world.next_number) {
-        Some(event) => happen(alloc, lists, world, &event, dice, seen),
+        Some(event) => {
+            let after = happen(alloc, lists, world, &event, dice, seen);
+            drop(event);
+            after
+        }
         None => Ok(world),
     }
 }
@@ -268,14 +273,12 @@ fn event_of(
     dice: &mut Dice,
 ) -> Option<Event> {
     match kind {
-        0 | 15 => Some(commit(alloc, unit.sender)),
+        0 | 15 => Some(commit_next(alloc, unit.sender)),
         1 | 2 => Some(Event::Claim { tid: unit.tid }),
         3 | 4 => Some(Event::Arrive { tid: unit.tid }),
         5 => Some(Event::Run { tid: unit.tid }),
         12 => Some(Event::Confirm { tid: unit.tid }),
-        13 => Some(Event::Reply {
-            to: ReplyTo::Forgotten(unit.tid),
-        }),
+        13 => Some(forgotten(unit.tid)),
         14 => Some(retry(unit, dice)),
         16 => Some(Event::LoseConfirm { tid: unit.tid }),
         17 => switch_of(unit, true, dice),
@@ -322,13 +325,10 @@ fn pick<'a>(lists: &'a Lists, dice: &mut Dice) -> Option<&'a AleUnit> {
 }
 
 /// A Commit of a system, whose next unit it commits.
-fn commit(alloc: Global, system: SystemNo) -> Event {
+fn commit_next(alloc: Global, system: SystemNo) -> Event {
     Event::Commit {
         system,
-        what: Record::Commit {
-            origin: None,
-            docs: Items::new(alloc),
-        },
+        what: commit(alloc, None),
     }
 }
 

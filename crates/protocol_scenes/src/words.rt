@@ -160,6 +160,24 @@ impl<'a> Words<'a> {
     }
 }
 
+/// The id of a unit, which ends the line.
+pub(crate) fn last_tid(words: Words) -> Result<Tid, LineEnd> {
+    let mut words = words;
+    let Some(tid) = words.tid() else {
+        return Err(rules::NO_TID.into());
+    };
+    words.end()?;
+    Ok(tid)
+}
+
+/// A number, which ends the line.
+pub(crate) fn last_number(words: Words) -> Result<u64, LineEnd> {
+    let mut words = words;
+    let number = words.number()?;
+    words.end()?;
+    Ok(number)
+}
+
 fn system_of(word: &[u8]) -> Option<SystemNo> {
     let number = number_of(word).ok()?;
     SystemNo::of(u8::try_from(number).ok()?)

@@ -1,7 +1,6 @@
 //! An earlier request of a unit that comes now.
 
 use super::Caller;
-use super::deeds::Deed;
 use crate::text::Text;
 use crate::words::Words;
 use crate::{conditions, rules};
@@ -21,7 +20,7 @@ struct Receiver {
 
 impl Caller {
     /// `late UNIT`: an earlier request of the unit comes to its receiver now.
-    pub(crate) fn late(&mut self, words: &mut Words, found: &mut Text) -> Result<Deed, LineEnd> {
+    pub(crate) fn late(&mut self, words: &mut Words, found: &mut Text) -> Result<(), LineEnd> {
         let Some(tid) = words.tid() else {
             return Err(rules::NO_TID.into());
         };
@@ -31,12 +30,41 @@ impl Caller {
             return Err(rules::NOT_ALLOWED.into());
         };
         match came {
-            Ok(came) => Ok(deed_of(tid, number, receiver, put_came(came, found)?)),
-            Err(end) => {
-                put_end(end, found)?;
-                Ok(Deed::Nothing)
+            Ok(came) => {
+                put_came(came, found)?;
+                self.note_late(tid, number, receiver, came)
             }
+            Err(end) => Ok(put_end(end, found)?),
         }
+    }
+
+    /// Notes which events a late request was. The run of a unit has the number of the next claim.
+    fn note_late(
+        &mut self,
+        tid: Tid,
+        number: u64,
+        receiver: Option<Receiver>,
+        came: Late,
+    ) -> Result<(), LineEnd> {
+        let Some(receiver) = receiver else {
+            return Ok(());
+        };
+        if matches!(came, Late::Down) {
+            return self.note_late_fall(tid, receiver);
+        }
+        self.note(Event::Arrive { tid })?;
+        if receiver.runs && matches!(came, Late::New) {
+            self.note(Event::Finish { number })?;
+        }
+        Ok(())
+    }
+
+    /// Notes that the receiver is down: where it was up it fell as it took the unit in, or as it ran the unit that had arrived.
+    fn note_late_fall(&mut self, tid: Tid, receiver: Receiver) -> Result<(), LineEnd> {
+        if receiver.was_up && receiver.runs {
+            self.note(Event::Arrive { tid })?;
+        }
+        self.note_down(receiver.was_up, receiver.system)
     }
 
     /// The receiver of a unit, as it is before the call.
@@ -50,31 +78,14 @@ impl Caller {
     }
 }
 
-/// Which events a late request was. The run of a unit has the number of the next claim.
-fn deed_of(tid: Tid, number: u64, receiver: Option<Receiver>, came: Late) -> Deed {
-    let arrives = Event::Arrive { tid };
-    match (receiver, came) {
-        (None, _) => Deed::Nothing,
-        (Some(receiver), Late::New) if receiver.runs => {
-            Deed::Both(arrives, Event::Finish { number })
-        }
-        (Some(receiver), Late::Down) if receiver.was_up && receiver.runs => {
-            Deed::FallsBehind(arrives, receiver.system)
-        }
-        (Some(receiver), Late::Down) => Deed::down(receiver.was_up, receiver.system),
-        (Some(_), _) => Deed::Happens(arrives),
-    }
-}
-
 /// Puts what came of a late request.
-fn put_came(came: Late, found: &mut Text) -> Result<Late, OutOfMemory> {
+fn put_came(came: Late, found: &mut Text) -> Result<(), OutOfMemory> {
     match came {
-        Late::New => found.put_line(b"new")?,
-        Late::Known => found.put_line(b"known")?,
-        Late::SysFail => found.put_line(b"sysfail")?,
-        Late::Down => found.put_line(b"down")?,
+        Late::New => found.put_line(b"new"),
+        Late::Known => found.put_line(b"known"),
+        Late::SysFail => found.put_line(b"sysfail"),
+        Late::Down => found.put_line(b"down"),
     }
-    Ok(came)
 }
 
 /// Puts why no late request came.

@@ -1,8 +1,8 @@
 //! The calls of an operator, a system that falls, and what a landscape says of itself.
 
 use super::Caller;
-use super::deeds::Deed;
 use super::handed::take_out;
+use crate::records::switch;
 use crate::rules;
 use crate::text::Text;
 use crate::words::Words;
@@ -19,7 +19,7 @@ impl Caller {
         words: &mut Words,
         stops: bool,
         found: &mut Text,
-    ) -> Result<Deed, LineEnd> {
+    ) -> Result<(), LineEnd> {
         let Some(system) = words.system() else {
             return Err(rules::NO_SYSTEM.into());
         };
@@ -28,35 +28,19 @@ impl Caller {
         let Some(name) = words.name() else {
             return Err(rules::BAD_UNIT.into());
         };
-        if stops {
-            let end = self.landscape.stop(system, way, destination, name);
-            operated(
-                end,
-                system,
-                Record::Stop {
-                    way,
-                    destination,
-                    name,
-                },
-                found,
-            )
+        let end = if stops {
+            self.landscape.stop(system, way, destination, name)
         } else {
-            let end = self.landscape.start(system, way, destination, name);
-            operated(
-                end,
-                system,
-                Record::Start {
-                    way,
-                    destination,
-                    name,
-                },
-                found,
-            )
+            self.landscape.start(system, way, destination, name)
+        };
+        if self.is_appended(end, system, found)? {
+            self.note_operator(system, switch(way, destination, name, stops))?;
         }
+        Ok(())
     }
 
     /// `retry SYSTEM WAY UNIT`: the mark of a unit is removed.
-    pub(crate) fn retry(&mut self, words: &mut Words, found: &mut Text) -> Result<Deed, LineEnd> {
+    pub(crate) fn retry(&mut self, words: &mut Words, found: &mut Text) -> Result<(), LineEnd> {
         let Some(system) = words.system() else {
             return Err(rules::NO_SYSTEM.into());
         };
@@ -65,34 +49,36 @@ impl Caller {
             return Err(rules::NO_TID.into());
         };
         let end = self.landscape.retry(system, way, tid);
-        operated(end, system, Record::Retry { way, tid }, found)
+        if self.is_appended(end, system, found)? {
+            self.note_operator(system, Record::Retry { way, tid })?;
+        }
+        Ok(())
     }
 
     /// `revoke`: all claims are given up.
-    pub(crate) fn revoke(&mut self, found: &mut Text) -> Result<Deed, LineEnd> {
+    pub(crate) fn revoke(&mut self, found: &mut Text) -> Result<(), LineEnd> {
         self.landscape.revoke();
         found.put_line(b"revoked")?;
-        Ok(Deed::Happens(Event::Operator {
+        self.note(Event::Operator {
             action: Action::Revoke,
-        }))
+        })
     }
 
     /// `crash SYSTEM`: a system falls.
-    pub(crate) fn crash(&mut self, words: &mut Words, found: &mut Text) -> Result<Deed, LineEnd> {
+    pub(crate) fn crash(&mut self, words: &mut Words, found: &mut Text) -> Result<(), LineEnd> {
         let Some(system) = words.system() else {
             return Err(rules::NO_SYSTEM.into());
         };
         if self.landscape.crash(system) {
             found.put_line(b"crashed")?;
-            Ok(Deed::Happens(Event::Fall { system, kept: None }))
+            self.note(Event::Fall { system, kept: None })
         } else {
-            found.put_line(b"down")?;
-            Ok(Deed::Nothing)
+            Ok(found.put_line(b"down")?)
         }
     }
 
     /// `holds NUMBER`: whether a claim to ship a unit stands.
-    pub(crate) fn holds(&mut self, words: &mut Words, found: &mut Text) -> Result<Deed, LineEnd> {
+    pub(crate) fn holds(&mut self, words: &mut Words, found: &mut Text) -> Result<(), LineEnd> {
         let number = words.number()?;
         let Some(claim) = take_out(&mut self.outs, number) else {
             return Err(rules::NO_CLAIM.into());
@@ -104,29 +90,32 @@ impl Caller {
         } else {
             b"does not hold".as_slice()
         })?;
-        Ok(Deed::Nothing)
+        Ok(())
     }
 
     /// `quiet`: whether nothing is left to do.
-    pub(crate) fn quiet(&self, found: &mut Text) -> Result<Deed, LineEnd> {
+    pub(crate) fn quiet(&self, found: &mut Text) -> Result<(), LineEnd> {
         found.put_line(if self.landscape.quiet() {
             b"quiet".as_slice()
         } else {
             b"not quiet".as_slice()
         })?;
-        Ok(Deed::Nothing)
+        Ok(())
     }
-}
 
-/// Puts how an operator's record was appended.
-fn operated(
-    end: Result<(), OperatorEnd>,
-    system: SystemNo,
-    next: Record,
-    found: &mut Text,
-) -> Result<Deed, LineEnd> {
-    found.put_line(word_of_operated(&end)?)?;
-    Ok(deed_of_operated(&end, system, next))
+    /// Whether an operator's record was appended. Puts how that went, and notes the fall of its system.
+    fn is_appended(
+        &mut self,
+        end: Result<(), OperatorEnd>,
+        system: SystemNo,
+        found: &mut Text,
+    ) -> Result<bool, LineEnd> {
+        found.put_line(word_of_operated(&end)?)?;
+        if matches!(end, Err(OperatorEnd::Volume)) {
+            self.note_fall(system)?;
+        }
+        Ok(end.is_ok())
+    }
 }
 
 /// The word for how an operator's record was appended.
@@ -139,19 +128,4 @@ fn word_of_operated(end: &Result<(), OperatorEnd>) -> Result<&'static [u8], Line
         Err(OperatorEnd::Volume) => Ok(b"volume fault".as_slice()),
         Err(OperatorEnd::OutOfMemory) => Err(LineEnd::OutOfMemory),
     }
-}
-
-/// What the appending of an operator's record did.
-fn deed_of_operated(end: &Result<(), OperatorEnd>, system: SystemNo, next: Record) -> Deed {
-    match end {
-        Ok(()) => appended(system, next),
-        Err(OperatorEnd::Volume) => Deed::Falls(system),
-        Err(_) => Deed::Nothing,
-    }
-}
-
-fn appended(system: SystemNo, next: Record) -> Deed {
-    Deed::Happens(Event::Operator {
-        action: Action::Append(system, next),
-    })
 }

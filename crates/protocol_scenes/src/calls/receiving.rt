@@ -1,7 +1,6 @@
 //! The calls of a unit's receiver: the unit arrives, is executed, and is forgotten.
 
 use super::Caller;
-use super::deeds::Deed;
 use super::handed::take_in;
 use super::sending::put_claimed;
 use crate::text::Text;
@@ -14,7 +13,7 @@ use unit_landscape::{Arrival, Confirmed, Finished, InClaim, WorkEnd};
 
 impl Caller {
     /// `claim out SYSTEM` and `claim in SYSTEM`: the system claims the first unit that is offered there.
-    pub(crate) fn claim(&mut self, words: &mut Words, found: &mut Text) -> Result<Deed, LineEnd> {
+    pub(crate) fn claim(&mut self, words: &mut Words, found: &mut Text) -> Result<(), LineEnd> {
         let way = words.word();
         let Some(system) = words.system() else {
             return Err(rules::NO_SYSTEM.into());
@@ -28,19 +27,19 @@ impl Caller {
         }
     }
 
-    fn claim_in(&mut self, system: SystemNo, found: &mut Text) -> Result<Deed, LineEnd> {
+    fn claim_in(&mut self, system: SystemNo, found: &mut Text) -> Result<(), LineEnd> {
         let Some(claim) = self.landscape.claim_in(system)? else {
             found.put_line(b"none")?;
-            return Ok(Deed::Nothing);
+            return Ok(());
         };
         let tid = claim.tid();
         put_claimed(claim.number(), tid, b" at ", claim.system(), found)?;
         self.ins.push(claim)?;
-        Ok(Deed::Happens(Event::Run { tid }))
+        self.note(Event::Run { tid })
     }
 
     /// `arrive UNIT`: the unit arrives at its receiver.
-    pub(crate) fn arrive(&mut self, words: &mut Words, found: &mut Text) -> Result<Deed, LineEnd> {
+    pub(crate) fn arrive(&mut self, words: &mut Words, found: &mut Text) -> Result<(), LineEnd> {
         let Some(tid) = words.tid() else {
             return Err(rules::NO_TID.into());
         };
@@ -53,10 +52,10 @@ impl Caller {
         };
         if matches!(arrival, Arrival::Down) {
             found.put_line(b"down")?;
-            return Ok(Deed::down(was_up, receiver));
+            return self.note_down(was_up, receiver);
         }
         self.put_arrival(arrival, found)?;
-        Ok(Deed::Happens(Event::Arrive { tid }))
+        self.note(Event::Arrive { tid })
     }
 
     /// Puts how the arrival was answered, and keeps what was handed out.
@@ -93,7 +92,7 @@ impl Caller {
     }
 
     /// `finish NUMBER`: the work of this claim ends.
-    pub(crate) fn finish(&mut self, words: &mut Words, found: &mut Text) -> Result<Deed, LineEnd> {
+    pub(crate) fn finish(&mut self, words: &mut Words, found: &mut Text) -> Result<(), LineEnd> {
         let number = words.number()?;
         let Some(claim) = take_in(&mut self.ins, number) else {
             return Err(rules::NO_CLAIM.into());
@@ -101,29 +100,29 @@ impl Caller {
         let system = claim.system();
         let end = conditions::finish(self.alloc, &mut self.landscape, claim)?;
         found.put_line(word_of_finished(&end)?)?;
-        self.deed_of_finished(end, number, system)
+        self.note_finished(end, number, system)
     }
 
-    /// What the end of a claim's work did; the receipt of an execution is kept.
-    fn deed_of_finished(
+    /// Notes what the end of a claim's work did; the receipt of an execution is kept.
+    fn note_finished(
         &mut self,
         end: Result<Finished, WorkEnd>,
         number: u64,
         system: SystemNo,
-    ) -> Result<Deed, LineEnd> {
+    ) -> Result<(), LineEnd> {
         match end {
             Ok(Finished::Executed(receipt)) => {
                 self.receipts.push(receipt)?;
-                Ok(Deed::Happens(Event::Finish { number }))
+                self.note(Event::Finish { number })
             }
-            Ok(Finished::Failed) => Ok(Deed::Happens(Event::Fail { number })),
-            Ok(Finished::Down) => Ok(Deed::Falls(system)),
-            Err(_) => Ok(Deed::Nothing),
+            Ok(Finished::Failed) => self.note(Event::Fail { number }),
+            Ok(Finished::Down) => self.note_fall(system),
+            Err(_) => Ok(()),
         }
     }
 
     /// `confirm UNIT`: its confirmation comes to its receiver.
-    pub(crate) fn confirm(&mut self, words: &mut Words, found: &mut Text) -> Result<Deed, LineEnd> {
+    pub(crate) fn confirm(&mut self, words: &mut Words, found: &mut Text) -> Result<(), LineEnd> {
         let Some(tid) = words.tid() else {
             return Err(rules::NO_TID.into());
         };
@@ -135,7 +134,11 @@ impl Caller {
             return Err(rules::NOT_ALLOWED.into());
         };
         found.put_line(word_of_confirmed(&end))?;
-        Ok(deed_of_confirmed(&end, tid, was_up, receiver))
+        match end {
+            Confirmed::Forgotten => self.note(Event::Confirm { tid }),
+            Confirmed::Already => Ok(()),
+            Confirmed::Down => self.note_down(was_up, receiver),
+        }
     }
 }
 
@@ -156,14 +159,5 @@ fn word_of_confirmed(end: &Confirmed) -> &'static [u8] {
         Confirmed::Forgotten => b"forgotten".as_slice(),
         Confirmed::Already => b"already".as_slice(),
         Confirmed::Down => b"down".as_slice(),
-    }
-}
-
-/// What a confirmation did.
-fn deed_of_confirmed(end: &Confirmed, tid: Tid, was_up: bool, receiver: SystemNo) -> Deed {
-    match end {
-        Confirmed::Forgotten => Deed::Happens(Event::Confirm { tid }),
-        Confirmed::Already => Deed::Nothing,
-        Confirmed::Down => Deed::down(was_up, receiver),
     }
 }

@@ -1,8 +1,8 @@
 //! The calls of a unit's sender: it commits, claims, hears the reply, and hears that the unit is forgotten.
 
 use super::Caller;
-use super::deeds::Deed;
 use super::handed::{take_out, take_receipt};
+use crate::events::forgotten;
 use crate::text::Text;
 use crate::words::{Words, meaning_of};
 use crate::{conditions, rules};
@@ -31,19 +31,17 @@ const HEARD: [(&'static [u8], Heard); 4] = [
 
 impl Caller {
     /// `commit SYSTEM`: the system commits its next unit.
-    pub(crate) fn commit(&mut self, words: &mut Words, found: &mut Text) -> Result<Deed, LineEnd> {
+    pub(crate) fn commit(&mut self, words: &mut Words, found: &mut Text) -> Result<(), LineEnd> {
         let Some(system) = words.system() else {
             return Err(rules::NO_SYSTEM.into());
         };
         match conditions::commit(self.alloc, &mut self.landscape, system)? {
             Some(Ok(())) => {
                 found.put_line(b"committed")?;
-                Ok(Deed::Happens(Event::Commit {
-                    system,
-                    what: self.last_record(system)?,
-                }))
+                let what = self.last_record(system)?;
+                self.note(Event::Commit { system, what })
             }
-            Some(Err(end)) => put_append_end(end, system, found),
+            Some(Err(end)) => self.not_appended(end, system, found),
             None => Err(rules::NOT_ALLOWED.into()),
         }
     }
@@ -57,24 +55,20 @@ impl Caller {
     }
 
     /// A system claims the first unit that is offered there to be shipped.
-    pub(crate) fn claim_out(
-        &mut self,
-        system: SystemNo,
-        found: &mut Text,
-    ) -> Result<Deed, LineEnd> {
+    pub(crate) fn claim_out(&mut self, system: SystemNo, found: &mut Text) -> Result<(), LineEnd> {
         let Some(claim) = self.landscape.claim_out(system)? else {
             found.put_line(b"none")?;
-            return Ok(Deed::Nothing);
+            return Ok(());
         };
         let tid = claim.tid();
         put_claimed(claim.number(), tid, b" to ", claim.receiver(), found)?;
         self.outs.push(claim)?;
-        Ok(Deed::Happens(Event::Claim { tid }))
+        self.note(Event::Claim { tid })
     }
 
     /// `reply NUMBER`, and what the sender hears of the shipment under this claim; behind `done` the unit whose receipt it gets, if it
     /// is another one.
-    pub(crate) fn reply(&mut self, words: &mut Words, found: &mut Text) -> Result<Deed, LineEnd> {
+    pub(crate) fn reply(&mut self, words: &mut Words, found: &mut Text) -> Result<(), LineEnd> {
         let number = words.number()?;
         let Some(heard) = meaning_of(&HEARD, words.word()) else {
             return Err(rules::BAD_CALL.into());
@@ -95,7 +89,7 @@ impl Caller {
         claim: OutClaim,
         words: &mut Words,
         found: &mut Text,
-    ) -> Result<Deed, LineEnd> {
+    ) -> Result<(), LineEnd> {
         let tid = claim.tid();
         let named = if words.is_at_end() {
             Some(tid)
@@ -116,7 +110,7 @@ impl Caller {
         self.replied(claim, Reply::Done(receipt), counts_as, found)
     }
 
-    fn reply_refused(&mut self, claim: OutClaim, found: &mut Text) -> Result<Deed, LineEnd> {
+    fn reply_refused(&mut self, claim: OutClaim, found: &mut Text) -> Result<(), LineEnd> {
         let counts_as = if self.is_refused(claim.tid()) {
             Some(CoreAnswer::SysFail)
         } else {
@@ -140,16 +134,22 @@ impl Caller {
         given: Reply,
         counts_as: Option<CoreAnswer>,
         found: &mut Text,
-    ) -> Result<Deed, LineEnd> {
+    ) -> Result<(), LineEnd> {
         let number = claim.number();
         let sender = claim.tid().system();
         let end = conditions::reply(self.alloc, &mut self.landscape, claim, given)?;
         found.put_line(word_of_replied(&end)?)?;
-        Ok(deed_of_replied(&end, number, counts_as, sender))
+        match end {
+            Ok(Replied::Recorded | Replied::Released) => {
+                self.note(event_of_reply(number, counts_as))
+            }
+            Ok(Replied::Down) => self.note_fall(sender),
+            Err(_) => Ok(()),
+        }
     }
 
     /// `ended UNIT`: its sender hears that its id is forgotten.
-    pub(crate) fn ended(&mut self, words: &mut Words, found: &mut Text) -> Result<Deed, LineEnd> {
+    pub(crate) fn ended(&mut self, words: &mut Words, found: &mut Text) -> Result<(), LineEnd> {
         let Some(tid) = words.tid() else {
             return Err(rules::NO_TID.into());
         };
@@ -158,7 +158,28 @@ impl Caller {
             return Err(rules::NOT_ALLOWED.into());
         };
         found.put_line(word_of_closed(&end))?;
-        Ok(deed_of_closed(&end, tid, was_up))
+        match end {
+            Closed::Recorded => self.note(forgotten(tid)),
+            Closed::Already => Ok(()),
+            Closed::Down => self.note_down(was_up, tid.system()),
+        }
+    }
+
+    /// Puts why a record was not appended.
+    fn not_appended(
+        &mut self,
+        end: AppendEnd,
+        system: SystemNo,
+        found: &mut Text,
+    ) -> Result<(), LineEnd> {
+        match end {
+            AppendEnd::Volume => {
+                found.put_line(b"volume fault")?;
+                self.note_fall(system)
+            }
+            AppendEnd::Full(_) => Ok(found.put_line(b"full")?),
+            AppendEnd::Before | AppendEnd::After => Err(LineEnd::OutOfMemory),
+        }
     }
 }
 
@@ -173,37 +194,12 @@ fn word_of_replied(end: &Result<Replied, WorkEnd>) -> Result<&'static [u8], Line
     }
 }
 
-/// What a reply under a claim did, that counts as this answer, or as lost.
-fn deed_of_replied(
-    end: &Result<Replied, WorkEnd>,
-    number: u64,
-    counts_as: Option<CoreAnswer>,
-    sender: SystemNo,
-) -> Deed {
-    match end {
-        Ok(Replied::Recorded | Replied::Released) => {
-            Deed::Happens(event_of_reply(number, counts_as))
-        }
-        Ok(Replied::Down) => Deed::Falls(sender),
-        Err(_) => Deed::Nothing,
-    }
-}
-
 /// The word for what came of the news that a unit's id is forgotten.
 fn word_of_closed(end: &Closed) -> &'static [u8] {
     match end {
         Closed::Recorded => b"recorded".as_slice(),
         Closed::Already => b"already".as_slice(),
         Closed::Down => b"down".as_slice(),
-    }
-}
-
-/// What such news did.
-fn deed_of_closed(end: &Closed, tid: Tid, was_up: bool) -> Deed {
-    match end {
-        Closed::Recorded => forgotten(tid),
-        Closed::Already => Deed::Nothing,
-        Closed::Down => Deed::down(was_up, tid.system()),
     }
 }
 
@@ -215,12 +211,6 @@ fn event_of_reply(number: u64, counts_as: Option<CoreAnswer>) -> Event {
         },
         None => Event::LoseReply { number },
     }
-}
-
-fn forgotten(tid: Tid) -> Deed {
-    Deed::Happens(Event::Reply {
-        to: ReplyTo::Forgotten(tid),
-    })
 }
 
 /// Puts what was claimed: the claim, its unit, and a system.
@@ -238,19 +228,4 @@ pub(crate) fn put_claimed(
     found.put(word)?;
     found.put_number(u64::from(system.get()))?;
     found.end_line()
-}
-
-/// Puts why a record was not appended.
-fn put_append_end(end: AppendEnd, system: SystemNo, found: &mut Text) -> Result<Deed, LineEnd> {
-    match end {
-        AppendEnd::Volume => {
-            found.put_line(b"volume fault")?;
-            Ok(Deed::Falls(system))
-        }
-        AppendEnd::Full(_) => {
-            found.put_line(b"full")?;
-            Ok(Deed::Nothing)
-        }
-        AppendEnd::Before | AppendEnd::After => Err(LineEnd::OutOfMemory),
-    }
 }

@@ -15,11 +15,11 @@ begin-requires c =
     let test = c.loop-number-test.true in
     let some : more ≡ suc (more - 1) = omega (arith, left, test) in
     let is = c.loop-number.invariant.4 ∙ ap (begun_world c.args.kept.world.rules texts) some in
-    let number = c.in_ok-system.ensures.found in
-    let next : c.in_ok-system.system ≡ suc (length texts) = omega (arith, here, number) in
+    let number = c.in-Some.ensures.found in
+    let next : c.in-Some.system ≡ suc (length texts) = omega (arith, here, number) in
     record {
-      empty = begun-empty c.args.kept.world.rules texts (more - 1) c.loop-number.kept.world is c.in_ok-system.system next;
-      no_claims = begun-no_claims c.args.kept.world.rules texts (more - 1) c.loop-number.kept.world is c.in_ok-system.system next;
+      empty = begun-empty c.args.kept.world.rules texts (more - 1) c.loop-number.kept.world is c.in-Some.system next;
+      no_claims = begun-no_claims c.args.kept.world.rules texts (more - 1) c.loop-number.kept.world is c.in-Some.system next;
       text_most = let same = ap (λ (l : List ℕ). length l) c.new-text.ensures in omega (arith, same);
       goes = λ its at begins. tt;
     }
@@ -33,11 +33,11 @@ loop-number-preserved c =
     let test = c.loop-number-test.true in
     let some : more ≡ suc (more - 1) = omega (arith, left, test) in
     let is = c.loop-number.invariant.4 ∙ ap (begun_world c.args.kept.world.rules texts) some in
-    let number = c.in_ok-system.ensures.found in
-    let next : c.in_ok-system.system ≡ suc (length texts) = omega (arith, here, number) in (
+    let number = c.in-Some.ensures.found in
+    let next : c.in-Some.system ≡ suc (length texts) = omega (arith, here, number) in (
       texts ++ c.new-text.result ∷ [],
       more - 1,
       omega (arith, here, length-append texts (c.new-text.result ∷ [])),
       omega (arith, left, some),
-      c.in-Ok.ensures.begun.0 ∙ begun-next c.args.kept.world.rules texts (more - 1) c.loop-number.kept.world is c.in_ok-system.system next c.new-text.result,
+      c.in-Ok.ensures.begun.0 ∙ begun-next c.args.kept.world.rules texts (more - 1) c.loop-number.kept.world is c.in-Some.system next c.new-text.result,
     )
