@@ -1,0 +1,117 @@
+-- A unit is claimed, to be shipped or to be executed.
+use Rattle.std.specs.Prelude.{Result, Ok, Err, IfOk, IfSome, OnErr}
+use Rattle.std.specs.Result.{is_ok}
+use Rattle.std.proofs.Common.{◌≡◌, ℕ, Option, Some, None, [], ◌∷◌, ◌++◌, refl, sym, ap, subst, ◌∙◌, true, false}
+use Rattle.ale_base.specs.declared.out_of_memory.OutOfMemory.{OutOfMemory}
+use Rattle.trfc_protocol.specs.declared.event.Event.TheVariants as event
+use Rattle.trfc_protocol.specs.declared.held.HeldKind.TheVariants.{Out, In}
+use Rattle.trfc_protocol.specs.declared.world.World.{World}
+use Rattle.trfc_protocol.specs.Legal.{IsLawful}
+use Rattle.trfc_protocol.specs.Meaning.{Meaning}
+use Rattle.trfc_protocol.specs.Worlds.{claim_of, with_claim}
+use Rattle.kept_world.specs.Kept.{KeptOf}
+use Rattle.unit_landscape.specs.declared.claims.OutClaim.{OutClaim}
+use Rattle.unit_landscape.specs.declared.claims.InClaim.{InClaim}
+use Rattle.unit_landscape.specs.Calls.{ClaimedIn, ClaimedOut}
+use Rattle.unit_landscape.specs.Kept.{IsLandscape}
+use Rattle.unit_landscape.proofs.OfferedLemmas.{claim-after, run-after}
+use Rattle.unit_works.specs.Events.{is_claim, is_run}
+use Rattle.unit_works.specs.Finished.{finished_in}
+use Rattle.unit_works.specs.Went.{WentOn}
+use Rattle.unit_works.specs.steps.Claims.{out_held}
+use Rattle.unit_works.specs.steps.Claiming.{IsShipped, IsExecuted}
+use Rattle.unit_works.proofs.ClaimLemmas.{next-fresh, found-last, stands-found_out}
+use Rattle.unit_works.proofs.WentLemmas.{went-same, went-happened}
+
+module _ {R A V : Type 0} (meaning : R → Meaning) (lawful : (r : R) → IsLawful (meaning r)) (faults : V → ℕ → ℕ) (before after : KeptOf R A V)
+    (is : IsLandscape meaning before.world) (system : ℕ) where
+  -- ---- the first unit that is offered outbound is claimed
+
+  abbrev GaveOut : Result (Option OutClaim) OutOfMemory → Type 0
+  GaveOut result = IfOk result (ClaimedOut (meaning before.world.rules) faults before after system)
+
+  pub went-claimed_out : (result : Result (Option OutClaim) OutOfMemory) → GaveOut result → OnErr result (after ≡ before)
+      → WentOn meaning faults is_claim (is_ok result) before after
+  went-claimed_out (Ok None) did same = went-same meaning faults is_claim true before after did.0
+  went-claimed_out (Ok (Some claim)) did same = went-happened meaning lawful faults is_claim before after is true (event.Claim claim.tid) refl refl did.0
+  went-claimed_out (Err why) did same = went-same meaning faults is_claim false before after same
+
+  module _ (claim : OutClaim) (did : ClaimedOut (meaning before.world.rules) faults before after system (Some claim)) where
+    world-claimed_out : after.world ≡ with_claim before.world claim.tid claim.tid.system Out
+    world-claimed_out =
+        let was = did.0 in was.world ∙ claim-after (meaning before.world.rules) (lawful before.world.rules) before.world is.safe claim.tid did.1
+
+    pub finished-claimed_out : finished_in after.world ≡ finished_in before.world
+    finished-claimed_out = ap finished_in world-claimed_out
+
+    pub is-shipped : IsShipped (meaning before.world.rules) before.world after.world system claim
+    is-shipped =
+        let made = did.5 in
+        let fresh : claim_of claim.number before.world.claims ≡ None =
+        subst (λ n. claim_of n before.world.claims ≡ None) (sym made.next)
+        (next-fresh (meaning before.world.rules) (lawful before.world.rules) before.world is.safe) in
+        let claims : after.world.claims ≡ before.world.claims ++ out_held claim ∷ [] =
+        ap (λ (w : World R). w.claims) world-claimed_out
+        ∙ ap (λ (n : ℕ). before.world.claims ++ record { number = n; tid = claim.tid; system = claim.tid.system; kind = Out } ∷ []) (sym made.next) in
+        record {
+          first = did.2;
+          stands = stands-found_out after.world claim (out_held claim)
+              (ap (claim_of claim.number) claims ∙ found-last claim.number before.world.claims (out_held claim) refl fresh) refl refl;
+          claims = claims;
+          fresh = fresh;
+        }
+
+  pub finished-out : (result : Result (Option OutClaim) OutOfMemory) → GaveOut result → OnErr result (after ≡ before)
+      → finished_in after.world ≡ finished_in before.world
+  finished-out (Ok None) did same = ap (λ (k : KeptOf R A V). finished_in k.world) did.0
+  finished-out (Ok (Some claim)) did same = finished-claimed_out claim did
+  finished-out (Err why) did same = ap (λ (k : KeptOf R A V). finished_in k.world) same
+
+  pub shipped-out : (result : Result (Option OutClaim) OutOfMemory) → GaveOut result
+      → IfOk result (λ found. IfSome found (IsShipped (meaning before.world.rules) before.world after.world system))
+  shipped-out (Ok None) did = tt
+  shipped-out (Ok (Some claim)) did = is-shipped claim did
+  shipped-out (Err why) did = tt
+
+  -- ---- the first unit that is offered inbound is claimed
+
+  abbrev GaveIn : Result (Option InClaim) OutOfMemory → Type 0
+  GaveIn result = IfOk result (ClaimedIn (meaning before.world.rules) faults before after system)
+
+  pub went-claimed_in : (result : Result (Option InClaim) OutOfMemory) → GaveIn result → OnErr result (after ≡ before)
+      → WentOn meaning faults is_run (is_ok result) before after
+  went-claimed_in (Ok None) did same = went-same meaning faults is_run true before after did.0
+  went-claimed_in (Ok (Some claim)) did same = went-happened meaning lawful faults is_run before after is true (event.Run claim.tid) refl refl did.0
+  went-claimed_in (Err why) did same = went-same meaning faults is_run false before after same
+
+  module _ (claim : InClaim) (did : ClaimedIn (meaning before.world.rules) faults before after system (Some claim)) where
+    world-claimed_in : after.world ≡ with_claim before.world claim.tid system In
+    world-claimed_in =
+        let was = did.0 in was.world ∙ run-after (meaning before.world.rules) (lawful before.world.rules) before.world is.safe system claim.tid did.1
+
+    pub finished-claimed_in : finished_in after.world ≡ finished_in before.world
+    finished-claimed_in = ap finished_in world-claimed_in
+
+    pub is-executed : IsExecuted (meaning before.world.rules) before.world after.world system claim
+    is-executed =
+        let made = did.4 in
+        record {
+          first = did.2;
+          claims = ap (λ (w : World R). w.claims) world-claimed_in
+              ∙ ap (λ (n : ℕ). before.world.claims ++ record { number = n; tid = claim.tid; system = system; kind = In } ∷ []) (sym made.next)
+              ∙ ap (λ (s : ℕ). before.world.claims ++ record { number = claim.number; tid = claim.tid; system = s; kind = In } ∷ []) (sym did.3);
+          fresh = subst (λ n. claim_of n before.world.claims ≡ None) (sym made.next)
+              (next-fresh (meaning before.world.rules) (lawful before.world.rules) before.world is.safe);
+        }
+
+  pub finished-in : (result : Result (Option InClaim) OutOfMemory) → GaveIn result → OnErr result (after ≡ before)
+      → finished_in after.world ≡ finished_in before.world
+  finished-in (Ok None) did same = ap (λ (k : KeptOf R A V). finished_in k.world) did.0
+  finished-in (Ok (Some claim)) did same = finished-claimed_in claim did
+  finished-in (Err why) did same = ap (λ (k : KeptOf R A V). finished_in k.world) same
+
+  pub executed-in : (result : Result (Option InClaim) OutOfMemory) → GaveIn result
+      → IfOk result (λ found. IfSome found (IsExecuted (meaning before.world.rules) before.world after.world system))
+  executed-in (Ok None) did = tt
+  executed-in (Ok (Some claim)) did = is-executed claim did
+  executed-in (Err why) did = tt

@@ -1,0 +1,26 @@
+-- Lemmas on works. Each file stands on those before it.
+
+-- what a record, a claim and a fall make of the counts and the claims of a world
+pub mod WorldLemmas
+-- claims that are made last
+pub mod ClaimLemmas
+-- what an event makes of the states of systems
+pub mod StateLemmas
+-- a system falls as it is to append a record
+pub mod FellLemmas
+-- how a landscape goes on
+pub mod WentLemmas
+-- a unit is claimed
+pub mod ClaimingLemmas
+-- a unit that is shipped arrives
+pub mod ArrivingLemmas
+-- the work of a claim ends
+pub mod EndingLemmas
+-- a shipment is replied to
+pub mod ReplyingLemmas
+-- a unit is confirmed
+pub mod ConfirmingLemmas
+-- works one after the other
+pub mod WorkedLemmas
+-- works until none is left
+pub mod DrainedLemmas

@@ -1,0 +1,184 @@
+-- A shipment is replied to: nothing has ended, and its claim is gone.
+use Rattle.std.specs.Prelude.{Result, Ok, Err, filter}
+use Rattle.std.proofs.Common.{◌≡◌, ◌==◌, ◌+◌, ◌&&◌, ℕ, not, true, false, cond, Some, List, [], inl, inr, refl, ap, ◌∙◌, arith}
+use Rattle.std.proofs.lemmas.Bool.{both_ways, cond_both}
+use Rattle.ale_base.specs.Tid.{is_tid}
+use Rattle.ale_base.specs.declared.mark.Mark.TheVariants.{Cpicerr}
+use Rattle.unit_core.specs.declared.records.Record.{Record}
+use Rattle.unit_core.specs.declared.records.Record.TheVariants as log
+use Rattle.trfc_protocol.specs.declared.event.CoreAnswer.TheVariants as core
+use Rattle.trfc_protocol.specs.declared.event.Event.{Event}
+use Rattle.trfc_protocol.specs.declared.event.Event.TheVariants as event
+use Rattle.trfc_protocol.specs.declared.event.ReplyTo.TheVariants.{Claim}
+use Rattle.trfc_protocol.specs.declared.held.Held.{Held}
+use Rattle.trfc_protocol.specs.declared.world.World.{World}
+use Rattle.trfc_protocol.specs.Happens.{happens}
+use Rattle.trfc_protocol.specs.Legal.{IsLawful}
+use Rattle.trfc_protocol.specs.Meaning.{Meaning}
+use Rattle.trfc_protocol.specs.Worlds.{claim_of, without_claim}
+use Rattle.kept_world.specs.Kept.{KeptOf}
+use Rattle.world_tables.specs.Joining.{after_record}
+use Rattle.unit_landscape.specs.declared.answers.Replied.{Replied}
+use Rattle.unit_landscape.specs.declared.answers.Replied.TheVariants as replied
+use Rattle.unit_landscape.specs.declared.answers.Reply.{Reply}
+use Rattle.unit_landscape.specs.declared.answers.Reply.TheVariants as reply
+use Rattle.unit_landscape.specs.declared.answers.WorkEnd.{WorkEnd}
+use Rattle.unit_landscape.specs.declared.answers.WorkEnd.TheVariants as end
+use Rattle.unit_landscape.specs.declared.claims.OutClaim.{OutClaim}
+use Rattle.unit_landscape.specs.Appending.{HoldsOut, record_of_receipt, record_of_refusal}
+use Rattle.unit_landscape.specs.Calls.{RepliedAs, is_refused, reply_event, stands_out, was_received}
+use Rattle.unit_landscape.specs.Ends.{Happened}
+use Rattle.unit_landscape.specs.Kept.{IsLandscape}
+use Rattle.unit_landscape.specs.Writes.{Appends}
+use Rattle.unit_landscape.proofs.EventLemmas.{event-after, event-up}
+use Rattle.unit_landscape.proofs.ReplyingLemmas.{busy-after, lost-appends, out-number, receipt-appends, refusal-appends}
+use Rattle.unit_works.specs.Events.{is_reply}
+use Rattle.unit_works.specs.Finished.{finished_in, is_ending}
+use Rattle.unit_works.specs.Went.{WentOn}
+use Rattle.unit_works.specs.Claims.{AreOrGone}
+use Rattle.unit_works.specs.steps.Claims.{AreWithOut, out_held}
+use Rattle.unit_works.proofs.ClaimLemmas.{held-out, found-last, stands-found_out, without-last}
+use Rattle.unit_works.proofs.FellLemmas.{finished-fell, claims-fell}
+use Rattle.unit_works.proofs.StateLemmas.{is_step}
+use Rattle.unit_works.proofs.WentLemmas.{went-same, went-happened, went-fell, went-short, went-whole}
+use Rattle.unit_works.proofs.WorldLemmas.{finished-record, claims-record}
+
+-- the claim of this number went, and nothing has ended
+record HasClosed {R : Type 0} (before after : World R) (number : ℕ) : Type 0 where
+  count : finished_in after ≡ finished_in before
+  claims : after.claims ≡ filter (λ (h : Held). not (h.number == number)) before.claims
+
+module _ {R A V : Type 0} (meaning : R → Meaning) (lawful : (r : R) → IsLawful (meaning r)) (before : KeptOf R A V) (is : IsLandscape meaning before.world)
+    (claim : OutClaim) (given : Reply) (faults : V → ℕ → ℕ) (after : KeptOf R A V) where
+  abbrev ItsEvent : Event
+  ItsEvent = reply_event (meaning before.world.rules) before.world claim given
+
+  -- the event of a reply goes with it
+  is_reply-event : (answer : Reply) → is_reply answer (reply_event (meaning before.world.rules) before.world claim answer) ≡ true
+  is_reply-event (reply.Done receipt) =
+      cond_both (is_tid receipt.tid claim.tid && was_received (meaning before.world.rules) before.world claim.tid)
+      (event.Reply (Claim claim.number core.Done)) (event.LoseReply claim.number) (λ e. is_reply (reply.Done receipt) e ≡ true) (λ _. refl) (λ _. refl)
+  is_reply-event reply.SysFail =
+      cond_both (is_refused (meaning before.world.rules) before.world claim.tid)
+      (event.Reply (Claim claim.number core.SysFail)) (event.LoseReply claim.number) (λ e. is_reply reply.SysFail e ≡ true) (λ _. refl) (λ _. refl)
+  is_reply-event reply.Lost = refl
+  is_reply-event reply.Busy = refl
+
+  step-reply : (answer : Reply) → is_step (reply_event (meaning before.world.rules) before.world claim answer) ≡ true
+  step-reply (reply.Done receipt) =
+      cond_both (is_tid receipt.tid claim.tid && was_received (meaning before.world.rules) before.world claim.tid)
+      (event.Reply (Claim claim.number core.Done)) (event.LoseReply claim.number) (λ e. is_step e ≡ true) (λ _. refl) (λ _. refl)
+  step-reply reply.SysFail =
+      cond_both (is_refused (meaning before.world.rules) before.world claim.tid)
+      (event.Reply (Claim claim.number core.SysFail)) (event.LoseReply claim.number) (λ e. is_step e ≡ true) (λ _. refl) (λ _. refl)
+  step-reply reply.Lost = refl
+  step-reply reply.Busy = refl
+
+  pub went-replied : (result : Result Replied WorkEnd) → RepliedAs (meaning before.world.rules) faults before after claim given result
+      → (result ≡ Err end.OutOfMemory → ⊥) → WentOn meaning faults (is_reply given) true before after
+  went-replied (Ok replied.Recorded) did other =
+      went-happened meaning lawful faults (is_reply given) before after is true ItsEvent (step-reply given) (is_reply-event given) did.2
+  went-replied (Ok replied.Released) did other =
+      went-happened meaning lawful faults (is_reply given) before after is true ItsEvent (step-reply given) (is_reply-event given) did.2
+  went-replied (Ok replied.Down) did other =
+      went-fell meaning lawful faults (is_reply given) before after is (λ system kept works. works) true ItsEvent (step-reply given) did.1
+  went-replied (Err end.Stale) did other = went-same meaning faults (is_reply given) true before after did.1
+  went-replied (Err end.OutOfMemory) did other = absurd (other refl)
+
+  -- the same where memory may be wanting
+  pub went-replied_short : (result : Result Replied WorkEnd) → RepliedAs (meaning before.world.rules) faults before after claim given result
+      → WentOn meaning faults (is_reply given) false before after
+  went-replied_short (Ok done) did = went-whole meaning faults (is_reply given) false before after (went-replied (Ok done) did (λ is. cc))
+  went-replied_short (Err end.Stale) did = went-same meaning faults (is_reply given) false before after did.1
+  went-replied_short (Err end.OutOfMemory) did =
+      went-short meaning lawful faults (is_reply given) before after is (λ system kept works. works) ItsEvent (step-reply given) (is_reply-event given) did.1
+
+  -- the record of a reply
+  closed-by : (held : Held) → HoldsOut before.world claim held → (e : Event) (next : Record)
+      → Appends (meaning before.world.rules) before.world held.system next (Some held.number) e
+      → is_ending next ≡ false → after.world ≡ happens (meaning before.world.rules) before.world e → HasClosed before.world after.world claim.number
+  closed-by held holds e next appends plain same =
+      let up = event-up (meaning before.world.rules) (lawful before.world.rules) before.world is.safe is.writable e held.system next (Some held.number)
+      appends in
+      let world : after.world ≡ after_record before.world held.system next (Some held.number) =
+      same ∙ event-after (meaning before.world.rules) (lawful before.world.rules) before.world is.safe is.writable e held.system next (Some held.number)
+      appends in
+      let count : finished_in after.world ≡ finished_in before.world + 0 =
+      ap finished_in world ∙ finished-record before.world held.system next (Some held.number) up ∙ ap (λ b. finished_in before.world + cond b 1 0) plain in
+      record {
+        count = omega (arith, count);
+        claims = ap (λ (w : World R). w.claims) world ∙ claims-record before.world held.system next (Some held.number)
+            ∙ ap (λ n. filter (λ (h : Held). not (h.number == n)) before.world.claims) (out-number before.world claim held holds);
+      }
+
+  recorded : (held : Held) → HoldsOut before.world claim held → (answer : Reply) → (answer ≡ reply.Busy → ⊥)
+      → after.world ≡ happens (meaning before.world.rules) before.world (reply_event (meaning before.world.rules) before.world claim answer)
+      → HasClosed before.world after.world claim.number
+  recorded held holds (reply.Done receipt) other same =
+      let counts = is_tid receipt.tid held.tid && was_received (meaning before.world.rules) before.world held.tid in
+      closed-by held holds (reply_event (meaning before.world.rules) before.world claim (reply.Done receipt)) (record_of_receipt held.tid counts)
+      (receipt-appends (meaning before.world.rules) (lawful before.world.rules) before.world is.safe claim held holds receipt counts refl)
+      (cond_both counts (log.Done held.tid) (log.Mark held.tid Cpicerr) (λ next. is_ending next ≡ false) (λ _. refl) (λ _. refl)) same
+  recorded held holds reply.SysFail other same =
+      let refused = is_refused (meaning before.world.rules) before.world held.tid in
+      closed-by held holds (reply_event (meaning before.world.rules) before.world claim reply.SysFail) (record_of_refusal held.tid refused)
+      (refusal-appends (meaning before.world.rules) (lawful before.world.rules) before.world is.safe claim held holds refused refl) refl same
+  recorded held holds reply.Lost other same =
+      closed-by held holds (reply_event (meaning before.world.rules) before.world claim reply.Lost) (log.Mark held.tid Cpicerr)
+      (lost-appends (meaning before.world.rules) (lawful before.world.rules) before.world is.safe claim held holds) refl same
+  recorded held holds reply.Busy other same = absurd (other refl)
+
+  -- a claim that is given up
+  released : given ≡ reply.Busy → stands_out before.world claim ≡ true → Happened (meaning before.world.rules) faults before after ItsEvent
+      → HasClosed before.world after.world claim.number
+  released busy stands did =
+      let there = held-out before.world claim stands in
+      let held : Held = there.0 in
+      let world : after.world ≡ without_claim before.world held.number =
+      did.world ∙ ap (λ (r : Reply). happens (meaning before.world.rules) before.world (reply_event (meaning before.world.rules) before.world claim r)) busy
+      ∙ busy-after before.world claim held there.1 (meaning before.world.rules) in
+      record {
+        count = ap finished_in world;
+        claims = ap (λ (w : World R). w.claims) world
+            ∙ ap (λ n. filter (λ (h : Held). not (h.number == n)) before.world.claims) (out-number before.world claim held there.1);
+      }
+
+  recorded-is : stands_out before.world claim ≡ true → (given ≡ reply.Busy → ⊥) → Happened (meaning before.world.rules) faults before after ItsEvent
+      → HasClosed before.world after.world claim.number
+  recorded-is stands other did = let there = held-out before.world claim stands in recorded there.0 there.1 given other did.world
+
+  pub finished-replied : (result : Result Replied WorkEnd) → RepliedAs (meaning before.world.rules) faults before after claim given result
+      → (result ≡ Err end.OutOfMemory → ⊥) → finished_in after.world ≡ finished_in before.world
+  finished-replied (Ok replied.Recorded) did other = let closed = recorded-is did.0 did.1 did.2 in closed.count
+  finished-replied (Ok replied.Released) did other = let closed = released did.1 did.0 did.2 in closed.count
+  finished-replied (Ok replied.Down) did other = finished-fell meaning lawful faults before after is ItsEvent did.1
+  finished-replied (Err end.Stale) did other = let same = did.1 in ap (λ (k : KeptOf R A V). finished_in k.world) same
+  finished-replied (Err end.OutOfMemory) did other = absurd (other refl)
+
+  -- ---- the claims
+
+  left-by : (others : List Held) → AreWithOut before.world.claims others claim → HasClosed before.world after.world claim.number
+      → AreOrGone after.world.claims others
+  left-by others with closed = elim with.are [
+    | inl are ↦ inl (closed.claims ∙ ap (filter (λ (h : Held). not (h.number == claim.number))) are
+        ∙ without-last claim.number others (out_held claim) refl with.fresh)
+    | inr gone ↦ inr (closed.claims ∙ ap (filter (λ (h : Held). not (h.number == claim.number))) gone)
+  ]
+
+  stale-gone : (others : List Held) → AreWithOut before.world.claims others claim → stands_out before.world claim ≡ false → before.world.claims ≡ []
+  stale-gone others with stale = elim with.are [
+    | inl are ↦
+        absurd (both_ways (stands_out before.world claim) stale
+        (stands-found_out before.world claim (out_held claim)
+        (ap (claim_of claim.number) are ∙ found-last claim.number others (out_held claim) refl with.fresh) refl refl))
+    | inr gone ↦ gone
+  ]
+
+  pub claims-replied : (result : Result Replied WorkEnd) → RepliedAs (meaning before.world.rules) faults before after claim given result
+      → (result ≡ Err end.OutOfMemory → ⊥) → (others : List Held) → AreWithOut before.world.claims others claim → AreOrGone after.world.claims others
+  claims-replied (Ok replied.Recorded) did other others with = left-by others with (recorded-is did.0 did.1 did.2)
+  claims-replied (Ok replied.Released) did other others with = left-by others with (released did.1 did.0 did.2)
+  claims-replied (Ok replied.Down) did other others with = inr (claims-fell meaning lawful faults before after is ItsEvent did.1)
+  claims-replied (Err end.Stale) did other others with =
+      let same = did.1 in inr (ap (λ (k : KeptOf R A V). k.world.claims) same ∙ stale-gone others with did.0)
+  claims-replied (Err end.OutOfMemory) did other others with = absurd (other refl)

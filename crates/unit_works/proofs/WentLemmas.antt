@@ -1,0 +1,457 @@
+-- How a landscape goes on.
+use Rattle.std.specs.Prelude.{slice_get}
+use Rattle.std.specs.List.{list_all}
+use Rattle.std.specs.Option.{unwrap_or}
+use Rattle.std.proofs.Common.{◌≡◌, ◌≢◌, ◌≤◌, ◌-◌, ◌^◌, ℕ, Bool, true, false, ◌&&◌, Option, Some, None, List, [], ◌∷◌, ◌++◌, inl, inr, refl, sym, ap, subst, ◌∙◌, arith}
+use Rattle.std.proofs.lemmas.Bool.{and_parts, and_from, both_ways, cases_Bool, cases_eq}
+use Rattle.std.proofs.lemmas.List.Folds.{list_all-append}
+use Rattle.ale_base.specs.Tid.{TidOf}
+use Rattle.unit_core.specs.declared.ale_unit.AleUnit.{AleUnit}
+use Rattle.unit_core.specs.declared.records.Record.{Record}
+use Rattle.unit_codec.specs.Entries.{entry_with}
+use Rattle.trfc_protocol.specs.declared.event.Event.{Event}
+use Rattle.trfc_protocol.specs.declared.event.Event.TheVariants.{Fall}
+use Rattle.trfc_protocol.specs.declared.world.World.{World}
+use Rattle.trfc_protocol.specs.Happens.{happens, run}
+use Rattle.trfc_protocol.specs.Legal.{IsLawful, may_follow}
+use Rattle.trfc_protocol.specs.Meaning.{Meaning}
+use Rattle.trfc_protocol.specs.RecordOf.{Writing, record_of}
+use Rattle.trfc_protocol.specs.Worlds.{committed_unit, is_up, log_of, log_or_none, rest_of, rest_or_none, state_of, up_or_not, with_fall}
+use Rattle.trfc_protocol.proofs.EventLemmas.{Safe-step}
+use Rattle.trfc_protocol.proofs.RecordLemmas.{MayWrite-record}
+use Rattle.trfc_protocol.proofs.WorldLemmas.{is_up-known, state_of-least}
+use Rattle.system_journals.specs.declared.journals.SystemJournals.{SystemJournals}
+use Rattle.system_journals.specs.Changes.{OnlyAt}
+use Rattle.system_journals.specs.OnDisk.{full_at, last_moment, later, moment_of, next_moment}
+use Rattle.kept_world.specs.Kept.{KeptOf}
+use Rattle.unit_landscape.specs.Ends.{NoFaults, Happened, Failed, FellBehind, Stays, FellInstead, IsShort, Overflowed}
+use Rattle.unit_landscape.specs.Kept.{IsLandscape}
+use Rattle.unit_landscape.specs.Writes.{IsTooLong, MomentsAs}
+use Rattle.unit_landscape.proofs.EndsLemmas.{falls-up}
+use Rattle.unit_works.specs.Events.{is_works_record, is_works_rest}
+use Rattle.unit_works.specs.Went.{HasCause, HasNotFallen, HasRisen, IsUnfit, StaysDown, WentOn}
+use Rattle.unit_works.proofs.FellLemmas.{fell-failed, fell-full, fell-up}
+use Rattle.unit_works.proofs.StateLemmas.{IsOfWorks, fall-committed, fall-down, fall-is_down, fall-log, fall-only, fall-rest, is_step, step-committed, step-down, step-sent, step-up, step-works}
+
+-- ---- one after the other
+
+-- events one after the other, and then more of them
+run-append : {R : Type 0} (meaning : R → Meaning) (world : World R) (events more : List Event)
+    → run meaning world (events ++ more) ≡ run meaning (run meaning world events) more
+run-append meaning world [] more = refl
+run-append meaning world (e ∷ events) more = run-append meaning (happens (meaning world.rules) world e) events more
+
+not_fallen-on : (a b c : ℕ) → HasNotFallen a b → HasNotFallen b c → HasNotFallen a c
+not_fallen-on a b c first second = elim second [
+  | inl least ↦ elim first [
+    | inl lower ↦ inl (omega arith)
+    | inr end ↦ inr (omega arith)
+  ]
+  | inr end ↦ inr end
+]
+
+risen-then : (a b c : ℕ) → HasRisen a b → HasNotFallen b c → HasRisen a c
+risen-then a b c first second = elim second [
+  | inl least ↦ elim first [
+    | inl lower ↦ inl (omega arith)
+    | inr end ↦ inr (omega arith)
+  ]
+  | inr end ↦ inr end
+]
+
+then-risen : (a b c : ℕ) → HasNotFallen a b → HasRisen b c → HasRisen a c
+then-risen a b c first second = elim second [
+  | inl least ↦ elim first [
+    | inl lower ↦ inl (omega arith)
+    | inr end ↦ inr (omega arith)
+  ]
+  | inr end ↦ inr end
+]
+
+all-wider : (may might : Event → Bool) (events : List Event) → ((e : Event) → may e ≡ true → might e ≡ true) → list_all may events ≡ true
+    → list_all might events ≡ true
+all-wider may might [] wider each = refl
+all-wider may might (e ∷ events) wider each =
+    let parts = and_parts (may e) (list_all may events) each in
+    and_from (might e) (list_all might events) (wider e parts.0) (all-wider may might events wider parts.1)
+
+module _ {R A V : Type 0} (meaning : R → Meaning) (faults : V → ℕ → ℕ) (before between after : KeptOf R A V) (system : ℕ) where
+  -- a record that did not fit does not where its system stays down
+  unfit-still : (rules : after.world.rules ≡ between.world.rules)
+      → ((tid : TidOf) (unit : AleUnit) → committed_unit (meaning between.world.rules) between.world tid ≡ Some unit
+      → committed_unit (meaning after.world.rules) after.world tid ≡ Some unit)
+      → StaysDown between after system → IsUnfit meaning faults before between system → IsUnfit meaning faults before after system
+  unfit-still rules committed stays unfit =
+      let long = unfit.long in
+      record {
+        next = unfit.next;
+        works = unfit.works;
+        may = ap (λ (r : R). may_follow (meaning r) system (log_of after.world system) unfit.next) rules
+            ∙ ap (λ l. may_follow (meaning between.world.rules) system l unfit.next) stays.log ∙ unfit.may;
+        sent = λ unit takes. committed unit.tid unit (unfit.sent unit takes);
+        size = unfit.size;
+        long = record {
+          journal = long.journal;
+          here = stays.journal ∙ long.here;
+          long = long.long ∙ ap (λ m. full_at long.journal (entry_with m unfit.next)) (sym stays.moment);
+          over = long.over;
+        };
+      }
+
+  -- a record that does not fit at last did not
+  unfit-last : IsUnfit meaning faults between after system → IsUnfit meaning faults before after system
+  unfit-last unfit = record { next = unfit.next; works = unfit.works; may = unfit.may; sent = unfit.sent; size = unfit.size; long = unfit.long }
+
+  -- a system that fell at last did so for its cause
+  cause-last : (rest : Option Record) → HasNotFallen (faults before.vols (system - 1)) (faults between.vols (system - 1))
+      → HasCause meaning faults between after system rest → HasCause meaning faults before after system rest
+  cause-last (Some next) held cause =
+      then-risen (faults before.vols (system - 1)) (faults between.vols (system - 1)) (faults after.vols (system - 1)) held cause
+  cause-last None held cause = unfit-last cause
+
+  -- so did one that fell before, and stays down
+  cause-first : (rest : Option Record) → (rules : after.world.rules ≡ between.world.rules)
+      → ((tid : TidOf) (unit : AleUnit) → committed_unit (meaning between.world.rules) between.world tid ≡ Some unit
+      → committed_unit (meaning after.world.rules) after.world tid ≡ Some unit)
+      → HasNotFallen (faults between.vols (system - 1)) (faults after.vols (system - 1)) → StaysDown between after system
+      → HasCause meaning faults before between system rest → HasCause meaning faults before after system rest
+  cause-first (Some next) rules committed holds stays cause =
+      risen-then (faults before.vols (system - 1)) (faults between.vols (system - 1)) (faults after.vols (system - 1)) cause holds
+  cause-first None rules committed holds stays cause = unfit-still rules committed stays cause
+
+-- a system that is up has a number from 1 on
+up-least : {R : Type 0} (world : World R) (system : ℕ) → is_up world system ≡ true → 1 ≤ system
+up-least world system up = let known = is_up-known world system up in state_of-least world.systems system known.0 known.1
+
+module _ {R A V : Type 0} (meaning : R → Meaning) (faults : V → ℕ → ℕ) (may : Event → Bool) where
+  -- nothing has happened
+  went-nowhere : (whole : Bool) (kept : KeptOf R A V) → WentOn meaning faults may whole kept kept
+  went-nowhere whole kept = record {
+    events = [];
+    each = refl;
+    world = refl;
+    rules = refl;
+    committed = λ tid unit named. named;
+    moment = refl;
+    counts = λ place. inl (omega arith);
+    unharmed = λ system least up. refl;
+    stays = λ system least down. record { down = down; rest = refl; log = refl; journal = refl; moment = refl };
+    falls = λ is system up down. absurd (both_ways (is_up kept.world system) down up);
+  }
+
+  pub went-same : (whole : Bool) (before after : KeptOf R A V) → after ≡ before → WentOn meaning faults may whole before after
+  went-same whole before after same = subst (WentOn meaning faults may whole before) (sym same) (went-nowhere whole before)
+
+  -- whole work is work
+  pub went-whole : (whole : Bool) (before after : KeptOf R A V) → WentOn meaning faults may true before after → WentOn meaning faults may whole before after
+  went-whole whole before after went = record {
+    events = went.events;
+    each = went.each;
+    world = went.world;
+    rules = went.rules;
+    committed = went.committed;
+    moment = went.moment;
+    counts = went.counts;
+    unharmed = went.unharmed;
+    stays = went.stays;
+    falls = λ is. went.falls refl;
+  }
+
+  -- on and on
+  pub went-on : (whole : Bool) (before between after : KeptOf R A V) → WentOn meaning faults may true before between
+      → WentOn meaning faults may whole between after
+      → WentOn meaning faults may whole before after
+  went-on whole before between after first second = record {
+    events = first.events ++ second.events;
+    each = list_all-append may first.events second.events ∙ and_from (list_all may first.events) (list_all may second.events) first.each second.each;
+    world = second.world ∙ ap (λ (w : World R). run meaning w second.events) first.world ∙ sym (run-append meaning before.world first.events second.events);
+    rules = second.rules ∙ first.rules;
+    committed = λ tid unit named. second.committed tid unit (first.committed tid unit named);
+    moment = second.moment ∙ first.moment;
+    unharmed = λ system least up. elim (cases_Bool (is_up between.world system)) [
+      | inl still ↦ second.unharmed system least up ∙ first.unharmed system least still
+      | inr down ↦ let stays = second.stays system least down in absurd (both_ways (is_up after.world system) stays.down up)
+    ];
+    counts = λ place. not_fallen-on (faults before.vols place) (faults between.vols place) (faults after.vols place) (first.counts place)
+        (second.counts place);
+    stays = λ system least down.
+        let one = first.stays system least down in
+        let two = second.stays system least one.down in
+        record { down = two.down; rest = two.rest ∙ one.rest; log = two.log ∙ one.log; journal = two.journal ∙ one.journal; moment = two.moment ∙ one.moment };
+    falls = λ is system up down. elim (cases_Bool (is_up between.world system)) [
+      | inl still ↦ cause-last meaning faults before between after system (rest_of after.world system) (first.counts (system - 1))
+          (second.falls is system still down)
+      | inr fell ↦
+          let stays = second.stays system (up-least before.world system up) fell in
+          subst (HasCause meaning faults before after system) (sym stays.rest)
+          (cause-first meaning faults before between after system (rest_of between.world system) second.rules second.committed (second.counts (system - 1))
+          stays (first.falls refl system up fell))
+    ];
+  }
+
+  -- where more may happen
+  pub went-wider : (whole : Bool) (might : Event → Bool) (before after : KeptOf R A V) → ((e : Event) → may e ≡ true → might e ≡ true)
+      → WentOn meaning faults may whole before after → WentOn meaning faults might whole before after
+  went-wider whole might before after wider went = record {
+    events = went.events;
+    each = all-wider may might went.events wider went.each;
+    world = went.world;
+    rules = went.rules;
+    committed = went.committed;
+    moment = went.moment;
+    counts = went.counts;
+    unharmed = went.unharmed;
+    stays = went.stays;
+    falls = went.falls;
+  }
+
+-- ---- what became of an event
+
+-- the journals of other systems are as they were
+still-other : (before after : SystemJournals) (place other : ℕ) → OnlyAt place before after → other ≢ place
+    → (slice_get after.journals other ≡ slice_get before.journals other) × (next_moment after other ≡ next_moment before other)
+still-other before after place other only differs =
+    let same = only.others other differs in (
+      same.journal,
+      ap (λ m. later m (last_moment (unwrap_or (slice_get after.moments other) []))) only.moment
+          ∙ ap (λ moments. later before.moment (last_moment (unwrap_or moments []))) same.moments,
+    )
+
+module _ {R A V : Type 0} (meaning : R → Meaning) (lawful : (r : R) → IsLawful (meaning r)) (faults : V → ℕ → ℕ) (may : Event → Bool)
+    (before after : KeptOf R A V)
+    (is : IsLandscape meaning before.world) where
+  counted-same : NoFaults (meaning before.world.rules) faults before after → (place : ℕ) → HasNotFallen (faults before.vols place) (faults after.vols place)
+  counted-same none place = let same = none place in inl (omega arith)
+
+  -- a system that is down is other than one that is up, and so is its journal
+  places-differ : (system other : ℕ) → is_up before.world system ≡ true → 1 ≤ other → is_up before.world other ≡ false → other - 1 ≢ system - 1
+  places-differ system other up least down same =
+      let lowest = up-least before.world system up in
+      let equal : other ≡ system = omega (arith, same) in
+      both_ways (is_up before.world system) (sym (ap (is_up before.world) equal) ∙ down) up
+
+  same-state : (other : ℕ) → is_up before.world other ≡ false → state_of after.world.systems other ≡ state_of before.world.systems other
+      → slice_get after.journals.journals (other - 1) ≡ slice_get before.journals.journals (other - 1)
+      → next_moment after.journals (other - 1) ≡ next_moment before.journals (other - 1) → StaysDown before after other
+  same-state other down state journal moment = record {
+    down = ap up_or_not state ∙ down;
+    rest = ap rest_or_none state;
+    log = ap log_or_none state;
+    journal = journal;
+    moment = moment;
+  }
+
+  same-journals : after.journals ≡ before.journals → (other : ℕ)
+      → (slice_get after.journals.journals (other - 1) ≡ slice_get before.journals.journals (other - 1))
+      × (next_moment after.journals (other - 1) ≡ next_moment before.journals (other - 1))
+  same-journals same other = (ap (λ (j : SystemJournals). slice_get j.journals (other - 1)) same, ap (λ (j : SystemJournals). next_moment j (other - 1)) same)
+
+  -- a record leaves the journals of systems that are down
+  moments-still : (e : Event) (found : Option Writing) → record_of (meaning before.world.rules) before.world e ≡ found
+      → MomentsAs before.journals after.journals found
+      → (other : ℕ) → 1 ≤ other → is_up before.world other ≡ false
+      → (slice_get after.journals.journals (other - 1) ≡ slice_get before.journals.journals (other - 1))
+      × (next_moment after.journals (other - 1) ≡ next_moment before.journals (other - 1))
+  moments-still e None writes same other least down = same-journals same other
+  moments-still e (Some it) writes more other least down =
+      let up = (MayWrite-record (meaning before.world.rules) (lawful before.world.rules) before.world is.safe e it writes).up in
+      still-other before.journals after.journals (it.system - 1) (other - 1) more.one (places-differ it.system other up least down)
+
+  by-rules : (rules : after.world.rules ≡ before.world.rules) → ((tid : TidOf)
+      → committed_unit (meaning before.world.rules) after.world tid ≡ committed_unit (meaning before.world.rules) before.world tid)
+      → (tid : TidOf) (unit : AleUnit) → committed_unit (meaning before.world.rules) before.world tid ≡ Some unit
+      → committed_unit (meaning after.world.rules) after.world tid ≡ Some unit
+  by-rules rules same tid unit named = ap (λ (r : R). committed_unit (meaning r) after.world tid) rules ∙ same tid ∙ named
+
+  moments-moment : (found : Option Writing) → MomentsAs before.journals after.journals found → moment_of after.journals ≡ moment_of before.journals
+  moments-moment None same = ap (λ (j : SystemJournals). moment_of j) same
+  moments-moment (Some it) more = let only = more.one in only.moment
+
+  -- an event happened
+  pub went-happened : (whole : Bool) (e : Event) → is_step e ≡ true → may e ≡ true → Happened (meaning before.world.rules) faults before after e
+      → WentOn meaning faults may whole before after
+  went-happened whole e step is_may did = record {
+    events = e ∷ [];
+    each = and_from (may e) true is_may refl;
+    world = did.world;
+    rules = (Safe-step meaning lawful before.world after.world e is.safe did.world).0;
+    committed = by-rules (Safe-step meaning lawful before.world after.world e is.safe did.world).0
+        (λ tid. ap (λ (w : World R). committed_unit (meaning before.world.rules) w tid) did.world
+        ∙ step-committed (meaning before.world.rules) (lawful before.world.rules) before.world is.safe e step tid);
+    moment = moments-moment (record_of (meaning before.world.rules) before.world e) did.moments;
+    unharmed = λ other least up. did.no_faults (other - 1);
+    counts = counted-same did.no_faults;
+    stays = λ other least down.
+        let journals = moments-still e (record_of (meaning before.world.rules) before.world e) refl did.moments other least down in
+        same-state other down
+        (ap (λ (w : World R). state_of w.systems other) did.world
+        ∙ step-down (meaning before.world.rules) (lawful before.world.rules) before.world is.safe e step other down) journals.0 journals.1;
+    falls = λ is_whole other up down.
+        absurd (both_ways (is_up before.world other)
+        (sym (step-up (meaning before.world.rules) (lawful before.world.rules) before.world is.safe e step other)
+        ∙ sym (ap (λ (w : World R). is_up w other) did.world) ∙ down) up);
+  }
+
+  -- memory was wanting before
+  pub went-stays : (whole : Bool) → Stays (meaning before.world.rules) faults before after → WentOn meaning faults may whole before after
+  went-stays whole did = record {
+    events = [];
+    each = refl;
+    world = did.world;
+    rules = ap (λ (w : World R). w.rules) did.world;
+    committed = by-rules (ap (λ (w : World R). w.rules) did.world) (λ tid. ap (λ (w : World R). committed_unit (meaning before.world.rules) w tid) did.world);
+    moment = ap (λ (j : SystemJournals). moment_of j) did.journals;
+    unharmed = λ other least up. did.no_faults (other - 1);
+    counts = counted-same did.no_faults;
+    stays = λ other least down.
+        let journals = same-journals did.journals other in
+        same-state other down (ap (λ (w : World R). state_of w.systems other) did.world) journals.0 journals.1;
+    falls = λ is_whole other up down. absurd (both_ways (is_up before.world other) (sym (ap (λ (w : World R). is_up w other) did.world) ∙ down) up);
+  }
+
+  module _ (falls : (system : ℕ) (kept : Option Record) → is_works_rest kept ≡ true → may (Fall system kept) ≡ true) where
+    -- a system fell
+    one-fall : (whole : Bool) (system : ℕ) (rest : Option Record) → is_works_rest rest ≡ true → is_up before.world system ≡ true
+        → after.world ≡ happens (meaning before.world.rules) before.world (Fall system rest) → after.world ≡ with_fall before.world system rest
+        → after.journals ≡ before.journals → ((place : ℕ) → HasNotFallen (faults before.vols place) (faults after.vols place))
+        → ((other : ℕ) → 1 ≤ other → is_up after.world other ≡ true → faults after.vols (other - 1) ≡ faults before.vols (other - 1))
+        → HasCause meaning faults before after system rest → WentOn meaning faults may whole before after
+    one-fall whole system rest works up world fall journals counts unharmed cause = record {
+      events = Fall system rest ∷ [];
+      each = and_from (may (Fall system rest)) true (falls system rest works) refl;
+      world = world;
+      rules = (Safe-step meaning lawful before.world after.world (Fall system rest) is.safe world).0;
+      committed = by-rules (Safe-step meaning lawful before.world after.world (Fall system rest) is.safe world).0
+          (λ tid. ap (λ (w : World R). committed_unit (meaning before.world.rules) w tid) fall
+          ∙ fall-committed before.world system up rest (meaning before.world.rules) tid);
+      moment = ap (λ (j : SystemJournals). moment_of j) journals;
+      unharmed = unharmed;
+      counts = counts;
+      stays = λ other least down.
+          let same = same-journals journals other in
+          same-state other down (ap (λ (w : World R). state_of w.systems other) fall ∙ fall-down before.world system up rest other down) same.0 same.1;
+      falls = λ is_whole other was down.
+          let its : other ≡ system = fall-only before.world system up rest other was (sym (ap (λ (w : World R). is_up w other) fall) ∙ down) in
+          subst (λ s. HasCause meaning faults before after s (rest_of after.world s)) (sym its)
+          (subst (HasCause meaning faults before after system) (sym (ap (λ (w : World R). rest_of w system) fall ∙ fall-rest before.world system up rest))
+          cause);
+    }
+
+    failed-counts : (it : Writing) → Failed (meaning before.world.rules) faults before after it → (place : ℕ)
+        → HasNotFallen (faults before.vols place) (faults after.vols place)
+    failed-counts it did place = elim (cases_eq place (it.system - 1)) [
+      | inl here ↦
+          subst (λ p. HasNotFallen (faults before.vols p) (faults after.vols p)) (sym here)
+          (elim (cases_eq (faults after.vols (it.system - 1)) (2 ^ 64 - 1)) [
+            | inl end ↦ inr (omega (arith, end))
+            | inr less ↦ inl (omega (arith, did.rose less))
+          ])
+      | inr other ↦ inl (omega (arith, did.others place other))
+    ]
+
+    failed-risen : (it : Writing) → Failed (meaning before.world.rules) faults before after it
+        → HasRisen (faults before.vols (it.system - 1)) (faults after.vols (it.system - 1))
+    failed-risen it did = elim (cases_eq (faults after.vols (it.system - 1)) (2 ^ 64 - 1)) [
+      | inl end ↦ inr (omega (arith, end))
+      | inr less ↦ inl (did.rose less)
+    ]
+
+    -- it fell at a record that works append
+    works-of : (e : Event) (it : Writing) → is_step e ≡ true → record_of (meaning before.world.rules) before.world e ≡ Some it → is_works_record it.next ≡ true
+    works-of e it step writes =
+        subst (IsOfWorks (meaning before.world.rules) before.world) writes (step-works (meaning before.world.rules) before.world e step)
+
+    -- no other volume failed
+    failed-unharmed : (it : Writing) → is_up before.world it.system ≡ true → Failed (meaning before.world.rules) faults before after it
+        → after.world ≡ with_fall before.world it.system (Some it.next)
+        → (other : ℕ) → 1 ≤ other → is_up after.world other ≡ true → faults after.vols (other - 1) ≡ faults before.vols (other - 1)
+    failed-unharmed it up did fall other least still =
+        did.others (other - 1) (λ same.
+        let lowest = up-least before.world it.system up in
+        let equal : other ≡ it.system = omega (arith, same) in
+        let down = fall-is_down before.world it.system up (Some it.next) in
+        both_ways (is_up after.world it.system) (ap (λ (w : World R). is_up w it.system) fall ∙ down) (subst (λ s. is_up after.world s ≡ true) equal still))
+
+    -- the record that did not fit
+    unfit : (e : Event) (it : Writing) → is_step e ≡ true → record_of (meaning before.world.rules) before.world e ≡ Some it
+        → is_up before.world it.system ≡ true
+        → after.world ≡ with_fall before.world it.system None → Overflowed (meaning before.world.rules) faults before after it
+        → IsUnfit meaning faults before after it.system
+    unfit e it step writes up fall did =
+        let rules : after.world.rules ≡ before.world.rules = (Safe-step meaning lawful before.world after.world (Fall it.system None) is.safe did.world).0 in
+        let same : log_of after.world it.system ≡ log_of before.world it.system =
+        ap (λ (w : World R). log_of w it.system) fall ∙ fall-log before.world it.system up None it.system in
+        record {
+          next = it.next;
+          works = works-of e it step writes;
+          may = ap (λ (r : R). may_follow (meaning r) it.system (log_of after.world it.system) it.next) rules
+              ∙ ap (λ l. may_follow (meaning before.world.rules) it.system l it.next) same
+              ∙ (MayWrite-record (meaning before.world.rules) (lawful before.world.rules) before.world is.safe e it writes).may;
+          sent = λ unit takes.
+              by-rules rules
+              (λ tid. ap (λ (w : World R). committed_unit (meaning before.world.rules) w tid) fall
+              ∙ fall-committed before.world it.system up None (meaning before.world.rules) tid) unit.tid unit
+              (step-sent (meaning before.world.rules) (lawful before.world.rules) before.world is.safe e it writes unit takes);
+          size = did.size;
+          long = subst (λ (j : SystemJournals). IsTooLong j it did.size) (sym did.journals) did.long;
+        }
+
+    pub went-fell : (whole : Bool) (e : Event) → is_step e ≡ true → FellInstead (meaning before.world.rules) faults before after e
+        → WentOn meaning faults may whole before after
+    went-fell whole e step did =
+        let it : Writing = did.0 in
+        let up = fell-up meaning lawful faults before after is e did in
+        elim did.2 [
+          | inl failed ↦
+              one-fall whole it.system (Some it.next) (works-of e it step did.1) up failed.world
+              (fell-failed meaning lawful faults before after is e did failed)
+              failed.journals (failed-counts it failed)
+              (failed-unharmed it up failed (fell-failed meaning lawful faults before after is e did failed)) (failed-risen it failed)
+          | inr full ↦
+              one-fall whole it.system None refl up full.world (fell-full meaning lawful faults before after is e did full) full.journals
+              (λ place. inl (omega (arith, ap (λ (vols : V). faults vols place) full.vols)))
+              (λ other least still. ap (λ (vols : V). faults vols (other - 1)) full.vols)
+              (unfit e it step did.1 up (fell-full meaning lawful faults before after is e did full) full)
+        ]
+
+    -- memory was wanting behind a record
+    behind : (e : Event) (it : Writing) → is_step e ≡ true → may e ≡ true → record_of (meaning before.world.rules) before.world e ≡ Some it
+        → FellBehind (meaning before.world.rules) faults before after e it → WentOn meaning faults may false before after
+    behind e it step is_may writes did =
+        let rules : Meaning = meaning before.world.rules in
+        let law = lawful before.world.rules in
+        let between : World R = happens rules before.world e in
+        let first = Safe-step meaning lawful before.world between e is.safe refl in
+        let by : after.world ≡ happens (meaning between.rules) between (Fall it.system None) =
+        did.world ∙ ap (λ (r : R). happens (meaning r) between (Fall it.system None)) (sym first.0) in
+        let up = (MayWrite-record rules law before.world is.safe e it writes).up in
+        let still : is_up between it.system ≡ true = step-up rules law before.world is.safe e step it.system ∙ up in
+        let fall : after.world ≡ with_fall between it.system None = did.world ∙ falls-up rules between it.system still in
+        record {
+          events = e ∷ Fall it.system None ∷ [];
+          each = and_from (may e) (may (Fall it.system None) && true) is_may (and_from (may (Fall it.system None)) true (falls it.system None refl) refl);
+          world = by;
+          rules = (Safe-step meaning lawful between after.world (Fall it.system None) first.1 by).0 ∙ first.0;
+          committed = by-rules ((Safe-step meaning lawful between after.world (Fall it.system None) first.1 by).0 ∙ first.0)
+              (λ tid. ap (λ (w : World R). committed_unit rules w tid) fall ∙ fall-committed between it.system still None rules tid
+              ∙ step-committed rules law before.world is.safe e step tid);
+          moment = let moments = did.moments in let only = moments.one in only.moment;
+          unharmed = λ other least up_after. did.no_faults (other - 1);
+          counts = counted-same did.no_faults;
+          stays = λ other least down.
+              let moments = did.moments in
+              let journals = still-other before.journals after.journals (it.system - 1) (other - 1) moments.one
+              (places-differ it.system other up least down) in
+              same-state other down
+              (ap (λ (w : World R). state_of w.systems other) fall
+              ∙ fall-down between it.system still None other (step-up rules law before.world is.safe e step other ∙ down)
+              ∙ step-down rules law before.world is.safe e step other down) journals.0 journals.1;
+          falls = λ is_whole. absurd (cc);
+        }
+
+    pub went-short : (e : Event) → is_step e ≡ true → may e ≡ true → IsShort (meaning before.world.rules) faults before after e
+        → WentOn meaning faults may false before after
+    went-short e step is_may did = elim did [
+      | inl stays ↦ went-stays false stays
+      | inr fell ↦ behind e fell.0 step is_may fell.1 fell.2
+    ]

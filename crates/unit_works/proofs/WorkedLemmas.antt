@@ -1,0 +1,289 @@
+-- Works one after the other, of a landscape whose systems work by models.
+use Rattle.std.specs.Prelude.{Result, Ok, Err, IfOk, IsErr, OnOk}
+use Rattle.ale_base.specs.declared.out_of_memory.OutOfMemory.{OutOfMemory}
+use Rattle.std.specs.Result.{is_ok}
+use Rattle.std.proofs.Common.{◌≡◌, ◌+◌, ◌≤◌, ℕ, Bool, true, not, cond, Option, Some, List, inl, inr, refl, sym, ap, subst, ◌∙◌, arith, false}
+use Rattle.std.proofs.lemmas.Bool.{cases_Bool}
+use Rattle.ale_base.specs.Tid.{TidOf}
+use Rattle.trfc_protocol.specs.declared.event.Event.{Event}
+use Rattle.trfc_protocol.specs.declared.event.Event.TheVariants as event
+use Rattle.trfc_protocol.specs.declared.event.ReplyTo.TheVariants.{Claim, Forgotten}
+use Rattle.trfc_protocol.specs.declared.held.Held.{Held}
+use Rattle.trfc_protocol.specs.Legal.{IsLawful}
+use Rattle.trfc_protocol.specs.Meaning.{Meaning}
+use Rattle.kept_world.specs.Kept.{KeptOf}
+use Rattle.unit_landscape.specs.declared.answers.Arrival.{Arrival}
+use Rattle.unit_landscape.specs.declared.answers.Arrival.TheVariants as arrival
+use Rattle.unit_landscape.specs.declared.answers.Reply.{Reply}
+use Rattle.unit_landscape.specs.declared.answers.Reply.TheVariants.{Lost}
+use Rattle.document_tables.specs.declared.document_tables.DocumentTables.{DocumentTables}
+use Rattle.model_rules.specs.declared.model_rules.ModelRules.{ModelRules}
+use Rattle.model_rules.specs.Meaning.{model_meaning}
+use Rattle.model_rules.specs.LawfulLemmas.{lawful}
+use Rattle.unit_landscape.specs.declared.answers.Finished.{Finished}
+use Rattle.unit_landscape.specs.declared.answers.Finished.TheVariants as finished
+use Rattle.unit_landscape.specs.declared.claims.InClaim.{InClaim}
+use Rattle.unit_landscape.specs.declared.claims.OutClaim.{OutClaim}
+use Rattle.wires.specs.declared.letter.Letter.{Letter}
+use Rattle.wires.specs.Wires.{letters_left, next_letter}
+use Rattle.unit_works.specs.Claims.{AreOrGone}
+use Rattle.unit_works.specs.Events.{arrives_under, is_answered_under, is_arrival, is_confirmation, is_confirmed_under, is_confirming, is_delivery, is_end, is_claim, is_run, is_execution, is_lost, is_reply, is_shipping, is_work, told_of}
+use Rattle.unit_works.specs.Finished.{finished_in}
+use Rattle.unit_works.specs.Works.{ExecutedAs, HasTaken, HaveEnded, Lines, ShippedAs, Worked}
+use Rattle.unit_works.specs.steps.Arriving.{ClaimsCome, ClaimsLeft, IsAnswered, run_held}
+use Rattle.unit_works.specs.steps.Claiming.{IsExecuted, IsShipped, in_held}
+use Rattle.unit_works.specs.steps.Claims.{AreWith, AreWithOut}
+use Rattle.unit_works.specs.steps.Ending.{ended_by}
+use Rattle.unit_works.proofs.WentLemmas.{went-on, went-same, went-whole, went-wider}
+
+-- what the rules of a landscape mean
+abbrev pub meaning : ModelRules → Meaning
+meaning rules = model_meaning rules.systems
+
+pub is_lawful : (rules : ModelRules) → IsLawful (meaning rules)
+is_lawful rules = lawful rules.systems rules.least rules.most
+
+-- what follows of an answer holds after it
+pub ok-of : {T E Q : Type 0} (result : Result T E) (P : T → Type 0) → IfOk result P → ((x : T) → P x → Q) → OnOk result Q
+ok-of (Ok x) P is follows = follows x is
+ok-of (Err e) P is follows = tt
+
+-- ---- claims
+
+-- claims that went, or went on, and then went
+pub gone-on : (before between after : List Held) → AreOrGone between before → AreOrGone after between → AreOrGone after before
+gone-on before between after first second = elim second [
+  | inl same ↦ elim first [
+    | inl same_before ↦ inl (same ∙ same_before)
+    | inr gone ↦ inr (same ∙ gone)
+  ]
+  | inr gone ↦ inr gone
+]
+
+-- what an arrival leaves, and another that begins no run
+pub left-on : (given : Arrival) (before between after : List Held) → ClaimsCome before between given → AreOrGone after between → ClaimsLeft after before given
+left-on (arrival.Run claim) before between after come second = record {
+  held = run_held claim;
+  its = record { number = refl; tid = refl; kind = refl };
+  fresh = come.1;
+  are = elim second [
+    | inl same ↦ inl (same ∙ come.0)
+    | inr gone ↦ inr gone
+  ];
+}
+left-on (arrival.New receipt) before between after come second = gone-on before between after come second
+left-on (arrival.Known receipt) before between after come second = gone-on before between after come second
+left-on arrival.Busy before between after come second = gone-on before between after come second
+left-on arrival.SysFail before between after come second = gone-on before between after come second
+left-on arrival.Down before between after come second = gone-on before between after come second
+
+-- ---- events
+
+module _ {V : Type 0} (faults : V → ℕ → ℕ) where
+  pub wider : (may might : Event → Bool) (whole : Bool) (before after : KeptOf ModelRules DocumentTables V) → ((e : Event) → may e ≡ true → might e ≡ true)
+      → Worked faults before after may whole → Worked faults before after might whole
+  wider may might whole before after wide went = went-wider meaning faults may whole might before after wide went
+
+  pub still : (may : Event → Bool) (whole : Bool) (before after : KeptOf ModelRules DocumentTables V) → after ≡ before → Worked faults before after may whole
+  still may whole before after same = went-same meaning faults may whole before after same
+
+  pub on : (may : Event → Bool) (whole : Bool) (before between after : KeptOf ModelRules DocumentTables V) → Worked faults before between may true
+      → Worked faults between after may whole → Worked faults before after may whole
+  on may whole before between after first second = went-on meaning faults may whole before between after first second
+
+  pub part : (may : Event → Bool) (before after : KeptOf ModelRules DocumentTables V) → Worked faults before after may true
+      → Worked faults before after may false
+  part may before after went = went-whole meaning faults may false before after went
+
+  -- a call that ends short did no whole work
+  pub short-of : {T E : Type 0} (may : Event → Bool) (before after : KeptOf ModelRules DocumentTables V) (result : Result T E) → IsErr result
+      → Worked faults before after may false → Worked faults before after may (is_ok result)
+  short-of may before after (Ok done) short went = absurd (cc)
+  short-of may before after (Err why) short went = went
+
+pub arrival-delivers : (letter : Letter) → arrives_under letter ≡ true → (e : Event) → is_arrival e ≡ true → is_delivery letter e ≡ true
+arrival-delivers letter arrives (event.Arrive tid) is = arrives
+arrival-delivers letter arrives (event.Fall system kept) is = is
+arrival-delivers letter arrives _ is = cc
+
+pub end-delivers : (letter : Letter) → arrives_under letter ≡ true → (e : Event) → is_end e ≡ true → is_delivery letter e ≡ true
+end-delivers letter arrives (event.Finish number) is = arrives
+end-delivers letter arrives (event.Fail number) is = arrives
+end-delivers letter arrives (event.Fall system kept) is = is
+end-delivers letter arrives _ is = cc
+
+pub confirmation-confirms : (letter : Letter) → is_confirmed_under letter ≡ true → (e : Event) → is_confirmation e ≡ true → is_confirming letter e ≡ true
+confirmation-confirms letter confirms (event.Confirm tid) is = confirms
+confirmation-confirms letter confirms (event.Reply (Forgotten tid)) is = confirms
+confirmation-confirms letter confirms (event.Fall system kept) is = is
+confirmation-confirms letter confirms _ is = cc
+
+-- all of it is part of a shipment under the letter
+
+pub claim-ships : (letter : Letter) (e : Event) → is_claim e ≡ true → is_shipping letter e ≡ true
+claim-ships letter (event.Claim tid) is = refl
+claim-ships letter _ is = cc
+
+pub delivery-ships : (letter : Letter) (e : Event) → is_delivery letter e ≡ true → is_shipping letter e ≡ true
+delivery-ships letter (event.Arrive tid) is = is
+delivery-ships letter (event.Finish number) is = is
+delivery-ships letter (event.Fail number) is = is
+delivery-ships letter (event.Fall system kept) is = is
+delivery-ships letter _ is = cc
+
+pub confirming-ships : (letter : Letter) (e : Event) → is_confirming letter e ≡ true → is_shipping letter e ≡ true
+confirming-ships letter (event.Confirm tid) is = is
+confirming-ships letter (event.Reply (Forgotten tid)) is = is
+confirming-ships letter (event.Fall system kept) is = is
+confirming-ships letter _ is = cc
+
+pub reply-ships : (letter : Letter) (given : Reply) (e : Event) → is_reply (told_of letter given) e ≡ true → is_shipping letter e ≡ true
+reply-ships letter given (event.Reply (Claim number answer)) is = elim (cases_Bool (is_answered_under letter)) [
+  | inl answered ↦ answered
+  | inr lost ↦ let none = sym is ∙ ap (λ b. not (is_lost (cond b given Lost))) lost in absurd (cc)
+]
+reply-ships letter given (event.LoseReply number) is = refl
+reply-ships letter given (event.Fall system kept) is = is
+reply-ships letter given _ is = cc
+
+pub run-executes : (e : Event) → is_run e ≡ true → is_execution e ≡ true
+run-executes (event.Run tid) is = refl
+run-executes _ is = cc
+
+pub end-executes : (e : Event) → is_end e ≡ true → is_execution e ≡ true
+end-executes (event.Finish number) is = refl
+end-executes (event.Fail number) is = refl
+end-executes (event.Fall system kept) is = is
+end-executes _ is = cc
+
+-- and all of that is work
+
+pub shipping-works : (letter : Letter) (e : Event) → is_shipping letter e ≡ true → is_work e ≡ true
+shipping-works letter (event.Claim tid) is = refl
+shipping-works letter (event.Arrive tid) is = refl
+shipping-works letter (event.Finish number) is = refl
+shipping-works letter (event.Fail number) is = refl
+shipping-works letter (event.Reply to) is = refl
+shipping-works letter (event.LoseReply number) is = refl
+shipping-works letter (event.Confirm tid) is = refl
+shipping-works letter (event.Fall system kept) is = is
+shipping-works letter _ is = cc
+
+pub execution-works : (e : Event) → is_execution e ≡ true → is_work e ≡ true
+execution-works (event.Run tid) is = refl
+execution-works (event.Finish number) is = refl
+execution-works (event.Fail number) is = refl
+execution-works (event.Fall system kept) is = is
+execution-works _ is = cc
+
+pub confirming-works : (letter : Letter) (e : Event) → is_confirming letter e ≡ true → is_work e ≡ true
+confirming-works letter (event.Confirm tid) is = refl
+confirming-works letter (event.Reply (Forgotten tid)) is = refl
+confirming-works letter (event.Fall system kept) is = is
+confirming-works letter _ is = cc
+
+-- ---- what has ended
+
+module _ {V : Type 0} (faults : V → ℕ → ℕ) where
+  pub ended-on : (before between after : KeptOf ModelRules DocumentTables V) (n m : ℕ) → HaveEnded faults before between n → HaveEnded faults between after m
+      → HaveEnded faults before after (n + m)
+  ended-on before between after n m first second = record {
+    finished = let one = first.finished in let two = second.finished in omega (arith, one, two);
+    claims = gone-on before.world.claims between.world.claims after.world.claims first.claims second.claims;
+  }
+
+  pub ended-same : (before after : KeptOf ModelRules DocumentTables V) → after ≡ before → HaveEnded faults before after 0
+  ended-same before after same = record {
+    finished = let count = ap (λ (k : KeptOf ModelRules DocumentTables V). finished_in k.world) same in omega (arith, count);
+    claims = inl (ap (λ (k : KeptOf ModelRules DocumentTables V). k.world.claims) same);
+  }
+
+  -- a unit that was claimed and shipped under its letter
+  pub shipped : (before claimed after : KeptOf ModelRules DocumentTables V) (lines lines_after : Lines) (system : ℕ) (claim : OutClaim) (tid : TidOf)
+      (letter : Letter) (n : ℕ)
+      → Worked faults before claimed is_claim true → finished_in claimed.world ≡ finished_in before.world
+      → IsShipped (meaning before.world.rules) before.world claimed.world system claim
+      → tid ≡ claim.tid → letter ≡ next_letter (letters_left lines tid) → HasTaken tid lines lines_after
+      → Worked faults claimed after (is_shipping letter) true → IsAnswered claimed.world after.world n
+      → ((others : List Held) → AreWithOut claimed.world.claims others claim → AreOrGone after.world.claims others)
+      → ShippedAs faults before after lines lines_after system (Ok (Some n))
+  shipped before claimed after lines lines_after system claim tid letter n went_claim count is its next taken went answered claims = (
+    tid,
+    is.first ∙ ap Some (sym its),
+    taken,
+    subst (λ l. Worked faults before after (is_shipping l) true) next
+        (on faults (is_shipping letter) true before claimed after (wider faults is_claim (is_shipping letter) true before claimed (claim-ships letter)
+        went_claim) went),
+    record {
+      finished = let more = answered.count in omega (arith, count, more);
+      claims = claims before.world.claims (record { fresh = is.fresh; are = inl is.claims });
+    },
+    answered.few,
+  )
+
+  -- a unit that was claimed and executed
+  pub executed : (before claimed after : KeptOf ModelRules DocumentTables V) (system : ℕ) (claim : InClaim) (given : Finished)
+      → Worked faults before claimed is_run true → finished_in claimed.world ≡ finished_in before.world
+      → IsExecuted (meaning before.world.rules) before.world claimed.world system claim
+      → Worked faults claimed after is_end true → finished_in after.world ≡ finished_in claimed.world + ended_by given
+      → ((others : List Held) → AreWith claimed.world.claims others claim → AreOrGone after.world.claims others)
+      → (n : ℕ) → n ≡ ended_by given → ExecutedAs faults before after system (Ok (Some n))
+  executed before claimed after system claim given went_run count is went more claims n told = (
+    claim.tid,
+    is.first,
+    on faults is_execution true before claimed after (wider faults is_run is_execution true before claimed run-executes went_run)
+        (wider faults is_end is_execution true claimed after end-executes went),
+    record {
+      finished = omega (arith, count, more, told);
+      claims = claims before.world.claims
+          (record { held = in_held claim; its = record { number = refl; tid = refl; kind = refl }; fresh = is.fresh; are = inl is.claims });
+    },
+    subst (λ k. k ≤ 1) (sym told) (few given),
+  )
+    where
+      few : (f : Finished) → ended_by f ≤ 1
+      few (finished.Executed receipt) = omega arith
+      few finished.Failed = omega arith
+      few finished.Down = omega arith
+
+  -- where memory is wanting, what was done is work
+  pub shipped-short : (before after : KeptOf ModelRules DocumentTables V) (lines lines_after : Lines) (system : ℕ) (result : Result (Option ℕ) OutOfMemory)
+      → IsErr result
+      → Worked faults before after is_work false → ShippedAs faults before after lines lines_after system result
+  shipped-short before after lines lines_after system (Ok found) short went = absurd (cc)
+  shipped-short before after lines lines_after system (Err why) short went = went
+
+  pub executed-short : (before after : KeptOf ModelRules DocumentTables V) (system : ℕ) (result : Result (Option ℕ) OutOfMemory) → IsErr result
+      → Worked faults before after is_execution false → ExecutedAs faults before after system result
+  executed-short before after system (Ok found) short went = absurd (cc)
+  executed-short before after system (Err why) short went = went
+
+pub claim-works : (e : Event) → is_claim e ≡ true → is_work e ≡ true
+claim-works (event.Claim tid) is = refl
+claim-works _ is = cc
+
+pub confirmation-works : (e : Event) → is_confirmation e ≡ true → is_work e ≡ true
+confirmation-works (event.Confirm tid) is = refl
+confirmation-works (event.Reply (Forgotten tid)) is = refl
+confirmation-works (event.Fall system kept) is = is
+confirmation-works _ is = cc
+
+-- a delivery and the reply to it are part of a shipment under the letter, and so is the confirmation
+module _ {V : Type 0} (faults : V → ℕ → ℕ) (letter : Letter) where
+  pub ships-delivered : (whole : Bool) (before delivered : KeptOf ModelRules DocumentTables V) → Worked faults before delivered (is_delivery letter) whole
+      → Worked faults before delivered (is_shipping letter) whole
+  ships-delivered whole before delivered went = wider faults (is_delivery letter) (is_shipping letter) whole before delivered (delivery-ships letter) went
+
+  pub ships-replied : (whole : Bool) (before delivered replied : KeptOf ModelRules DocumentTables V) (given told : Reply) → told ≡ told_of letter given
+      → Worked faults before delivered (is_delivery letter) true → Worked faults delivered replied (is_reply told) whole
+      → Worked faults before replied (is_shipping letter) whole
+  ships-replied whole before delivered replied given told is went replies =
+      on faults (is_shipping letter) whole before delivered replied (ships-delivered true before delivered went)
+      (wider faults (is_reply (told_of letter given)) (is_shipping letter) whole delivered replied (reply-ships letter given)
+      (subst (λ r. Worked faults delivered replied (is_reply r) whole) is replies))
+
+  pub ships-confirmed : (whole : Bool) (before replied confirmed : KeptOf ModelRules DocumentTables V) → Worked faults before replied (is_shipping letter) true
+      → Worked faults replied confirmed (is_confirming letter) whole → Worked faults before confirmed (is_shipping letter) whole
+  ships-confirmed whole before replied confirmed went confirms =
+      on faults (is_shipping letter) whole before replied confirmed went
+      (wider faults (is_confirming letter) (is_shipping letter) whole replied confirmed (confirming-ships letter) confirms)

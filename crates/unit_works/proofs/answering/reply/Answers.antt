@@ -1,0 +1,38 @@
+use Rattle.unit_works.proofs.ReplyingLemmas.{claims-replied, finished-replied, went-replied, went-replied_short}
+use Rattle.unit_works.proofs.WorkedLemmas.{meaning, is_lawful}
+use Rattle.unit_works.proofs.answering.reply.Goals as goal
+
+pub returns-in-Ok-clause-went : goal.returns-in-Ok-clause-went
+returns-in-Ok-clause-went g c =
+    went-replied meaning is_lawful c.args.landscape.now c.world.ensures.safe c.args.claim c.args.given g.V.Volumes.faults c.reply.new.self
+    c.reply.result c.reply.ensures.ends (λ short. let is = c.in-Ok.is in cc)
+
+pub returns-in-Ok-clause-finished : goal.returns-in-Ok-clause-finished
+returns-in-Ok-clause-finished g c =
+    finished-replied meaning is_lawful c.args.landscape.now c.world.ensures.safe c.args.claim c.args.given g.V.Volumes.faults c.reply.new.self
+    c.reply.result c.reply.ensures.ends (λ short. let is = c.in-Ok.is in cc)
+
+pub returns-in-Ok-clause-claims : goal.returns-in-Ok-clause-claims
+returns-in-Ok-clause-claims g c =
+    claims-replied meaning is_lawful c.args.landscape.now c.world.ensures.safe c.args.claim c.args.given g.V.Volumes.faults c.reply.new.self
+    c.reply.result c.reply.ensures.ends (λ short. let is = c.in-Ok.is in cc)
+
+pub returns-in-Err-Stale-clause-went : goal.returns-in-Err-Stale-clause-went
+returns-in-Err-Stale-clause-went g c =
+    went-replied meaning is_lawful c.args.landscape.now c.world.ensures.safe c.args.claim c.args.given g.V.Volumes.faults c.reply.new.self
+    c.reply.result c.reply.ensures.ends (λ short. let is = c.in-Err-Stale.is in let its = c.in-Err-Stale.field-0-is in cc)
+
+pub returns-in-Err-Stale-clause-finished : goal.returns-in-Err-Stale-clause-finished
+returns-in-Err-Stale-clause-finished g c =
+    finished-replied meaning is_lawful c.args.landscape.now c.world.ensures.safe c.args.claim c.args.given g.V.Volumes.faults c.reply.new.self
+    c.reply.result c.reply.ensures.ends (λ short. let is = c.in-Err-Stale.is in let its = c.in-Err-Stale.field-0-is in cc)
+
+pub returns-in-Err-Stale-clause-claims : goal.returns-in-Err-Stale-clause-claims
+returns-in-Err-Stale-clause-claims g c =
+    claims-replied meaning is_lawful c.args.landscape.now c.world.ensures.safe c.args.claim c.args.given g.V.Volumes.faults c.reply.new.self
+    c.reply.result c.reply.ensures.ends (λ short. let is = c.in-Err-Stale.is in let its = c.in-Err-Stale.field-0-is in cc)
+
+pub returns-in-Err-OutOfMemory-clause-went : goal.returns-in-Err-OutOfMemory-clause-went
+returns-in-Err-OutOfMemory-clause-went g c =
+    went-replied_short meaning is_lawful c.args.landscape.now c.world.ensures.safe c.args.claim c.args.given g.V.Volumes.faults c.reply.new.self
+    c.reply.result c.reply.ensures.ends

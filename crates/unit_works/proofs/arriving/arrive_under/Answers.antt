@@ -1,0 +1,25 @@
+use Rattle.std.specs.Result.{is_ok}
+use Rattle.std.proofs.Common.{true, false, refl}
+use Rattle.unit_works.specs.Events.{is_arrival}
+use Rattle.unit_works.proofs.WorkedLemmas.{left-on, on, short-of, still}
+use Rattle.unit_works.proofs.arriving.arrive_under.Goals as goal
+
+pub returns-in_err-arrive_again-clause-went : goal.returns-in_err-arrive_again-clause-went
+returns-in_err-arrive_again-clause-went g c =
+    short-of g.V.Volumes.faults is_arrival c.args.landscape.now c.arrive_again.new.landscape
+    c.from_residual-in_err-arrive_again.result c.from_residual-in_err-arrive_again.ensures.0
+    (on g.V.Volumes.faults is_arrival false c.args.landscape.now c.arrive.new.landscape c.arrive_again.new.landscape c.in_ok-first.ensures.went
+    c.in_err-arrive_again.ensures.went)
+
+pub returns-clause-went : goal.returns-clause-went
+returns-clause-went g c =
+    on g.V.Volumes.faults is_arrival true c.args.landscape.now c.arrive.new.landscape c.arrive_again.new.landscape c.in_ok-first.ensures.went
+    c.in_ok-arrive_again.ensures.went
+
+pub returns-clause-claims : goal.returns-clause-claims
+returns-clause-claims g c =
+    left-on c.in_ok-first.first c.args.landscape.now.world.claims c.arrive.new.landscape.world.claims c.arrive_again.new.landscape.world.claims
+    c.in_ok-first.ensures.claims c.in_ok-arrive_again.ensures.claims
+
+pub returns-in_err-unit-clause-went : goal.returns-in_err-unit-clause-went
+returns-in_err-unit-clause-went g c = still g.V.Volumes.faults is_arrival (is_ok c.from_residual.result) c.args.landscape.now c.args.landscape.now refl

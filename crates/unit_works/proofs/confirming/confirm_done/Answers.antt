@@ -1,0 +1,21 @@
+use Rattle.std.proofs.Common.{true, false}
+use Rattle.unit_works.specs.Events.{is_confirmation}
+use Rattle.unit_works.proofs.WorkedLemmas.{ended-on, on, short-of}
+use Rattle.unit_works.proofs.confirming.confirm_done.Goals as goal
+
+pub returns-in_err-_closed-in-Forgotten-clause-went : goal.returns-in_err-_closed-in-Forgotten-clause-went
+returns-in_err-_closed-in-Forgotten-clause-went g c =
+    short-of g.V.Volumes.faults is_confirmation c.args.landscape.now c.end.new.landscape
+    c.from_residual-in_err-_closed-in-Forgotten.result c.from_residual-in_err-_closed-in-Forgotten.ensures.0
+    (on g.V.Volumes.faults is_confirmation false c.args.landscape.now c.send.new.landscape c.end.new.landscape c.in_ok-confirmed.ensures.went
+    c.in_err-_closed-in-Forgotten.ensures.went)
+
+pub returns-in_ok-_closed-in-Forgotten-clause-went : goal.returns-in_ok-_closed-in-Forgotten-clause-went
+returns-in_ok-_closed-in-Forgotten-clause-went g c =
+    on g.V.Volumes.faults is_confirmation true c.args.landscape.now c.send.new.landscape c.end.new.landscape c.in_ok-confirmed.ensures.went
+    c.in_ok-_closed-in-Forgotten.ensures.went
+
+pub returns-in_ok-_closed-in-Forgotten-clause-ended : goal.returns-in_ok-_closed-in-Forgotten-clause-ended
+returns-in_ok-_closed-in-Forgotten-clause-ended g c =
+    ended-on g.V.Volumes.faults c.args.landscape.now c.send.new.landscape c.end.new.landscape 0 0 c.in_ok-confirmed.ensures.ended
+    c.in_ok-_closed-in-Forgotten.ensures.ended

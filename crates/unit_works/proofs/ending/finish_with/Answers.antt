@@ -1,0 +1,41 @@
+use Rattle.std.specs.Prelude.{Err, IfOk}
+use Rattle.std.proofs.Common.{◌≡◌, ◌+◌, ap, subst, ◌∙◌}
+use Rattle.unit_works.specs.Claims.{AreOrGone}
+use Rattle.unit_works.specs.Finished.{finished_in}
+use Rattle.unit_works.specs.steps.Ending.{ended_by, ended_of}
+use Rattle.unit_works.proofs.EndingLemmas.{claims-finished, finished-finished, went-finished, went-finished_short}
+use Rattle.unit_works.proofs.WorkedLemmas.{meaning, is_lawful}
+use Rattle.unit_works.proofs.ending.finish_with.Goals as goal
+
+pub returns-in-Ok-clause-went : goal.returns-in-Ok-clause-went
+returns-in-Ok-clause-went g c =
+    went-finished meaning is_lawful c.args.landscape.now c.world.ensures.safe c.args.claim g.V.Volumes.faults c.finish.new.self
+    c.finish.result c.finish.ensures.ends (λ short. let is = c.in-Ok.is in cc)
+
+pub returns-in-Err-Stale-clause-went : goal.returns-in-Err-Stale-clause-went
+returns-in-Err-Stale-clause-went g c =
+    went-finished meaning is_lawful c.args.landscape.now c.world.ensures.safe c.args.claim g.V.Volumes.faults c.finish.new.self
+    c.finish.result c.finish.ensures.ends (λ short. let is = c.in-Err-Stale.is in let its = c.in-Err-Stale.field-0-is in cc)
+
+pub returns-in-Ok-clause-finished : goal.returns-in-Ok-clause-finished
+returns-in-Ok-clause-finished g c =
+    subst (λ r. IfOk (ended_of r) (λ given. finished_in c.finish.new.self.world ≡ finished_in c.args.landscape.now.world + ended_by given)) c.in-Ok.is
+    (finished-finished meaning is_lawful c.args.landscape.now c.world.ensures.safe c.args.claim g.V.Volumes.faults c.finish.new.self c.finish.result
+    c.finish.ensures.ends)
+
+pub returns-in-Ok-clause-claims : goal.returns-in-Ok-clause-claims
+returns-in-Ok-clause-claims g c = λ others with.
+    subst (λ r. IfOk (ended_of r) (λ given. AreOrGone c.finish.new.self.world.claims others)) c.in-Ok.is
+    (claims-finished meaning is_lawful c.args.landscape.now c.world.ensures.safe c.args.claim g.V.Volumes.faults c.finish.new.self c.finish.result
+    c.finish.ensures.ends others with)
+
+pub returns-in-Err-Stale-clause-claims : goal.returns-in-Err-Stale-clause-claims
+returns-in-Err-Stale-clause-claims g c = λ others with.
+    subst (λ r. IfOk (ended_of r) (λ given. AreOrGone c.finish.new.self.world.claims others)) (c.in-Err-Stale.is ∙ ap Err c.in-Err-Stale.field-0-is)
+    (claims-finished meaning is_lawful c.args.landscape.now c.world.ensures.safe c.args.claim g.V.Volumes.faults c.finish.new.self c.finish.result
+    c.finish.ensures.ends others with)
+
+pub returns-in-Err-OutOfMemory-clause-went : goal.returns-in-Err-OutOfMemory-clause-went
+returns-in-Err-OutOfMemory-clause-went g c =
+    went-finished_short meaning is_lawful c.args.landscape.now c.world.ensures.safe c.args.claim g.V.Volumes.faults c.finish.new.self
+    c.finish.result c.finish.ensures.ends

@@ -1,0 +1,48 @@
+-- A drain: works are done until none is left.
+use Rattle.std.specs.Prelude.{◌≡◌, ◌≤◌, ℕ, false, Option, Some, None, Result, Ok, Err, true}
+use Rattle.ale_base.specs.Tid.{TidOf}
+use Rattle.ale_base.specs.declared.out_of_memory.OutOfMemory.{OutOfMemory}
+use Rattle.trfc_protocol.specs.declared.world.World.{World}
+use Rattle.trfc_protocol.specs.Offered.{is_offered_outbound, is_offered_inbound}
+use Rattle.kept_world.specs.Kept.{KeptOf}
+use Rattle.document_tables.specs.declared.document_tables.DocumentTables.{DocumentTables}
+use Rattle.model_rules.specs.declared.model_rules.ModelRules.{ModelRules}
+use Rattle.model_rules.specs.Meaning.{model_meaning}
+use Rattle.unit_works.specs.Events.{is_work}
+use Rattle.unit_works.specs.Works.{HaveEnded, HaveTaken, Lines, Worked}
+
+-- no unit is offered at any system in either direction
+pub record IsIdle (world : World ModelRules) : Type 0 where
+  pub outbound : (tid : TidOf) → is_offered_outbound (model_meaning world.rules.systems) world tid ≡ false
+  pub inbound : (system : ℕ) (tid : TidOf) → is_offered_inbound world system tid ≡ false
+
+module _ {V : Type 0} (faults : V → ℕ → ℕ) (before : KeptOf ModelRules DocumentTables V) (lines : Lines) (after : KeptOf ModelRules DocumentTables V)
+    (lines_after : Lines) where
+  -- Works were done, and so many runs and executions ended; no claim was added.
+  pub record HasWorked (n : ℕ) : Type 0 where
+    pub went : Worked faults before after is_work true
+    pub taken : HaveTaken lines lines_after
+    pub ended : HaveEnded faults before after n
+
+  -- Works were done until no unit is offered at any system in either direction, and so many runs and executions ended. Where memory is
+  -- wanting, works were done.
+  abbrev pub DrainedAs : Result ℕ OutOfMemory → Type 0
+  DrainedAs (Ok n) = HasWorked n × IsIdle after.world
+  DrainedAs (Err short) = Worked faults before after is_work false
+
+  -- ---- what only private functions cite
+
+  -- works were done, and so many runs and executions ended; where memory is wanting, works were done
+  abbrev pub WorkedSo : {T : Type 0} → ℕ → Result T OutOfMemory → Type 0
+  WorkedSo n (Ok done) = HasWorked n
+  WorkedSo n (Err short) = Worked faults before after is_work false
+
+  -- Works were found, and at most so many runs and executions ended. Where none was found, nothing has changed, and this holds.
+  abbrev pub Found : ℕ → Type 0 → Option ℕ → Type 0
+  Found most nothing None = (after ≡ before) × (lines_after ≡ lines) × nothing
+  Found most nothing (Some n) = HasWorked n × (n ≤ most)
+
+  -- the same of a call; where memory is wanting, works were done
+  abbrev pub FoundAs : ℕ → Type 0 → Result (Option ℕ) OutOfMemory → Type 0
+  FoundAs most nothing (Ok found) = Found most nothing found
+  FoundAs most nothing (Err short) = Worked faults before after is_work false

@@ -1,0 +1,14 @@
+-- the events of works
+pub mod Events
+-- a landscape goes on by events
+pub mod Went
+-- how many runs and executions have ended
+pub mod Finished
+-- the claims that are left
+pub mod Claims
+-- a unit is shipped, or executed
+pub mod Works
+-- works are done until none is left
+pub mod Drained
+-- what only private functions cite
+pub mod steps

@@ -1,0 +1,119 @@
+//! A shipment is answered: a run that it began ends, and what its receiver replies comes to its claim.
+
+ghost use Rattle.std.specs.Prelude.{◌≡◌, ◌≤◌, ◌+◌, List, true, false, IfOk, OnOk};
+ghost use Rattle.std.specs.Result.{is_ok};
+ghost use Rattle.trfc_protocol.specs.declared.held.Held.{Held};
+ghost use Rattle.unit_landscape.specs.Calls.{stands_out};
+ghost use Rattle.unit_works.specs.Claims.{AreOrGone};
+ghost use Rattle.unit_works.specs.Events.{arrives_under, is_delivery, is_end, is_reply};
+ghost use Rattle.unit_works.specs.Finished.{finished_in};
+ghost use Rattle.unit_works.specs.Works.{Worked};
+ghost use Rattle.unit_works.specs.steps.Arriving.{ClaimsLeft, IsAnswered};
+ghost use Rattle.unit_works.specs.steps.Claims.{AreWithOut};
+ghost use Rattle.unit_works.specs.steps.Ending.{ended_by};
+
+use crate::arriving::arrive_under;
+use crate::ending::{ended_by, finish};
+use crate::falls::Falls;
+use crate::letters::arrives_under;
+use ale_base::OutOfMemory;
+use ale_volumes::Volumes;
+use landscape::Landscape;
+use std::alloc::Global;
+use unit_landscape::{Arrival, Finished, OutClaim, Reply, WorkEnd};
+use wires::Letter;
+
+/// What a receiver replies, and how many runs ended before it did.
+#[derive(Drop)]
+pub(crate) struct Answered {
+    pub(crate) given: Reply,
+    pub(crate) finished: u64,
+}
+
+/// The unit of a claim is delivered under a letter: it arrives, and a run of it ends. Nothing comes back where its request is lost.
+pub(crate) fn deliver<V: Volumes>(
+    alloc: Global,
+    landscape: &mut Landscape<V>,
+    falls: &mut Falls,
+    claim: &OutClaim,
+    letter: Letter,
+) -> Result<Answered, OutOfMemory>
+    requires stands { stands_out landscape.old.world claim.now ≡ true }
+    ensures went { Worked V.faults landscape.old landscape.new (is_delivery letter) (is_ok result) }
+    ensures answered { IfOk result (λ answered. IsAnswered landscape.old.world landscape.new.world answered.finished) }
+    ensures claims { OnOk result (AreOrGone landscape.new.world.claims landscape.old.world.claims) }
+{
+    if !arrives_under(letter) {
+        return Ok(Answered {
+            given: Reply::Lost,
+            finished: 0,
+        });
+    }
+    let arrival = arrive_under(landscape, falls, claim, letter)?;
+    answer_of(alloc, landscape, falls, arrival)
+}
+
+/// What a receiver replies to an arrival, once the run that it began has ended.
+fn answer_of<V: Volumes>(
+    alloc: Global,
+    landscape: &mut Landscape<V>,
+    falls: &mut Falls,
+    arrival: Arrival,
+) -> Result<Answered, OutOfMemory>
+    ensures went { Worked V.faults landscape.old landscape.new is_end (is_ok result) }
+    ensures answered { IfOk result (λ answered. IsAnswered landscape.old.world landscape.new.world answered.finished) }
+    ensures claims { (others : List Held) → ClaimsLeft landscape.old.world.claims others arrival → OnOk result (AreOrGone landscape.new.world.claims others) }
+{
+    match arrival {
+        Arrival::New(receipt) => Ok(at_once(Reply::Done(receipt))),
+        Arrival::Known(receipt) => Ok(at_once(Reply::Done(receipt))),
+        Arrival::Run(claim) => {
+            let finished = finish(alloc, landscape, falls, claim)?;
+            Ok(after_run(finished))
+        }
+        Arrival::Busy => Ok(at_once(Reply::Busy)),
+        Arrival::SysFail => Ok(at_once(Reply::SysFail)),
+        Arrival::Down => Ok(at_once(Reply::Lost)),
+    }
+}
+
+/// A reply before which no run ended.
+fn at_once(given: Reply) -> Answered
+    ensures { result.finished ≡ 0 }
+{
+    Answered { given, finished: 0 }
+}
+
+/// What a receiver replies once a run has ended: it has the unit, or nothing comes back.
+fn after_run(finished: Finished) -> Answered
+    ensures count { result.finished ≡ ended_by finished }
+    ensures few { result.finished ≤ 1 }
+{
+    let count = ended_by(&finished);
+    let given = match finished {
+        Finished::Executed(receipt) => Reply::Done(receipt),
+        Finished::Failed | Finished::Down => Reply::Lost,
+    };
+    Answered {
+        given,
+        finished: count,
+    }
+}
+
+/// A reply comes to its claim, which is gone then.
+pub(crate) fn reply<V: Volumes>(
+    landscape: &mut Landscape<V>,
+    claim: OutClaim,
+    given: Reply,
+) -> Result<(), OutOfMemory>
+    ensures went { Worked V.faults landscape.old landscape.new (is_reply given) (is_ok result) }
+    ensures finished { OnOk result (finished_in landscape.new.world ≡ finished_in landscape.old.world) }
+    ensures claims { (others : List Held) → AreWithOut landscape.old.world.claims others claim → OnOk result (AreOrGone landscape.new.world.claims others) }
+{
+    let _ = landscape.world();
+    match landscape.reply(claim, given) {
+        Ok(_replied) => Ok(()),
+        Err(WorkEnd::Stale) => Ok(()),
+        Err(WorkEnd::OutOfMemory) => Err(OutOfMemory),
+    }
+}

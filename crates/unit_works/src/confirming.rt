@@ -1,0 +1,174 @@
+//! A unit that is done is confirmed.
+
+ghost use Rattle.std.specs.Prelude.{◌≡◌, ◌&&◌, true, false, IfOk, OnOk};
+ghost use Rattle.std.specs.Result.{is_ok};
+ghost use Rattle.unit_core.specs.Filters.{done_in};
+ghost use Rattle.unit_core.specs.Queues.{is_listed};
+ghost use Rattle.system_tables.specs.OfLog.{is_unconfirmed};
+ghost use Rattle.trfc_protocol.specs.Worlds.{is_up, log_of};
+ghost use Rattle.unit_landscape.specs.Calls.{is_forgotten};
+ghost use Rattle.model_rules.specs.Meaning.{model_meaning};
+ghost use Rattle.unit_works.specs.Claims.{AreOrGone};
+ghost use Rattle.unit_works.specs.Events.{is_confirmation, is_confirming};
+ghost use Rattle.unit_works.specs.Finished.{finished_in};
+ghost use Rattle.unit_works.specs.Drained.{WorkedSo};
+ghost use Rattle.unit_works.specs.Works.{HaveEnded, Worked};
+ghost use Rattle.unit_works.specs.steps.Confirming.{Forgets};
+ghost use Rattle.unit_works.specs.steps.Rounds.{is_sent_under};
+ghost use Rattle.wires.specs.Wires.{letters_left, next_letter};
+
+use crate::falls::{Append, Falls};
+use crate::letters::{is_confirmed_under, is_sent_under};
+use ale_base::{OutOfMemory, Tid};
+use ale_volumes::Volumes;
+use landscape::Landscape;
+use unit_landscape::{Closed, Confirmed};
+use wires::{Letter, Wires};
+
+/// Sends the confirmation of a unit that is done and not ended, and then the reply to it. Nothing changes where it is not done or ended,
+/// or one of its systems is down. After an `Err` the confirmation may have come to the receiver.
+pub fn confirm<V: Volumes>(landscape: &mut Landscape<V>, tid: Tid) -> Result<(), OutOfMemory>
+    ensures went { Worked V.faults landscape.old landscape.new is_confirmation (is_ok result) }
+    ensures ended { OnOk result (HaveEnded V.faults landscape.old landscape.new 0) }
+    ensures same { (is_up landscape.old.world tid.system && is_unconfirmed tid (log_of landscape.old.world tid.system)) ≡ false
+        → landscape.new ≡ landscape.old }
+{
+    let mut falls = Falls::new(landscape);
+    confirm_noted(landscape, &mut falls, tid)
+}
+
+/// The same, and falls are noted.
+fn confirm_noted<V: Volumes>(
+    landscape: &mut Landscape<V>,
+    falls: &mut Falls,
+    tid: Tid,
+) -> Result<(), OutOfMemory>
+    ensures went { Worked V.faults landscape.old landscape.new is_confirmation (is_ok result) }
+    ensures ended { OnOk result (HaveEnded V.faults landscape.old landscape.new 0) }
+    ensures same { (is_up landscape.old.world tid.system && is_unconfirmed tid (log_of landscape.old.world tid.system)) ≡ false
+        → landscape.new ≡ landscape.old }
+{
+    if !landscape.is_unconfirmed(tid) {
+        return Ok(());
+    }
+    confirm_done(landscape, falls, tid)
+}
+
+/// The same of a unit that is done.
+fn confirm_done<V: Volumes>(
+    landscape: &mut Landscape<V>,
+    falls: &mut Falls,
+    tid: Tid,
+) -> Result<(), OutOfMemory>
+    requires done { is_listed tid (done_in (log_of landscape.old.world tid.system)) ≡ true }
+    ensures went { Worked V.faults landscape.old landscape.new is_confirmation (is_ok result) }
+    ensures ended { OnOk result (HaveEnded V.faults landscape.old landscape.new 0) }
+{
+    let confirmed = send(landscape, tid)?;
+    falls.note(landscape, tid, Append::Forget);
+    match confirmed {
+        Confirmed::Forgotten | Confirmed::Already => {
+            let _closed = end(landscape, tid)?;
+            falls.note(landscape, tid, Append::Ended);
+            Ok(())
+        }
+        Confirmed::Down => Ok(()),
+    }
+}
+
+/// The confirmation comes to the receiver.
+fn send<V: Volumes>(landscape: &mut Landscape<V>, tid: Tid) -> Result<Confirmed, OutOfMemory>
+    requires done { is_listed tid (done_in (log_of landscape.old.world tid.system)) ≡ true }
+    ensures went { Worked V.faults landscape.old landscape.new is_confirmation (is_ok result) }
+    ensures ended { OnOk result (HaveEnded V.faults landscape.old landscape.new 0) }
+    ensures forgets { IfOk result (Forgets (model_meaning landscape.new.world.rules.systems) landscape.new.world tid) }
+{
+    let _ = landscape.world();
+    landscape.confirm(tid)
+}
+
+/// The reply to the confirmation comes to the sender.
+fn end<V: Volumes>(landscape: &mut Landscape<V>, tid: Tid) -> Result<Closed, OutOfMemory>
+    requires forgotten { is_forgotten (model_meaning landscape.old.world.rules.systems) landscape.old.world tid ≡ true }
+    ensures went { Worked V.faults landscape.old landscape.new is_confirmation (is_ok result) }
+    ensures ended { OnOk result (HaveEnded V.faults landscape.old landscape.new 0) }
+{
+    let _ = landscape.world();
+    landscape.ended(tid)
+}
+
+/// Confirms a unit under a letter: nothing is sent where its confirmation is lost.
+pub(crate) fn confirm_under<V: Volumes>(
+    landscape: &mut Landscape<V>,
+    falls: &mut Falls,
+    tid: Tid,
+    letter: Letter,
+) -> Result<(), OutOfMemory>
+    ensures went { Worked V.faults landscape.old landscape.new (is_confirming letter) (is_ok result) }
+    ensures ended { OnOk result (HaveEnded V.faults landscape.old landscape.new 0) }
+{
+    if !is_confirmed_under(letter) {
+        return Ok(());
+    }
+    confirm_noted(landscape, falls, tid)
+}
+
+/// Confirms units that are done and not ended, each under its next letter.
+pub(crate) fn confirm_each<V: Volumes>(
+    landscape: &mut Landscape<V>,
+    wires: &mut Wires,
+    falls: &mut Falls,
+    tids: &[Tid],
+) -> Result<(), OutOfMemory>
+    ensures { WorkedSo V.faults landscape.old wires.old landscape.new wires.new 0 result }
+{
+    for tid in tids {
+        confirm_due(landscape, wires, falls, *tid)?;
+    }
+    Ok(())
+}
+
+/// Confirms a unit under its next letter, where it is done and not ended and both its systems are up: nothing is sent where its
+/// confirmation is lost. It takes no letter where it is not, and then nothing has changed.
+fn confirm_due<V: Volumes>(
+    landscape: &mut Landscape<V>,
+    wires: &mut Wires,
+    falls: &mut Falls,
+    tid: Tid,
+) -> Result<(), OutOfMemory>
+    ensures worked { WorkedSo V.faults landscape.old wires.old landscape.new wires.new 0 result }
+    ensures lost { is_sent_under (next_letter (letters_left wires.old tid)) ≡ false → landscape.new ≡ landscape.old }
+{
+    if !is_due(landscape, tid) {
+        return Ok(());
+    }
+    let letter = wires.take(tid);
+    confirm_sent(landscape, falls, tid, letter)
+}
+
+/// Whether a unit is done and not ended, and both its systems are up.
+fn is_due<V: Volumes>(landscape: &Landscape<V>, tid: Tid) -> bool
+    ensures { result ≡ true → (is_up landscape.now.world tid.system && is_unconfirmed tid (log_of landscape.now.world tid.system)) ≡ true }
+{
+    match landscape.unit(tid) {
+        Some(unit) => landscape.is_up(unit.receiver) && landscape.is_unconfirmed(tid),
+        None => false,
+    }
+}
+
+/// Confirms a unit, unless its confirmation is lost under a letter.
+fn confirm_sent<V: Volumes>(
+    landscape: &mut Landscape<V>,
+    falls: &mut Falls,
+    tid: Tid,
+    letter: Letter,
+) -> Result<(), OutOfMemory>
+    ensures went { Worked V.faults landscape.old landscape.new is_confirmation (is_ok result) }
+    ensures ended { OnOk result (HaveEnded V.faults landscape.old landscape.new 0) }
+    ensures lost { is_sent_under letter ≡ false → landscape.new ≡ landscape.old }
+{
+    if !is_sent_under(letter) {
+        return Ok(());
+    }
+    confirm_noted(landscape, falls, tid)
+}

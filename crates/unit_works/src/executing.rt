@@ -1,0 +1,62 @@
+//! Units that were taken in are claimed and executed.
+
+ghost use Rattle.std.specs.Prelude.{◌≡◌, IsNone, IfOk, IfSome};
+ghost use Rattle.std.specs.Result.{is_ok};
+ghost use Rattle.model_rules.specs.Meaning.{model_meaning};
+ghost use Rattle.unit_works.specs.Events.{is_run};
+ghost use Rattle.unit_works.specs.Finished.{finished_in};
+ghost use Rattle.unit_works.specs.Works.{ExecutedAs, NothingIn, Worked};
+ghost use Rattle.unit_works.specs.steps.Claiming.{IsExecuted};
+
+use crate::ending::{ended_by, finish};
+use crate::falls::Falls;
+use ale_base::{OutOfMemory, SystemNo};
+use ale_volumes::Volumes;
+use landscape::Landscape;
+use std::alloc::Global;
+use unit_landscape::InClaim;
+
+/// Claims the first unit that is offered inbound at a system, and executes it with what is prepared of its documents: `Some(1)` where it
+/// was executed or failed, and `Some(0)` where the system fell. None exactly where nothing is offered there or the system is down, and then
+/// nothing has changed. After an `Err` a part of it may have happened.
+pub fn execute_next<V: Volumes>(
+    alloc: Global,
+    landscape: &mut Landscape<V>,
+    system: SystemNo,
+) -> Result<Option<u64>, OutOfMemory>
+    ensures { ExecutedAs V.faults landscape.old landscape.new system result }
+{
+    let mut falls = Falls::new(landscape);
+    execute_first(alloc, landscape, &mut falls, system)
+}
+
+/// The same, and falls are noted.
+pub(crate) fn execute_first<V: Volumes>(
+    alloc: Global,
+    landscape: &mut Landscape<V>,
+    falls: &mut Falls,
+    system: SystemNo,
+) -> Result<Option<u64>, OutOfMemory>
+    ensures { ExecutedAs V.faults landscape.old landscape.new system result }
+{
+    let Some(claim) = claim_next(landscape, system)? else {
+        return Ok(None);
+    };
+    let finished = finish(alloc, landscape, falls, claim)?;
+    Ok(Some(ended_by(&finished)))
+}
+
+/// Claims the first unit that is offered inbound at a system. None exactly where nothing is offered there or the system is down.
+fn claim_next<V: Volumes>(
+    landscape: &mut Landscape<V>,
+    system: SystemNo,
+) -> Result<Option<InClaim>, OutOfMemory>
+    ensures went { Worked V.faults landscape.old landscape.new is_run (is_ok result) }
+    ensures finished { finished_in landscape.new.world ≡ finished_in landscape.old.world }
+    ensures none { IfOk result (λ found. IsNone found → (landscape.new ≡ landscape.old) × NothingIn landscape.old.world system) }
+    ensures claim { IfOk result (λ found. IfSome found
+        (IsExecuted (model_meaning landscape.old.world.rules.systems) landscape.old.world landscape.new.world system)) }
+{
+    let _ = landscape.world();
+    landscape.claim_in(system)
+}

@@ -1,0 +1,24 @@
+//! The works of a drain: units are shipped under letters, executed and confirmed, until none is left.
+//!
+//! Contract: a landscape goes on by events that a letter lets happen, so many runs and executions end, and no claim is left; a drain ends
+//! where no unit is offered at any system in either direction. The definitions are in `specs/`: `Events` (which events are works), `Went`
+//! (how a landscape goes on), `Finished` (how many runs and executions have ended), `Works` (a unit is shipped, or executed) and `Drained`.
+#![tactic(auto)]
+
+mod answering;
+mod arriving;
+mod confirming;
+mod draining;
+mod ending;
+mod executing;
+mod falls;
+mod lengths;
+mod letters;
+mod rounds;
+mod shipping;
+mod writable;
+
+pub use confirming::confirm;
+pub use draining::{Drained, drain};
+pub use executing::execute_next;
+pub use shipping::ship_next;

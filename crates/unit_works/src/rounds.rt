@@ -1,0 +1,78 @@
+//! Rounds of all systems: the first unit that is offered at each is shipped, and the first is executed.
+
+ghost use Rattle.std.specs.Prelude.{◌≡◌, ◌≤◌, IfSome};
+ghost use Rattle.unit_works.specs.Drained.{FoundAs, IsIdle};
+ghost use Rattle.unit_works.specs.steps.Rounds.{NothingAt, NothingTo, joined};
+
+use crate::executing::execute_first;
+use crate::falls::Falls;
+use crate::shipping::ship_first;
+use ale_base::{OutOfMemory, SystemNo};
+use ale_volumes::Volumes;
+use landscape::Landscape;
+use std::alloc::Global;
+use wires::Wires;
+
+/// Ships and executes the first unit that is offered at each system. How many runs and executions ended. None exactly where nothing is
+/// offered at any system, and then nothing has changed.
+pub(crate) fn go_round<V: Volumes>(
+    alloc: Global,
+    landscape: &mut Landscape<V>,
+    wires: &mut Wires,
+    falls: &mut Falls,
+) -> Result<Option<u64>, OutOfMemory>
+    ensures { FoundAs V.faults landscape.old wires.old landscape.new wires.new 32 (IsIdle landscape.old.world) result }
+{
+    let found = visit_all(alloc, landscape, wires, falls)?;
+    let _ = landscape.world();
+    Ok(found)
+}
+
+/// The same, by the numbers of the systems.
+fn visit_all<V: Volumes>(
+    alloc: Global,
+    landscape: &mut Landscape<V>,
+    wires: &mut Wires,
+    falls: &mut Falls,
+) -> Result<Option<u64>, OutOfMemory>
+    ensures { FoundAs V.faults landscape.old wires.old landscape.new wires.new 32 (NothingTo landscape.old.world 16) result }
+{
+    let mut found = None;
+    for number in 0..SystemNo::MAX {
+        let Some(system) = SystemNo::of(number + 1) else {
+            unreachable!()
+        };
+        let here = visit(alloc, landscape, wires, falls, system)?;
+        found = joined(found, here);
+    }
+    Ok(found)
+}
+
+/// Ships and executes the first unit that is offered at a system. How many runs and executions ended. None exactly where nothing is
+/// offered there, and then nothing has changed.
+fn visit<V: Volumes>(
+    alloc: Global,
+    landscape: &mut Landscape<V>,
+    wires: &mut Wires,
+    falls: &mut Falls,
+    system: SystemNo,
+) -> Result<Option<u64>, OutOfMemory>
+    ensures { FoundAs V.faults landscape.old wires.old landscape.new wires.new 2 (NothingAt landscape.old.world system) result }
+{
+    let shipped = ship_first(alloc, landscape, wires, falls, system)?;
+    let executed = execute_first(alloc, landscape, falls, system)?;
+    Ok(joined(shipped, executed))
+}
+
+/// What was found here and there.
+fn joined(here: Option<u64>, there: Option<u64>) -> Option<u64>
+    requires here { IfSome here (λ n. n ≤ 1000) }
+    requires there { IfSome there (λ n. n ≤ 1000) }
+    ensures { result ≡ joined here there }
+{
+    match (here, there) {
+        (None, there) => there,
+        (Some(n), None) => Some(n),
+        (Some(n), Some(m)) => Some(n + m),
+    }
+}
