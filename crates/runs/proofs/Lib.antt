@@ -1,0 +1,2 @@
+-- a run goes on by one command, and ends
+pub mod RunLemmas

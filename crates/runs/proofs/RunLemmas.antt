@@ -1,0 +1,303 @@
+-- A run goes on by one command, and ends.
+use Rattle.std.proofs.Common.{◌≡◌, ◌≢◌, ℕ, ◌+◌, ◌<◌, ◌≤◌, Option, None, Some, Result, Ok, List, []}
+use Rattle.std.proofs.Common.{◌∷◌, ◌++◌, length, take, drop, get_or, le_refl, refl, sym, ap, subst, ◌∙◌, append-nil, append_assoc, take-append-drop}
+use Rattle.std.specs.Prelude.{⊤, MatchOption}
+use Rattle.std.specs.Option.{unwrap_or}
+use Rattle.std.proofs.lemmas.List.{take_more, drop_more, take_all}
+use Rattle.std.specs.Io.KnownBytes.{Appends}
+use Rattle.std.proofs.KnownBytes.{Appends-nil, Appends-trans}
+use Rattle.std.proofs.Math.Seq.{take-append-add}
+use Rattle.ale_base.specs.Faults.{Rose}
+use Rattle.ale_base.specs.declared.out_of_memory.OutOfMemory.{OutOfMemory as Short}
+use Rattle.ale_io.specs.Written.{AppendsFront}
+use Rattle.script_text.specs.declared.command.Command.{Command}
+use Rattle.runs.specs.declared.answered.Answered.{Answered}
+use Rattle.runs.specs.declared.inputs.Inputs.{Inputs}
+use Rattle.runs.specs.declared.run_end.RunEnd.{RunEnd}
+use Rattle.runs.specs.declared.run_end.RunEnd.TheVariants as end
+use Rattle.runs.specs.declared.stage.Stage.{Stage}
+use Rattle.runs.specs.declared.turns.TurnEnd.{TurnEnd}
+use Rattle.runs.specs.declared.turns.TurnEnd.TheVariants as turn
+use Rattle.runs.specs.Does.{Does}
+use Rattle.runs.specs.Run.{Turn, at_moment, commands_of, moments_of, text_of, last_stage, first_down, first_faulted, Follow, IsMore, Run, AreAsked}
+use Rattle.runs.specs.Text.{shown}
+use Rattle.runs.specs.steps.Put.{IsPut, IsPart, IsCut, IsPutAt, IsReported, IsTurn, GivesOne, down_end_of, end_behind}
+
+-- ---- one turn more at the end
+
+commands_of-push : {V : Type 0} (turns : List (Turn V)) (next : Turn V) → commands_of (turns ++ next ∷ []) ≡ commands_of turns ++ next.command ∷ []
+commands_of-push [] next = refl
+commands_of-push (first ∷ turns) next = ap (λ commands. first.command ∷ commands) (commands_of-push turns next)
+
+moments_of-push : {V : Type 0} (turns : List (Turn V)) (next : Turn V) → moments_of (turns ++ next ∷ []) ≡ moments_of turns ++ next.moment ∷ []
+moments_of-push [] next = refl
+moments_of-push (first ∷ turns) next = ap (λ moments. first.moment ∷ moments) (moments_of-push turns next)
+
+pub text_of-push : {V : Type 0} (turns : List (Turn V)) (next : Turn V) → text_of (turns ++ next ∷ []) ≡ text_of turns ++ shown next.command next.answered
+    next.after
+text_of-push [] next = append-nil (shown next.command next.answered next.after)
+text_of-push (first ∷ turns) next =
+    ap (λ text. shown first.command first.answered first.after ++ text) (text_of-push turns next)
+    ∙ sym (append_assoc (shown first.command first.answered first.after) (text_of turns) (shown next.command next.answered next.after))
+
+last_stage-push : {V : Type 0} (before : Stage V) (turns : List (Turn V)) (next : Turn V) → last_stage before (turns ++ next ∷ []) ≡ next.after
+last_stage-push before [] next = refl
+last_stage-push before (first ∷ turns) next = last_stage-push first.after turns next
+
+Follow-push : {V : Type 0} (faults : V → ℕ → ℕ) (inputs : Inputs) (before : Stage V) (turns : List (Turn V)) (next : Turn V) → Follow faults inputs before turns
+    → first_down (last_stage before turns).landscape.world ≡ None
+    → Does faults inputs (at_moment next.moment (last_stage before turns)) (Ok next.answered) next.after next.command.form → Follow faults inputs before
+    (turns ++ next ∷ [])
+Follow-push faults inputs before [] next follow up does = (up, does, tt)
+Follow-push faults inputs before (first ∷ turns) next follow up does = (follow.0, follow.1, Follow-push faults inputs first.after turns next follow.2 up does)
+
+-- ---- what was put
+
+AppendsFront-then : (a b c : Option (List ℕ)) (first second : List ℕ) → Appends a b first → AppendsFront b c second → AppendsFront a c (first ++ second)
+AppendsFront-then a b c first second appends front =
+    (length first + front.0, subst (Appends a c) (sym (take-append-add first second front.0)) (Appends-trans a b c first (take front.0 second) appends front.1))
+
+pub IsPut-then : (a b c : Option (List ℕ)) (faults faults_b faults_c : ℕ) (first second : List ℕ) → IsPut a b faults faults_b first → IsPut b c faults_b
+    faults_c second
+    → IsPut a c faults faults_c (first ++ second)
+IsPut-then a b c faults faults_b faults_c first second one two =
+    record { appends = Appends-trans a b c first second one.appends two.appends; quiet = two.quiet ∙ one.quiet }
+
+pub IsPart-then : (a b c : Option (List ℕ)) (faults faults_b faults_c : ℕ) (first second : List ℕ) → IsPut a b faults faults_b first → IsPart b c faults_b
+    faults_c second
+    → IsPart a c faults faults_c (first ++ second)
+IsPart-then a b c faults faults_b faults_c first second one two =
+    record { appends = AppendsFront-then a b c first second one.appends two.appends; rose = subst (λ n. Rose n faults_c) one.quiet two.rose }
+
+-- a text that was put whole, and a front of the next one
+pub IsCut-then : (a b c : Option (List ℕ)) (faults faults_b faults_c : ℕ) (first second : List ℕ) → IsPut a b faults faults_b first
+    → IsPart b c faults_b faults_c second → IsCut a c faults faults_c first second
+IsCut-then a b c faults faults_b faults_c first second one two = record {
+  count = two.appends.0;
+  appends = Appends-trans a b c first (take two.appends.0 second) one.appends two.appends.1;
+  rose = subst (λ n. Rose n faults_c) one.quiet two.rose;
+}
+
+none-more : (its : RunEnd) → its ≢ end.OutOfMemory → IsMore its []
+none-more end.Whole other = refl
+none-more (end.DownByFault system) other = refl
+none-more (end.DownFull system size) other = refl
+none-more end.WriteFailed other = refl
+none-more end.OutOfMemory other = absurd (other refl)
+
+-- ---- one command
+
+done-of : {V : Type 0} (faults : V → ℕ → ℕ) (inputs : Inputs) (moment : ℕ) (command : Command) (before began after : Stage V) (answer : Result Answered Short)
+    (answered : Answered) → began ≡ at_moment moment before → answer ≡ Ok answered → Does faults inputs began answer after command.form
+    → Does faults inputs (at_moment moment before) (Ok answered) after command.form
+done-of faults inputs moment command before began after answer answered begins is does =
+    subst (λ stage. Does faults inputs stage (Ok answered) after command.form) begins
+    (subst (λ one. Does faults inputs began one after command.form) is does)
+
+-- what a command did, by what was put of it
+pub turn-of : {V : Type 0} (faults : V → ℕ → ℕ) (inputs : Inputs) (how : TurnEnd) (moment : ℕ) (command : Command) (before began after : Stage V)
+    (answer : Result Answered Short) (old new : Option (List ℕ)) (put put_new : ℕ) → began ≡ at_moment moment before
+    → Does faults inputs began answer after command.form → IsReported how answer (λ answered. shown command answered after) old new put put_new
+    → IsTurn faults inputs how moment command before after old new put put_new
+turn-of faults inputs turn.Done moment command before began after answer old new put put_new begins does text =
+    (text.0, done-of faults inputs moment command before began after answer text.0 begins text.1 does, text.2)
+turn-of faults inputs turn.WriteFailed moment command before began after answer old new put put_new begins does text =
+    (text.0, done-of faults inputs moment command before began after answer text.0 begins text.1 does, text.2)
+turn-of faults inputs turn.OutOfMemory moment command before began after answer old new put put_new begins does text =
+    (answer, subst (λ stage. Does faults inputs stage answer after command.form) begins does, text)
+
+-- ---- the loop over the commands
+
+-- the first i commands were done, and their text was put
+pub record SoFar {V : Type 0} (faults : V → ℕ → ℕ) (inputs : Inputs) (commands : List Command) (i : ℕ) (before now : Stage V) (old new : Option (List ℕ))
+    (put put_now : ℕ) (told : Type 0) (given given_now : List ℕ) : Type 0 where
+  pub turns : List (Turn V)
+  pub these : commands_of turns ≡ take i commands
+  pub follow : Follow faults inputs before turns
+  pub last : now ≡ last_stage before turns
+  pub put_is : IsPut old new put put_now (text_of turns)
+  pub asked : told → given_now ≡ given ++ moments_of turns
+  pub up : first_down now.landscape.world ≡ None
+
+abbrev turned : {V : Type 0} → Command → ℕ → Answered → Stage V → Turn V
+turned command moment answered after = record { command = command; moment = moment; answered = answered; after = after }
+
+-- a run that ended so, and what it put
+abbrev pub HasRun : {V : Type 0} → (V → ℕ → ℕ) → Inputs → List Command → Stage V → Stage V → RunEnd → Option (List ℕ) → Option (List ℕ) → ℕ → ℕ
+    → Type 0 → List ℕ → List ℕ → Type 0
+HasRun {V} faults inputs commands before after its old new put put_new told given given_new =
+    (turns : List (Turn V)) × Run faults inputs commands before after its turns × IsPutAt its old new put put_new turns
+    × AreAsked told given given_new its turns
+
+module _ {V : Type 0} (faults : V → ℕ → ℕ) (inputs : Inputs) (commands : List Command) (before : Stage V) (old : Option (List ℕ)) (put : ℕ) (given : List ℕ)
+  where
+    pub SoFar-start : (told : Type 0) → first_down before.landscape.world ≡ None → SoFar faults inputs commands 0 before before old old put put told given given
+    SoFar-start told up = record {
+      turns = [];
+      these = refl;
+      follow = tt;
+      last = refl;
+      put_is = record { appends = Appends-nil old; quiet = refl };
+      asked = λ tells. sym (append-nil given);
+      up = up;
+    }
+
+    pub Run-whole : (i : ℕ) (after : Stage V) (new : Option (List ℕ)) (put_new : ℕ) (told : Type 0) (given_new : List ℕ)
+        → SoFar faults inputs commands i before after old new put put_new told given given_new → length commands ≤ i
+        → HasRun faults inputs commands before after end.Whole old new put put_new told given given_new
+    Run-whole i after new put_new told given_new so_far all = (
+      so_far.turns,
+      record {
+        left = [];
+        these = sym (take_all i commands all) ∙ sym so_far.these ∙ sym (append-nil (commands_of so_far.turns));
+        follow = so_far.follow;
+        ends = (refl, so_far.last, so_far.up);
+      },
+      so_far.put_is,
+      record { given = λ tells. ([], refl, so_far.asked tells ∙ ap (λ moments. given ++ moments) (sym (append-nil (moments_of so_far.turns)))) },
+    )
+
+    module _ (i : ℕ) (command d : Command) (mid after : Stage V) (mid_put new : Option (List ℕ)) (put_mid put_new : ℕ) (told_mid told : Type 0)
+        (given_mid given_new : List ℕ)
+        (so_far : SoFar faults inputs commands i before mid old mid_put put put_mid told_mid given given_mid) (below : i < length commands)
+        (is : command ≡ get_or commands i d)
+        (still : told → told_mid) (moment : ℕ) (gives : GivesOne told given_mid given_new moment) where
+      asked_more : told → given_new ≡ given ++ (moments_of so_far.turns ++ moment ∷ [])
+      asked_more tells =
+          gives tells ∙ ap (λ those. those ++ moment ∷ []) (so_far.asked (still tells)) ∙ append_assoc given (moments_of so_far.turns) (moment ∷ [])
+
+      pushed : (answered : Answered) → commands_of (so_far.turns ++ turned command moment answered after ∷ []) ≡ take i commands ++ command ∷ []
+      pushed answered = commands_of-push so_far.turns (turned command moment answered after) ∙ ap (λ done. done ++ command ∷ []) so_far.these
+
+      taken : take (i + 1) commands ≡ take i commands ++ command ∷ []
+      taken = take_more commands i d below ∙ ap (λ one. take i commands ++ one ∷ []) (sym is)
+
+      followed : (answered : Answered) → Does faults inputs (at_moment moment mid) (Ok answered) after command.form
+          → Follow faults inputs before (so_far.turns ++ turned command moment answered after ∷ [])
+      followed answered does =
+          Follow-push faults inputs before so_far.turns (turned command moment answered after) so_far.follow
+          (subst (λ stage. first_down stage.landscape.world ≡ None) so_far.last so_far.up)
+          (subst (λ stage. Does faults inputs (at_moment moment stage) (Ok answered) after command.form) so_far.last does)
+
+      text_pushed : (answered : Answered) → text_of (so_far.turns ++ turned command moment answered after ∷ []) ≡ text_of so_far.turns
+          ++ shown command answered after
+      text_pushed answered = text_of-push so_far.turns (turned command moment answered after)
+
+      asked_pushed : (answered : Answered) → told → given_new ≡ given ++ moments_of (so_far.turns ++ turned command moment answered after ∷ [])
+      asked_pushed answered tells =
+          asked_more tells ∙ ap (λ moments. given ++ moments) (sym (moments_of-push so_far.turns (turned command moment answered after)))
+
+      -- all of the commands are those that were done, and those behind them
+      split : (answered : Answered) → commands ≡ commands_of (so_far.turns ++ turned command moment answered after ∷ []) ++ drop (i + 1) commands
+      split answered = sym (take-append-drop (i + 1) commands) ∙ ap (λ done. done ++ drop (i + 1) commands) (taken ∙ sym (pushed answered))
+
+      SoFar-done : (answered : Answered) → Does faults inputs (at_moment moment mid) (Ok answered) after command.form
+          → IsPut mid_put new put_mid put_new (shown command answered after) → first_down after.landscape.world ≡ None
+          → SoFar faults inputs commands (i + 1) before after old new put put_new told given given_new
+      SoFar-done answered does text up = record {
+        turns = so_far.turns ++ turned command moment answered after ∷ [];
+        these = pushed answered ∙ sym taken;
+        follow = followed answered does;
+        last = sym (last_stage-push before so_far.turns (turned command moment answered after));
+        put_is = subst (IsPut old new put put_new) (sym (text_pushed answered))
+            (IsPut-then old mid_put new put put_mid put_new (text_of so_far.turns) (shown command answered after) so_far.put_is text);
+        asked = asked_pushed answered;
+        up = up;
+      }
+
+      asked_done : (its : RunEnd) → its ≢ end.OutOfMemory → (answered : Answered) → AreAsked told given given_new its
+          (so_far.turns ++ turned command moment answered after ∷ [])
+      asked_done its other answered = record {
+        given = λ tells. (
+          [],
+          none-more its other,
+          asked_pushed answered tells ∙ ap (λ moments. given ++ moments)
+              (sym (append-nil (moments_of (so_far.turns ++ turned command moment answered after ∷ [])))),
+        );
+      }
+
+      abbrev Ended : RunEnd → Type 0
+      Ended its = HasRun faults inputs commands before after its old new put put_new told given given_new
+
+      abbrev DoneWith : Answered → Type 0
+      DoneWith answered = Does faults inputs (at_moment moment mid) (Ok answered) after command.form
+
+      put_whole : (answered : Answered) → IsPut mid_put new put_mid put_new (shown command answered after)
+          → IsPut old new put put_new (text_of (so_far.turns ++ turned command moment answered after ∷ []))
+      put_whole answered text = subst (IsPut old new put put_new) (sym (text_pushed answered))
+          (IsPut-then old mid_put new put put_mid put_new (text_of so_far.turns) (shown command answered after) so_far.put_is text)
+
+      left_last : (answered : Answered) → after ≡ last_stage before (so_far.turns ++ turned command moment answered after ∷ [])
+      left_last answered = sym (last_stage-push before so_far.turns (turned command moment answered after))
+
+      -- a system went down in the command
+      Run-found : (answered : Answered) → DoneWith answered → IsPut mid_put new put_mid put_new (shown command answered after)
+          → (faulted down : Option ℕ) → first_faulted after.landscape.world ≡ faulted → first_down after.landscape.world ≡ down
+          → (its : RunEnd) → down_end_of after.full faulted down ≡ Some its → Ended its
+      Run-found answered does text None None no_fault down its same = absurd (subst (λ (o : Option RunEnd). MatchOption o ⊤ (λ some. ⊥)) same tt)
+      Run-found answered does text (Some system) found fault down its same =
+          subst Ended (ap (λ (o : Option RunEnd). unwrap_or o its) same) (
+            so_far.turns ++ turned command moment answered after ∷ [],
+            record { left = drop (i + 1) commands; these = split answered; follow = followed answered does; ends = (left_last answered, fault) },
+            put_whole answered text,
+            asked_done (end.DownByFault system) (λ is. absurd (cc)) answered,
+          )
+      Run-found answered does text None (Some system) no_fault down its same =
+          subst Ended (ap (λ (o : Option RunEnd). unwrap_or o its) same) (
+            so_far.turns ++ turned command moment answered after ∷ [],
+            record { left = drop (i + 1) commands; these = split answered; follow = followed answered does; ends = (left_last answered, no_fault, down) },
+            put_whole answered text,
+            asked_done (end.DownFull system after.full) (λ is. absurd (cc)) answered,
+          )
+
+      -- the text of the command was not taken whole
+      Run-unwritten : (answered : Answered) → DoneWith answered → IsPart mid_put new put_mid put_new (shown command answered after) → Ended end.WriteFailed
+      Run-unwritten answered does part = (
+        so_far.turns ++ turned command moment answered after ∷ [],
+        record { left = drop (i + 1) commands; these = split answered; follow = followed answered does; ends = left_last answered },
+        (
+          so_far.turns,
+          (
+            turned command moment answered after,
+            refl,
+            IsCut-then old mid_put new put put_mid put_new (text_of so_far.turns) (shown command answered after) so_far.put_is part,
+          ),
+        ),
+        asked_done end.WriteFailed (λ is. absurd (cc)) answered,
+      )
+
+      -- memory ran out in the command, or behind it
+      Run-halted : (answer : Result Answered Short) → Does faults inputs (at_moment moment mid) answer after command.form
+          → IsPut mid_put new put_mid put_new [] → Ended end.OutOfMemory
+      Run-halted answer does none = (
+        so_far.turns,
+        record {
+          left = command ∷ drop (i + 1) commands;
+          these = sym (take-append-drop i commands)
+              ∙ ap (λ rest. take i commands ++ rest) (drop_more commands i d below ∙ ap (λ one. one ∷ drop (i + 1) commands) (sym is))
+              ∙ ap (λ done. done ++ command ∷ drop (i + 1) commands) (sym so_far.these);
+          follow = so_far.follow;
+          ends = (moment, (answer, subst (λ stage. Does faults inputs (at_moment moment stage) answer after command.form) so_far.last does));
+        },
+        subst (IsPut old new put put_new) (append-nil (text_of so_far.turns))
+            (IsPut-then old mid_put new put put_mid put_new (text_of so_far.turns) [] so_far.put_is none),
+        record { given = λ tells. (moment ∷ [], le_refl 1, asked_more tells) },
+      )
+
+      pub Run-behind : (how : TurnEnd) → IsTurn faults inputs how moment command mid after mid_put new put_mid put_new → (its : RunEnd) → end_behind after how
+          ≡ Some its → Ended its
+      Run-behind turn.Done did its same = Run-found did.0 did.1 did.2 (first_faulted after.landscape.world) (first_down after.landscape.world) refl refl its
+          same
+      Run-behind turn.WriteFailed did its same = subst Ended (ap (λ (o : Option RunEnd). unwrap_or o its) same) (Run-unwritten did.0 did.1 did.2)
+      Run-behind turn.OutOfMemory did its same = subst Ended (ap (λ (o : Option RunEnd). unwrap_or o its) same) (Run-halted did.0 did.1 did.2)
+
+      none_down : (faulted down : Option ℕ) → down_end_of after.full faulted down ≡ None → down ≡ None
+      none_down None None same = refl
+      none_down (Some system) down same = absurd (subst (λ (o : Option RunEnd). MatchOption o ⊥ (λ some. ⊤)) same tt)
+      none_down None (Some system) same = absurd (subst (λ (o : Option RunEnd). MatchOption o ⊥ (λ some. ⊤)) same tt)
+
+      pub SoFar-next : (how : TurnEnd) → IsTurn faults inputs how moment command mid after mid_put new put_mid put_new → end_behind after how ≡ None
+          → SoFar faults inputs commands (i + 1) before after old new put put_new told given given_new
+      SoFar-next turn.Done did same = SoFar-done did.0 did.1 did.2 (none_down (first_faulted after.landscape.world) (first_down after.landscape.world) same)
+      SoFar-next turn.WriteFailed did same = absurd (subst (λ (o : Option RunEnd). MatchOption o ⊥ (λ some. ⊤)) same tt)
+      SoFar-next turn.OutOfMemory did same = absurd (subst (λ (o : Option RunEnd). MatchOption o ⊥ (λ some. ⊤)) same tt)

@@ -1,0 +1,35 @@
+use Rattle.std.proofs.Common.{arith, sym, ◌∙◌}
+use Rattle.runs.proofs.RunLemmas.{Run-behind, Run-whole, SoFar-next}
+use Rattle.runs.proofs.turns.run_script.Goals as goal
+
+pub loop-command-preserved : goal.loop-command-preserved
+loop-command-preserved g c = record {
+  so_far =
+      SoFar-next g.V.Volumes.faults c.args.inputs.now c.args.commands.now c.args.stage (g.K.Sink.contents c.args.out.now) (g.K.Sink.faults c.args.out.now)
+      (g.C.Clock.given c.args.clock.now) c.loop-command.command-index
+      c.command-item.result _ c.loop-command.stage c.turn-after.result.stage (g.K.Sink.contents c.loop-command.out) (g.K.Sink.contents c.turn-after.new.out)
+      (g.K.Sink.faults c.loop-command.out) (g.K.Sink.faults c.turn-after.new.out) (g.C.Clock.told c.loop-command.clock)
+      (g.C.Clock.told c.turn-after.new.clock)
+      (g.C.Clock.given c.loop-command.clock) (g.C.Clock.given c.turn-after.new.clock) c.loop-command.invariant.so_far c.loop-command-test.true
+      c.command-item.is
+      c.turn-after.ensures.told c.turn-after.ensures.turn.0 c.turn-after.ensures.turn.2 c.turn-after.result.end c.turn-after.ensures.turn.1
+      (sym c.behind.ensures ∙ c.in-None.is);
+  still = λ tells. c.loop-command.invariant.still (c.turn-after.ensures.told tells);
+}
+
+pub returns-in-Some-clause-run : goal.returns-in-Some-clause-run
+returns-in-Some-clause-run g c =
+    Run-behind g.V.Volumes.faults c.args.inputs.now c.args.commands.now c.args.stage (g.K.Sink.contents c.args.out.now) (g.K.Sink.faults c.args.out.now)
+    (g.C.Clock.given c.args.clock.now) c.loop-command.command-index
+    c.command-item.result _ c.loop-command.stage c.turn-after.result.stage (g.K.Sink.contents c.loop-command.out) (g.K.Sink.contents c.turn-after.new.out)
+    (g.K.Sink.faults c.loop-command.out) (g.K.Sink.faults c.turn-after.new.out) (g.C.Clock.told c.loop-command.clock) (g.C.Clock.told c.turn-after.new.clock)
+    (g.C.Clock.given c.loop-command.clock) (g.C.Clock.given c.turn-after.new.clock) c.loop-command.invariant.so_far c.loop-command-test.true c.command-item.is
+    c.turn-after.ensures.told c.turn-after.ensures.turn.0 c.turn-after.ensures.turn.2 c.turn-after.result.end c.turn-after.ensures.turn.1
+    c.in-Some.end (sym c.behind.ensures ∙ c.in-Some.is)
+
+pub returns-clause-run : goal.returns-clause-run
+returns-clause-run g c =
+    Run-whole g.V.Volumes.faults c.args.inputs.now c.args.commands.now c.args.stage (g.K.Sink.contents c.args.out.now) (g.K.Sink.faults c.args.out.now)
+    (g.C.Clock.given c.args.clock.now) c.loop-command.command-index
+    c.loop-command.stage (g.K.Sink.contents c.loop-command.out) (g.K.Sink.faults c.loop-command.out) (g.C.Clock.told c.loop-command.clock)
+    (g.C.Clock.given c.loop-command.clock) c.loop-command.invariant.so_far (let end = c.loop-command-test.false in omega arith)

@@ -1,0 +1,4 @@
+-- Definitions that only private functions cite.
+
+-- what was put of a command
+pub mod Put

@@ -1,0 +1,77 @@
+-- What was put of a command, and of a run.
+use Rattle.std.specs.Prelude.{◌≡◌, ℕ, List, [], ◌∷◌, ◌++◌, take, Option, Some, None, Result, Ok}
+use Rattle.std.specs.Io.KnownBytes.{Appends}
+use Rattle.ale_base.specs.Faults.{Rose}
+use Rattle.ale_base.specs.declared.out_of_memory.OutOfMemory.{OutOfMemory as Short}
+use Rattle.ale_io.specs.Written.{AppendsFront}
+use Rattle.script_text.specs.declared.command.Command.{Command}
+use Rattle.runs.specs.declared.answered.Answered.{Answered}
+use Rattle.runs.specs.declared.inputs.Inputs.{Inputs}
+use Rattle.runs.specs.declared.run_end.RunEnd.{RunEnd}
+use Rattle.runs.specs.declared.run_end.RunEnd.TheVariants as end
+use Rattle.runs.specs.declared.stage.Stage.{Stage}
+use Rattle.runs.specs.declared.turns.TurnEnd.{TurnEnd}
+use Rattle.runs.specs.declared.turns.TurnEnd.TheVariants as turn
+use Rattle.runs.specs.Does.{Does}
+use Rattle.runs.specs.Run.{Turn, at_moment, first_down, first_faulted, text_of}
+use Rattle.runs.specs.Text.{shown}
+
+-- the whole text was put with no fault
+pub record IsPut (before after : Option (List ℕ)) (faults faults_after : ℕ) (text : List ℕ) : Type 0 where
+  pub appends : Appends before after text
+  pub quiet : faults_after ≡ faults
+
+-- a write failed, and a front of the text was put
+pub record IsPart (before after : Option (List ℕ)) (faults faults_after : ℕ) (text : List ℕ) : Type 0 where
+  pub appends : AppendsFront before after text
+  pub rose : Rose faults faults_after
+
+-- a write failed: a text was put whole, and a front of the one behind it
+pub record IsCut (before after : Option (List ℕ)) (faults faults_after : ℕ) (whole part : List ℕ) : Type 0 where
+  pub count : ℕ
+  pub appends : Appends before after (whole ++ take count part)
+  pub rose : Rose faults faults_after
+
+-- what a run put, by its ending: all its text; or all that was due before its last turn, and a front of the text of that
+abbrev pub IsPutAt : {V : Type 0} → RunEnd → Option (List ℕ) → Option (List ℕ) → ℕ → ℕ → List (Turn V) → Type 0
+IsPutAt {V} end.WriteFailed before after faults faults_after turns =
+    (done : List (Turn V)) × ((last : Turn V) × (turns ≡ done ++ last ∷ [])
+    × IsCut before after faults faults_after (text_of done) (shown last.command last.answered last.after))
+IsPutAt _ before after faults faults_after turns = IsPut before after faults faults_after (text_of turns)
+
+-- the text of an answer was put, whole or in part; or there was no answer, or no memory for its text, and nothing was put
+abbrev pub IsReported : TurnEnd → Result Answered Short → (Answered → List ℕ) → Option (List ℕ) → Option (List ℕ) → ℕ → ℕ → Type 0
+IsReported turn.Done answer text old new faults faults_after =
+    (answered : Answered) × (answer ≡ Ok answered) × IsPut old new faults faults_after (text answered)
+IsReported turn.WriteFailed answer text old new faults faults_after =
+    (answered : Answered) × (answer ≡ Ok answered) × IsPart old new faults faults_after (text answered)
+IsReported turn.OutOfMemory answer text old new faults faults_after = IsPut old new faults faults_after []
+
+module _ {V : Type 0} (faults : V → ℕ → ℕ) (inputs : Inputs) where
+  -- what a command did that began at a moment, and what was put of it
+  abbrev pub IsTurn : TurnEnd → ℕ → Command → Stage V → Stage V → Option (List ℕ) → Option (List ℕ) → ℕ → ℕ → Type 0
+  IsTurn turn.Done moment command before after old new put put_after =
+      (answered : Answered) × Does faults inputs (at_moment moment before) (Ok answered) after command.form × IsPut old new put put_after
+      (shown command answered after)
+  IsTurn turn.WriteFailed moment command before after old new put put_after =
+      (answered : Answered) × Does faults inputs (at_moment moment before) (Ok answered) after command.form × IsPart old new put put_after
+      (shown command answered after)
+  IsTurn turn.OutOfMemory moment command before after old new put put_after =
+      (answer : Result Answered Short) × Does faults inputs (at_moment moment before) answer after command.form × IsPut old new put put_after []
+
+-- the ending where a system is down, by the first that is by a fault of its volume, and the first that is at all; the journal of a system
+-- whose record did not fit would have been so long
+abbrev pub down_end_of : ℕ → Option ℕ → Option ℕ → Option RunEnd
+down_end_of size (Some system) down = Some (end.DownByFault system)
+down_end_of size None (Some system) = Some (end.DownFull system size)
+down_end_of size None None = None
+
+-- the ending behind a command that ended so, if it ends the run
+abbrev pub end_behind : {V : Type 0} → Stage V → TurnEnd → Option RunEnd
+end_behind stage turn.Done = down_end_of stage.full (first_faulted stage.landscape.world) (first_down stage.landscape.world)
+end_behind stage turn.WriteFailed = Some end.WriteFailed
+end_behind stage turn.OutOfMemory = Some end.OutOfMemory
+
+-- a clock, where it tells what it gave, gave this moment
+abbrev pub GivesOne : Type 0 → List ℕ → List ℕ → ℕ → Type 0
+GivesOne told before after moment = told → after ≡ before ++ moment ∷ []

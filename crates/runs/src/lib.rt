@@ -1,0 +1,21 @@
+//! Runs of scripts: each command is carried out by the systems of a landscape, and its text is put.
+//!
+//! Contract: a run is a list of turns; in each a command does what it asks for (`Does`), and its reply with the lengths of the logs, and
+//! what it lists, is put. The run ends behind its last command, or by a cause that stands in what it left. The definitions are in
+//! `specs/`: `Does` (what a command does), `Run` (turns, and why a run ends), `Text` (what is printed).
+#![tactic(auto)]
+
+mod answered;
+mod inputs;
+mod lengths;
+mod performing;
+mod report;
+mod run_end;
+mod stage;
+mod turns;
+
+pub use answered::Answered;
+pub use inputs::Inputs;
+pub use run_end::RunEnd;
+pub use stage::Stage;
+pub use turns::{Ran, run_script};

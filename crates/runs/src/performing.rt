@@ -1,0 +1,131 @@
+//! A command is carried out. Its forms are, by file: in `committing` those that commit documents, in `changing` those that change
+//! objects and pass documents to the application again, in `operating` those of an operator, in `showing` the listings.
+
+ghost use Rattle.std.specs.Prelude.{◌≡◌, IfOk};
+ghost use Rattle.script_text.specs.declared.form.Form.TheVariants as form;
+ghost use Rattle.runs.specs.declared.inputs.Inputs.{Inputs as InputsOf};
+ghost use Rattle.runs.specs.Does.{Does, drained_as};
+ghost use Rattle.runs.specs.Text.{IsPrintable};
+
+mod changing;
+mod committing;
+mod operating;
+mod showing;
+
+use crate::answered::plain;
+use crate::{Answered, Inputs, Stage};
+use ale_base::OutOfMemory;
+use ale_volumes::Volumes;
+use changing::{app, put, repost};
+use committing::{dispatch, gather, send};
+use operating::{late, retry, start, stop, wire};
+use report_text::Reply;
+use script_text::Form;
+use showing::{show_doc, show_docs, show_objects, show_queues, show_units};
+use std::alloc::Global;
+use unit_works::{Drained, drain};
+
+/// A command that ended: its answer, or none where memory ran out, and what it left.
+#[derive(Drop)]
+pub(crate) struct Performed<V: Volumes> {
+    pub(crate) stage: Stage<V>,
+    pub(crate) answer: Result<Answered, OutOfMemory>,
+}
+
+/// Carries out a command.
+pub(crate) fn perform<V: Volumes>(
+    alloc: Global,
+    stage: Stage<V>,
+    inputs: &Inputs,
+    form: &Form,
+) -> Performed<V>
+    ensures does { Does V.faults inputs.now stage result.answer result.stage form.now }
+    ensures printable { IfOk result.answer IsPrintable }
+{
+    match form {
+        Form::Drain => drained(alloc, stage),
+        _ => {
+            let mut stage = stage;
+            let answer = carry_out(&mut stage, inputs, form);
+            Performed { stage, answer }
+        }
+    }
+}
+
+/// Works until nothing is offered.
+fn drained<V: Volumes>(alloc: Global, stage: Stage<V>) -> Performed<V>
+    ensures does { (inputs : InputsOf) → Does V.faults inputs stage result.answer result.stage form.Drain }
+    ensures printable { IfOk result.answer IsPrintable }
+{
+    let Stage {
+        landscape,
+        wires,
+        full: _,
+    } = stage;
+    let Drained {
+        landscape,
+        wires,
+        end,
+        full,
+    } = drain(alloc, landscape, wires);
+    let answer = finished(end);
+    Performed {
+        stage: Stage {
+            landscape,
+            wires,
+            full,
+        },
+        answer,
+    }
+}
+
+/// How a drain is answered.
+fn finished(end: Result<u64, OutOfMemory>) -> Result<Answered, OutOfMemory>
+    ensures answer { result ≡ drained_as end }
+    ensures printable { IfOk result IsPrintable }
+{
+    match end {
+        Ok(count) => plain(Reply::Finished(count)),
+        Err(OutOfMemory) => Err(OutOfMemory),
+    }
+}
+
+/// Carries out a command that is no drain. A drain, which takes what it works on whole, is not carried out here.
+fn carry_out<V: Volumes>(
+    stage: &mut Stage<V>,
+    inputs: &Inputs,
+    form: &Form,
+) -> Result<Answered, OutOfMemory>
+    ensures does { Does V.faults inputs.now stage.old result stage.new form.now }
+    ensures printable { IfOk result IsPrintable }
+{
+    match form {
+        Form::Drain => Err(OutOfMemory),
+        Form::Send { sys, number } => send(stage, inputs, sys.as_slice(), *number),
+        Form::Put { sys, change } => put(stage, inputs, sys.as_slice(), change),
+        Form::Gather { sys, message } => {
+            gather(stage, inputs, sys.as_slice(), message.as_slice())
+        }
+        Form::Dispatch { sys } => dispatch(stage, inputs, sys.as_slice()),
+        Form::App { sys, doc } => app(stage, inputs, sys.as_slice(), *doc),
+        Form::Repost { sys, doc } => repost(stage, inputs, sys.as_slice(), *doc),
+        Form::Wire { tid, letters } => wire(stage, *tid, letters.as_slice()),
+        Form::Late { tid } => late(stage, *tid),
+        Form::Retry { sys, tid } => retry(stage, inputs, sys.as_slice(), *tid),
+        Form::Stop {
+            sys,
+            destination,
+            queue,
+        } => stop(stage, inputs, sys.as_slice(), destination, queue.as_slice()),
+        Form::Start {
+            sys,
+            destination,
+            queue,
+        } => start(stage, inputs, sys.as_slice(), destination, queue.as_slice()),
+        Form::ShowDocs { sys } => show_docs(stage, inputs, sys.as_slice()),
+        Form::ShowDoc { sys, doc } => show_doc(stage, inputs, sys.as_slice(), *doc),
+        Form::ShowUnits { sys } => show_units(stage, inputs, sys.as_slice()),
+        Form::ShowQueues { sys } => show_queues(stage, inputs, sys.as_slice()),
+        Form::ShowObjects { sys } => show_objects(stage, inputs, sys.as_slice()),
+    }
+}

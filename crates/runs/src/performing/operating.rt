@@ -1,0 +1,162 @@
+//! Commands of an operator.
+
+ghost use Rattle.std.specs.Prelude.{◌≡◌, ⊤, IfOk};
+ghost use Rattle.std.specs.Arc.{arc_value};
+ghost use Rattle.script_text.specs.declared.form.Form.TheVariants as form;
+ghost use Rattle.landscape.specs.Operator.{asked_retry, start_of, stop_of};
+ghost use Rattle.report_text.specs.declared.reply.Reply.TheVariants.{Carried};
+ghost use Rattle.runs.specs.Does.{Does, Lates, Leads, Operates, Queues, Wired, shown_late};
+ghost use Rattle.runs.specs.Text.{IsPrintable};
+
+use crate::answered::{carried, plain, refused};
+use crate::{Answered, Inputs, Stage};
+use ale_base::{Items, OutOfMemory, SystemNo, Tid};
+use ale_volumes::Volumes;
+use report_text::Reply;
+use status_log::Refusal;
+use trfc_protocol::HeldKind;
+use unit_landscape::Late;
+
+/// `stop`: stops a queue.
+pub(super) fn stop<V: Volumes>(
+    stage: &mut Stage<V>,
+    inputs: &Inputs,
+    sys: &[u8],
+    destination: &Option<Items<u8>>,
+    queue: &[u8],
+) -> Result<Answered, OutOfMemory>
+    ensures does { Does V.faults inputs.now stage.old result stage.new (form.Stop sys.now destination.now queue.now) }
+    ensures printable { IfOk result IsPrintable }
+{
+    let Some(system) = inputs.system(sys) else {
+        return refused(Refusal::N1);
+    };
+    match destination {
+        None => stop_at(stage, inputs, system, None, queue),
+        Some(name) => match inputs.system(name.as_slice()) {
+            None => refused(Refusal::N1),
+            Some(to) => stop_at(stage, inputs, system, Some(to), queue),
+        },
+    }
+}
+
+/// The same at a system.
+fn stop_at<V: Volumes>(
+    stage: &mut Stage<V>,
+    inputs: &Inputs,
+    system: SystemNo,
+    destination: Option<SystemNo>,
+    queue: &[u8],
+) -> Result<Answered, OutOfMemory>
+    ensures does { Queues V.faults inputs.now stage.old result stage.new system destination queue.now stop_of }
+    ensures printable { IfOk result IsPrintable }
+{
+    carried(stage.landscape.stop(system, destination, queue))
+}
+
+/// `start`: lets a queue go on.
+pub(super) fn start<V: Volumes>(
+    stage: &mut Stage<V>,
+    inputs: &Inputs,
+    sys: &[u8],
+    destination: &Option<Items<u8>>,
+    queue: &[u8],
+) -> Result<Answered, OutOfMemory>
+    ensures does { Does V.faults inputs.now stage.old result stage.new (form.Start sys.now destination.now queue.now) }
+    ensures printable { IfOk result IsPrintable }
+{
+    let Some(system) = inputs.system(sys) else {
+        return refused(Refusal::N1);
+    };
+    match destination {
+        None => start_at(stage, inputs, system, None, queue),
+        Some(name) => match inputs.system(name.as_slice()) {
+            None => refused(Refusal::N1),
+            Some(to) => start_at(stage, inputs, system, Some(to), queue),
+        },
+    }
+}
+
+/// The same at a system.
+fn start_at<V: Volumes>(
+    stage: &mut Stage<V>,
+    inputs: &Inputs,
+    system: SystemNo,
+    destination: Option<SystemNo>,
+    queue: &[u8],
+) -> Result<Answered, OutOfMemory>
+    ensures does { Queues V.faults inputs.now stage.old result stage.new system destination queue.now start_of }
+    ensures printable { IfOk result IsPrintable }
+{
+    carried(stage.landscape.start(system, destination, queue))
+}
+
+/// `retry`: takes a unit's mark away.
+pub(super) fn retry<V: Volumes>(
+    stage: &mut Stage<V>,
+    inputs: &Inputs,
+    sys: &[u8],
+    tid: Tid,
+) -> Result<Answered, OutOfMemory>
+    ensures does { Does V.faults inputs.now stage.old result stage.new (form.Retry sys.now tid) }
+    ensures printable { IfOk result IsPrintable }
+{
+    match inputs.system(sys) {
+        None => refused(Refusal::N1),
+        Some(system) => retry_at(stage, inputs, system, tid),
+    }
+}
+
+/// The same at a system.
+fn retry_at<V: Volumes>(
+    stage: &mut Stage<V>,
+    inputs: &Inputs,
+    system: SystemNo,
+    tid: Tid,
+) -> Result<Answered, OutOfMemory>
+    ensures does { Operates V.faults inputs.now stage.old result stage.new {T = Unit {0}} system (asked_retry stage.old.landscape.world.rules.systems system tid)
+        (λ done. ⊤) (λ done. Carried) }
+    ensures printable { IfOk result IsPrintable }
+{
+    carried(stage.landscape.retry(system, tid))
+}
+
+/// `late`: an earlier request of a unit comes now.
+pub(super) fn late<V: Volumes>(stage: &mut Stage<V>, tid: Tid) -> Result<Answered, OutOfMemory>
+    ensures does { Lates V.faults stage.old result stage.new tid }
+    ensures printable { IfOk result IsPrintable }
+{
+    // Between commands no unit is claimed, so this never comes.
+    if stage.landscape.world().is_claimed(HeldKind::Direct, tid) {
+        return Err(OutOfMemory);
+    }
+    match stage.landscape.late(tid) {
+        Ok(came) => plain(shown_late(came)),
+        Err(why) => refused(why),
+    }
+}
+
+/// What is replied of a late request.
+fn shown_late(came: Late) -> Reply
+    ensures { result ≡ shown_late came }
+{
+    match came {
+        Late::New => Reply::New,
+        Late::Known => Reply::Known,
+        Late::SysFail => Reply::SysFail,
+        Late::Down => Reply::Down,
+    }
+}
+
+/// `wire`: says what becomes of the next shipments of a unit.
+pub(super) fn wire<V: Volumes>(
+    stage: &mut Stage<V>,
+    tid: Tid,
+    letters: &[u8],
+) -> Result<Answered, OutOfMemory>
+    ensures does { Wired V.faults stage.old result stage.new tid letters.now result }
+    ensures printable { IfOk result IsPrintable }
+{
+    stage.wires.add(tid, letters)?;
+    plain(Reply::Carried)
+}

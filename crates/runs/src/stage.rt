@@ -1,0 +1,16 @@
+//! What a run works on.
+
+use ale_volumes::Volumes;
+use landscape::Landscape;
+use wires::Wires;
+
+/// What a run works on: the systems, and what becomes of the shipments of their units.
+#[derive(Drop)]
+pub struct Stage<V: Volumes> {
+    /// The systems.
+    pub landscape: Landscape<V>,
+    /// The letters that are left of units.
+    pub wires: Wires,
+    /// How long the journal would have been of the system that fell last since a record did not fit; 0 where none did.
+    pub full: u64,
+}

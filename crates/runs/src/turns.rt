@@ -1,0 +1,155 @@
+//! The commands of a script, one after the other.
+
+ghost use Rattle.std.specs.Prelude.{◌≡◌, ◌≤◌, ℕ, List, None, IfOk};
+ghost use Rattle.runs.specs.Run.{AreAsked, Run, Turn, at_moment, first_down, first_faulted};
+ghost use Rattle.runs.specs.Text.{IsPrintable, shown};
+ghost use Rattle.runs.specs.steps.Put.{GivesOne, IsPutAt, IsReported, IsTurn, down_end_of, end_behind};
+
+use crate::lengths::{first_down, first_faulted};
+use crate::performing::{Performed, perform};
+use crate::report::shown;
+use crate::{Answered, Inputs, RunEnd, Stage};
+use ale_base::OutOfMemory;
+use ale_io::{Clock, Sink};
+use ale_volumes::Volumes;
+use script_text::Command;
+use std::alloc::Global;
+
+/// A run that ended: why, and what it left.
+#[derive(Drop)]
+pub struct Ran<V: Volumes> {
+    /// What it left.
+    pub stage: Stage<V>,
+    /// Why it ended.
+    pub end: RunEnd,
+}
+
+/// How a command ends.
+#[derive(Clone, Copy, Debug, PartialEq, Eq)]
+pub(crate) enum TurnEnd {
+    /// It was answered, and its text was put.
+    Done,
+    /// The sink did not take its text.
+    WriteFailed,
+    /// Memory ran out.
+    OutOfMemory,
+}
+
+/// Carries out commands one after the other, and puts the text of each behind it. Before each command the clock is asked, and its records
+/// are written with that moment. A system that goes down ends the run behind the command, and so does a text that the sink did not take,
+/// and want of memory.
+pub fn run_script<V: Volumes, K: Sink, C: Clock>(
+    alloc: Global,
+    stage: Stage<V>,
+    inputs: &Inputs,
+    commands: &[Command],
+    out: &mut K,
+    clock: &mut C,
+) -> Ran<V>
+    requires up { first_down stage.landscape.world ≡ None }
+    ensures run { (turns : List (Turn V)) × Run V.faults inputs.now commands.now stage result.stage result.end turns
+        × IsPutAt result.end (K.contents out.old) (K.contents out.new) (K.faults out.old) (K.faults out.new) turns
+        × AreAsked (C.told clock.new) (C.given clock.old) (C.given clock.new) result.end turns }
+    ensures told { C.told clock.new → C.told clock.old }
+    ensures counted { K.faults out.old ≤ K.faults out.new }
+{
+    let mut stage = stage;
+    for command in commands {
+        let Turned { stage: after, end } = turn(alloc, stage, inputs, command, out, clock);
+        stage = after;
+        match behind(&stage, end) {
+            None => {}
+            Some(end) => return Ran { stage, end },
+        }
+    }
+    Ran {
+        stage,
+        end: RunEnd::Whole,
+    }
+}
+
+/// A command that ended, and what it left.
+#[derive(Drop)]
+struct Turned<V: Volumes> {
+    stage: Stage<V>,
+    end: TurnEnd,
+}
+
+/// Carries out a command, and puts its text.
+fn turn<V: Volumes, K: Sink, C: Clock>(
+    alloc: Global,
+    stage: Stage<V>,
+    inputs: &Inputs,
+    command: &Command,
+    out: &mut K,
+    clock: &mut C,
+) -> Turned<V>
+    ensures turn { (moment : ℕ) × IsTurn V.faults inputs.now result.end moment command.now stage result.stage
+        (K.contents out.old) (K.contents out.new) (K.faults out.old) (K.faults out.new)
+        × GivesOne (C.told clock.new) (C.given clock.old) (C.given clock.new) moment }
+    ensures told { C.told clock.new → C.told clock.old }
+    ensures counted { K.faults out.old ≤ K.faults out.new }
+{
+    let moment = clock.now();
+    let stage = begin(stage, moment);
+    let Performed { stage, answer } = perform(alloc, stage, inputs, &command.form);
+    let end = report(alloc, &stage, command, answer, out);
+    Turned { stage, end }
+}
+
+/// Records are written with this moment from now on.
+fn begin<V: Volumes>(stage: Stage<V>, moment: u64) -> Stage<V>
+    ensures { result ≡ at_moment moment stage }
+{
+    let mut stage = stage;
+    stage.landscape.set_moment(Some(moment));
+    stage
+}
+
+/// Puts the text of a command that was answered so.
+fn report<V: Volumes, K: Sink>(
+    alloc: Global,
+    stage: &Stage<V>,
+    command: &Command,
+    answer: Result<Answered, OutOfMemory>,
+    out: &mut K,
+) -> TurnEnd
+    requires { IfOk answer IsPrintable }
+    ensures reported { IsReported result answer (λ answered. shown command.now answered stage.now)
+        (K.contents out.old) (K.contents out.new) (K.faults out.old) (K.faults out.new) }
+    ensures counted { K.faults out.old ≤ K.faults out.new }
+{
+    let Ok(answered) = answer else {
+        return TurnEnd::OutOfMemory;
+    };
+    match shown(alloc, command, &answered, stage) {
+        Err(_) => TurnEnd::OutOfMemory,
+        Ok(text) => match out.put(text.as_slice()) {
+            Ok(()) => TurnEnd::Done,
+            Err(_) => TurnEnd::WriteFailed,
+        },
+    }
+}
+
+/// Whether a run ends behind a command that ended so, and why. Where the command was answered, it is the first system that is down.
+fn behind<V: Volumes>(stage: &Stage<V>, end: TurnEnd) -> Option<RunEnd>
+    ensures { result ≡ end_behind stage.now end }
+{
+    match end {
+        TurnEnd::Done => down_end(stage),
+        TurnEnd::WriteFailed => Some(RunEnd::WriteFailed),
+        TurnEnd::OutOfMemory => Some(RunEnd::OutOfMemory),
+    }
+}
+
+/// The ending where a system is down. None exactly where all are up.
+fn down_end<V: Volumes>(stage: &Stage<V>) -> Option<RunEnd>
+    ensures { result ≡ down_end_of stage.now.full (first_faulted stage.now.landscape.world) (first_down stage.now.landscape.world) }
+{
+    let systems = stage.landscape.world().systems.as_slice();
+    match (first_faulted(systems), first_down(systems)) {
+        (Some(system), _) => Some(RunEnd::DownByFault(system)),
+        (None, Some(system)) => Some(RunEnd::DownFull(system, stage.full)),
+        (None, None) => None,
+    }
+}
