@@ -1,11 +1,15 @@
 -- The ending of `pass` is one of the run.
-use Rattle.std.proofs.Common.{◌≡◌, ◌≢◌, ℕ, Some, Result, Ok, Err, List, refl, subst, inl, inr}
-use Rattle.std.specs.Prelude.{IfOk}
+use Rattle.std.proofs.Common.{◌≡◌, ◌≢◌, ℕ, Some, Result, Ok, Err, List, refl, sym, ap, subst, inl, inr}
+use Rattle.std.specs.Prelude.{IfErr, IfOk}
 use Rattle.ale_io.specs.Told.{Told}
 use Rattle.ale_host.specs.declared.words.Form.TheVariants.{Pass, Run}
 use Rattle.ale_host.specs.declared.ending.Ending.{Ending}
 use Rattle.ale_host.specs.declared.ending.Ending.TheVariants as ending
 use Rattle.ale_host.specs.Inputs.{EndsBehindDocuments, EndsBehindModel, EndsRun, SaysDocuments, SaysScript, StopsAtDocuments, StopsAtScript}
+use Rattle.idoc_file.specs.declared.raw_doc.RawDoc.{RawDoc}
+use Rattle.ale_host.specs.declared.inputs.ModelFile.{ModelFile}
+use Rattle.ale_host.specs.declared.prepared.Prepared.{Prepared}
+use Rattle.ale_host.specs.Prepared.{EndsAs, IsBehindDocuments, IsBehindModel, IsRead, SaysModel}
 use Rattle.ale_host.specs.Words.{form_of, document_file, documents_file, model_file, script_file}
 use Rattle.ale_host.specs.Ending.{IsFile, EndsFile, EndsPass, Ends, IsQuiet, status_of}
 
@@ -16,7 +20,6 @@ Ends-pass words told faults (ending.ModelRefused fault) is_pass ends = inl (is_p
 Ends-pass words told faults (ending.Refused fault) is_pass ends = inl (is_pass, ends)
 Ends-pass words told faults (ending.ScriptRefused fault) is_pass ends = inl (is_pass, ends)
 Ends-pass words told faults (ending.Unread name why) is_pass ends = inl (is_pass, ends)
-Ends-pass words told faults ending.RunNotBuilt is_pass ends = inl (is_pass, ends)
 Ends-pass words told faults ending.OutOfMemory is_pass ends = tt
 Ends-pass words told faults ending.Usage is_pass ends = absurd ends.2
 Ends-pass words told faults ending.LoadNotBuilt is_pass ends = absurd ends.2
@@ -29,21 +32,14 @@ Ends-run words told faults (ending.ModelRefused fault) is_run ends = inr (is_run
 Ends-run words told faults (ending.Refused fault) is_run ends = inr (is_run, ends)
 Ends-run words told faults (ending.ScriptRefused fault) is_run ends = inr (is_run, ends)
 Ends-run words told faults (ending.Unread name why) is_run ends = inr (is_run, ends)
-Ends-run words told faults ending.RunNotBuilt is_run ends = inr (is_run, ends)
 Ends-run words told faults ending.OutOfMemory is_run ends = tt
 Ends-run words told faults ending.Usage is_run ends = elim ends [
   | inl stops ↦ absurd stops
-  | inr (lists, says, behind) ↦ elim behind [
-    | inl stops ↦ absurd stops
-    | inr (all, documents, last) ↦ elim last [ inl stops ↦ absurd stops | inr (commands, script, end) ↦ absurd (cc) ]
-  ]
+  | inr (lists, says, behind) ↦ elim behind [ inl stops ↦ absurd stops | inr (all, documents, last) ↦ absurd last ]
 ]
 Ends-run words told faults ending.LoadNotBuilt is_run ends = elim ends [
   | inl stops ↦ absurd stops
-  | inr (lists, says, behind) ↦ elim behind [
-    | inl stops ↦ absurd stops
-    | inr (all, documents, last) ↦ elim last [ inl stops ↦ absurd stops | inr (commands, script, end) ↦ absurd (cc) ]
-  ]
+  | inr (lists, says, behind) ↦ elim behind [ inl stops ↦ absurd stops | inr (all, documents, last) ↦ absurd last ]
 ]
 
 -- a status other than those of a file that is not read, and of memory, comes with no fault of the files
@@ -55,7 +51,6 @@ quiet_by_status (ending.ScriptRefused fault) before after quiet not_5 not_9 = qu
 quiet_by_status (ending.Unread name why) before after quiet not_5 not_9 = absurd (not_5 refl)
 quiet_by_status ending.OutOfMemory before after quiet not_5 not_9 = absurd (not_9 refl)
 quiet_by_status ending.Usage before after quiet not_5 not_9 = quiet
-quiet_by_status ending.RunNotBuilt before after quiet not_5 not_9 = quiet
 quiet_by_status ending.LoadNotBuilt before after quiet not_5 not_9 = quiet
 
 -- what follows of the value of an Ok
@@ -63,8 +58,14 @@ pub if_ok : {T E : Type 0} {P Q : T → Type 0} (r : Result T E) → IfOk r P �
 if_ok (Ok v) here leads = leads v here
 if_ok (Err e) here leads = tt
 
+-- what follows of the value of an Err
+pub if_err : {T E : Type 0} {P Q : E → Type 0} (r : Result T E) → IfErr r P → ((e : E) → P e → Q e) → IfErr r Q
+if_err (Ok v) here leads = tt
+if_err (Err e) here leads = leads e here
+
 -- the ending of a file is one of `pass` over it
-pub EndsPass-file : (name bytes : List ℕ) (told : Told) (faults : Type 0) (end : Ending) → IsFile told bytes → EndsFile bytes end → EndsPass name told faults end
+pub EndsPass-file : (name bytes : List ℕ) (told : Told) (faults : Type 0) (end : Ending) → IsFile told bytes → EndsFile bytes end → EndsPass name told faults
+    end
 EndsPass-file name bytes told faults (ending.Passed documents) is ends = (bytes, is, ends)
 EndsPass-file name bytes told faults (ending.Refused fault) is ends = (bytes, is, ends)
 EndsPass-file name bytes told faults _ is ends = absurd ends
@@ -76,19 +77,77 @@ IsQuiet-same ending.OutOfMemory before after same = tt
 IsQuiet-same _ before after same = same
 
 -- what a call leaves of the files, by the name: what was told of one before is told of it afterwards
-same_told : (before after : List ℕ → Told) → ((name : List ℕ) → after name ≡ before name) → (P : Told → Type 0) (name : List ℕ) → P (after name) → P (before name)
+same_told : (before after : List ℕ → Told) → ((name : List ℕ) → after name ≡ before name) → (P : Told → Type 0) (name : List ℕ) → P (after name) → P
+    (before name)
 same_told before after kept P name here = subst P (kept name) here
 
 -- a call that let the count of faults be, and then one that ended the run at a later file
-pub EndsBehindDocuments-later : (before after : List ℕ → Told) (one two : Type 0) (script : List ℕ) (end : Ending) → ((name : List ℕ) → after name ≡ before name) → one ≡ two
+pub EndsBehindDocuments-later : (before after : List ℕ → Told) (one two : Type 0) (script : List ℕ) (end : Ending) →
+    ((name : List ℕ) → after name ≡ before name) → one ≡ two
     → EndsBehindDocuments after one script end → EndsBehindDocuments before two script end
-EndsBehindDocuments-later before after one two script end kept same (inl stops) =
-    inl (subst (λ (faults : Type 0). StopsAtScript script (before script) faults end) same (same_told before after kept (λ told. StopsAtScript script told one end) script stops))
-EndsBehindDocuments-later before after one two script end kept same (inr (commands, says, is)) = inr (commands, same_told before after kept (λ told. SaysScript told commands) script says, is)
+EndsBehindDocuments-later before after one two script end kept same stops =
+    subst (λ (faults : Type 0). StopsAtScript script (before script) faults end) same
+    (same_told before after kept (λ told. StopsAtScript script told one end) script stops)
 
-pub EndsBehindModel-later : (before after : List ℕ → Told) (one two : Type 0) (documents script : List ℕ) (end : Ending) → ((name : List ℕ) → after name ≡ before name) → one ≡ two
+pub EndsBehindModel-later : (before after : List ℕ → Told) (one two : Type 0) (documents script : List ℕ) (end : Ending) →
+    ((name : List ℕ) → after name ≡ before name) → one ≡ two
     → EndsBehindModel after one documents script end → EndsBehindModel before two documents script end
 EndsBehindModel-later before after one two documents script end kept same (inl stops) =
-    inl (subst (λ (faults : Type 0). StopsAtDocuments documents (before documents) faults end) same (same_told before after kept (λ told. StopsAtDocuments documents told one end) documents stops))
+    inl (subst (λ (faults : Type 0). StopsAtDocuments documents (before documents) faults end) same
+    (same_told before after kept (λ told. StopsAtDocuments documents told one end) documents stops))
 EndsBehindModel-later before after one two documents script end kept same (inr (all, says, behind)) =
-    inr (all, same_told before after kept (λ told. SaysDocuments told all) documents says, EndsBehindDocuments-later before after one two script end kept same behind)
+    inr (
+      all,
+      same_told before after kept (λ told. SaysDocuments told all) documents says,
+      EndsBehindDocuments-later before after one two script end kept same
+          behind,
+    )
+
+-- what a run has, of which a file before was read
+pub behind-documents : (before after : List ℕ → Told) (file : ModelFile) (documents : List RawDoc) (script : List ℕ) (prepared : Prepared)
+    → ((name : List ℕ) → after name ≡ before name) → IsBehindDocuments after file documents script prepared → IsBehindDocuments before file documents script
+    prepared
+behind-documents before after file documents script prepared kept read =
+    (read.0, same_told before after kept (λ told. SaysScript told read.0) script read.1, read.2)
+
+pub behind-model : (before after : List ℕ → Told) (file : ModelFile) (documents script : List ℕ) (prepared : Prepared)
+    → ((name : List ℕ) → after name ≡ before name) → IsBehindModel after file documents script prepared → IsBehindModel before file documents script prepared
+behind-model before after file documents script prepared kept read = (
+  read.0,
+  same_told before after kept (λ told. SaysDocuments told read.0) documents read.1,
+  behind-documents before after file read.0 script prepared kept
+      read.2,
+)
+
+-- what a run has is what its three files say
+pub is-read : (told : List ℕ → Told) (file : ModelFile) (model documents script : List ℕ) (prepared : Prepared) → SaysModel (told model) file
+    → IsBehindModel told file documents script prepared → IsRead told model documents script prepared
+is-read told file model documents script prepared says read = (
+  record {
+    text = file.text;
+    model = file.model;
+    documents = read.0;
+    commands = read.2.0;
+    in_file = says.in_file;
+    says_model = says.says;
+    says_documents = read.1;
+    says_script = read.2.1;
+  },
+  read.2.2,
+)
+
+-- an ending that is printed, or want of memory in its place, is one of these words
+pub ends-as : (words : List (List ℕ)) (told : List ℕ → Told) (faults : Type 0) (due its : Ending) → Ends words told faults due → EndsAs due its → Ends words
+    told faults its
+ends-as words told faults due its ends (inl same) = subst (Ends words told faults) (sym same) ends
+ends-as words told faults due its ends (inr same) = subst (Ends words told faults) (sym same) tt
+
+-- the same of the count of faults of the files, by the status
+pub quiet-as : (due its : Ending) (before after : ℕ) → IsQuiet due before after → EndsAs due its → status_of its ≢ 5 → status_of its ≢ 9 → after ≡ before
+quiet-as due its before after quiet (inl same) not_5 not_9 =
+    quiet_by_status due before after quiet (subst (λ (end : Ending). status_of end ≢ 5) same not_5) (subst (λ (end : Ending). status_of end ≢ 9) same not_9)
+quiet-as due its before after quiet (inr same) not_5 not_9 = absurd (not_9 (ap status_of same))
+
+pub quiet-early : (due its : Ending) (before after : ℕ) → IsQuiet due before after → EndsAs due its → IsQuiet its before after
+quiet-early due its before after quiet (inl same) = subst (λ (end : Ending). IsQuiet end before after) (sym same) quiet
+quiet-early due its before after quiet (inr same) = subst (λ (end : Ending). IsQuiet end before after) (sym same) tt

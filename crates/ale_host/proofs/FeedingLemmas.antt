@@ -13,16 +13,19 @@ MayBegin-none no_file = refl
 MayBegin-none (file bytes) = refl
 
 -- a piece more was read
-pub MayBegin-more : (told : Told) (bytes held piece : List ℕ) (most : ℕ) → MayBegin told bytes → MayHold told held → IsPiece held (length bytes) most piece → MayBegin told (bytes ++ piece)
+pub MayBegin-more : (told : Told) (bytes held piece : List ℕ) (most : ℕ) → MayBegin told bytes → MayHold told held → IsPiece held (length bytes) most piece →
+    MayBegin told (bytes ++ piece)
 MayBegin-more untold bytes held piece most begins holds is = tt
 MayBegin-more no_file bytes held piece most begins holds is = absurd holds
 MayBegin-more (file told) bytes held piece most begins holds is =
     let front = take (length bytes) told in
     let next : piece ≡ take (length piece) (drop (length bytes) told) = is.here ∙ ap (λ (all : List ℕ). take (length piece) (drop (length bytes) all)) holds in
-    ap (λ b. b ++ piece) begins ∙ ap (λ p. front ++ p) next ∙ sym (take-add (length bytes) (length piece) told) ∙ ap (λ n. take n told) (sym (length-append bytes piece))
+    ap (λ b. b ++ piece) begins ∙ ap (λ p. front ++ p) next ∙ sym (take-add (length bytes) (length piece) told) ∙ ap (λ n. take n told)
+    (sym (length-append bytes piece))
 
 -- no byte is left
-pub MayHold-end : (told : Told) (bytes held : List ℕ) (most : ℕ) → MayBegin told bytes → MayHold told held → IsPiece held (length bytes) most [] → MayHold told bytes
+pub MayHold-end : (told : Told) (bytes held : List ℕ) (most : ℕ) → MayBegin told bytes → MayHold told held → IsPiece held (length bytes) most [] → MayHold told
+    bytes
 MayHold-end untold bytes held most begins holds is = tt
 MayHold-end no_file bytes held most begins holds is = absurd holds
 MayHold-end (file told) bytes held most begins holds is =

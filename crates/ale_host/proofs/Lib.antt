@@ -6,3 +6,7 @@ pub mod FeedingLemmas
 pub mod OneEnding
 -- the ending of `pass` is one of the run
 pub mod EndingLemmas
+-- the last line of a run, and the text before it
+pub mod ClosingLemmas
+-- a run from the systems that were opened on
+pub mod RunningLemmas

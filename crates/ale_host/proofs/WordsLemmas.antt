@@ -6,7 +6,8 @@ use Rattle.ale_host.specs.declared.words.Form.TheVariants.{Load, Pass, Run}
 use Rattle.ale_host.specs.Words.{form_of, pass_form, document_file}
 
 -- two words
-pub form_of-two : {A : Type 0} (f : A → List ℕ) (words : List A) (command : A) → 2 ≤ length words → length words < 3 → command ≡ get_or words 0 command → form_of (map f words) ≡ pass_form (f command)
+pub form_of-two : {A : Type 0} (f : A → List ℕ) (words : List A) (command : A) → 2 ≤ length words → length words < 3 → command ≡ get_or words 0 command →
+    form_of (map f words) ≡ pass_form (f command)
 form_of-two f [] command least most here = absurd (omega arith)
 form_of-two f (a ∷ []) command least most here = absurd (omega arith)
 form_of-two f (a ∷ b ∷ []) command least most here = ap (λ word. pass_form (f word)) (sym here)
@@ -24,13 +25,15 @@ form_of-four f (a ∷ b ∷ c ∷ d ∷ e ∷ more) least most = absurd (omega a
 pub ruleset four_words = (form_of-four)
 
 -- the second word of `pass` is the name of the document file
-pub document_file-second : {A : Type 0} (f : A → List ℕ) (words : List A) (word : A) → form_of (map f words) ≡ Some Pass → word ≡ get_or words 1 word → document_file (map f words) ≡ f word
+pub document_file-second : {A : Type 0} (f : A → List ℕ) (words : List A) (word : A) → form_of (map f words) ≡ Some Pass → word ≡ get_or words 1 word →
+    document_file (map f words) ≡ f word
 document_file-second f [] word is_pass here = absurd (cc)
 document_file-second f (a ∷ []) word is_pass here = absurd (cc)
 document_file-second f (a ∷ b ∷ more) word is_pass here = ap f (sym here)
 
 -- a word of the command line, as it is named by its place
-pub word-at : {A : Type 0} (f : A → List ℕ) (words : List A) (place : ℕ) (word : A) → place < length words → word ≡ get_or words place word → get_or (map f words) place [] ≡ f word
+pub word-at : {A : Type 0} (f : A → List ℕ) (words : List A) (place : ℕ) (word : A) → place < length words → word ≡ get_or words place word → get_or
+    (map f words) place [] ≡ f word
 word-at f [] place word within here = absurd (omega (arith, within))
 word-at f (first ∷ words) zero word within here = ap f (sym here)
 word-at f (first ∷ words) (suc place) word within here = word-at f words place word (omega (arith, within)) here

@@ -41,7 +41,7 @@ abbrev pub EndsPass : List ℕ → Told → Type 0 → Ending → Type 0
 EndsPass name told faults (ending.Unread its_name why) = IsUnread MOST_BYTES name told faults its_name why
 EndsPass name told faults end = (bytes : List ℕ) × IsFile told bytes × EndsFile bytes end
 
--- why a run of these words ends so
+-- why a run of these words ends so: one that is no `run` whose files were all read
 abbrev pub Ends : List (List ℕ) → (List ℕ → Told) → Type 0 → Ending → Type 0
 Ends words told faults ending.Usage = form_of words ≡ None
 Ends words told faults ending.LoadNotBuilt = form_of words ≡ Some Load
@@ -73,7 +73,6 @@ status_of (ending.Refused fault) = fault_status fault
 status_of (ending.ScriptRefused fault) = script_status fault
 status_of (ending.Unread name why) = 5
 status_of ending.OutOfMemory = 9
-status_of ending.RunNotBuilt = 13
 status_of ending.LoadNotBuilt = 13
 
 -- why a file was not read, as it is printed
@@ -150,7 +149,6 @@ text_of (ending.Refused fault) = fault_text fault
 text_of (ending.ScriptRefused fault) = script_text fault
 text_of (ending.Unread name why) = codes "cannot read " ++ (name ++ (codes ": " ++ shown_reason why))
 text_of ending.OutOfMemory = codes "out of memory\n"
-text_of ending.RunNotBuilt = codes "not built: run\n"
 text_of ending.LoadNotBuilt = codes "not built: load\n"
 
 -- there are as many documents as units at most

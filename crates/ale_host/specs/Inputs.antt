@@ -61,7 +61,8 @@ SaysModelFile told lists = (bytes : List ℕ) × IsFileWithin model.MAX_BYTES to
 -- the run ends at the file of the model
 abbrev pub StopsAtModel : List ℕ → Told → Type 0 → Ending → Type 0
 StopsAtModel name told faults (ending.Unread its_name why) = IsUnread model.MAX_BYTES name told faults its_name why
-StopsAtModel name told faults (ending.ModelRefused fault) = (fault ≢ model_fault.OutOfMemory) × ((bytes : List ℕ) × IsFileWithin model.MAX_BYTES told bytes × (answer_to bytes ≡ Err fault))
+StopsAtModel name told faults (ending.ModelRefused fault) = (fault ≢ model_fault.OutOfMemory)
+    × ((bytes : List ℕ) × IsFileWithin model.MAX_BYTES told bytes × (answer_to bytes ≡ Err fault))
 StopsAtModel name told faults ending.OutOfMemory = ⊤
 StopsAtModel name told faults _ = ⊥
 
@@ -83,21 +84,22 @@ SaysScript told commands = (bytes : List ℕ) × IsFileWithin script.MAX_BYTES t
 -- the run ends at the file of the script
 abbrev pub StopsAtScript : List ℕ → Told → Type 0 → Ending → Type 0
 StopsAtScript name told faults (ending.Unread its_name why) = IsUnread script.MAX_BYTES name told faults its_name why
-StopsAtScript name told faults (ending.ScriptRefused fault) = (fault ≢ script_fault.OutOfMemory) × ((bytes : List ℕ) × IsFileWithin script.MAX_BYTES told bytes × (script_of bytes ≡ Err fault))
+StopsAtScript name told faults (ending.ScriptRefused fault) = (fault ≢ script_fault.OutOfMemory)
+    × ((bytes : List ℕ) × IsFileWithin script.MAX_BYTES told bytes × (script_of bytes ≡ Err fault))
 StopsAtScript name told faults ending.OutOfMemory = ⊤
 StopsAtScript name told faults _ = ⊥
 
--- why `run` ends so whose model and documents were read
+-- why `run` ends at one of its files whose model and documents were read
 abbrev pub EndsBehindDocuments : (List ℕ → Told) → Type 0 → List ℕ → Ending → Type 0
-EndsBehindDocuments told faults script end =
-    StopsAtScript script (told script) faults end ⊎ ((commands : List Command) × SaysScript (told script) commands × (end ≡ ending.RunNotBuilt))
+EndsBehindDocuments told faults script end = StopsAtScript script (told script) faults end
 
--- why `run` ends so whose model was read
+-- why `run` ends at one of its files whose model was read
 abbrev pub EndsBehindModel : (List ℕ → Told) → Type 0 → List ℕ → List ℕ → Ending → Type 0
 EndsBehindModel told faults documents script end =
-    StopsAtDocuments documents (told documents) faults end ⊎ ((all : List RawDoc) × SaysDocuments (told documents) all × EndsBehindDocuments told faults script end)
+    StopsAtDocuments documents (told documents) faults end ⊎
+    ((all : List RawDoc) × SaysDocuments (told documents) all × EndsBehindDocuments told faults script end)
 
--- why `run` of files of these names ends so: at the first file in order that stops it, or because no more is built
+-- why `run` of files of these names ends at one of them: the first in order that stops it
 abbrev pub EndsRun : (List ℕ → Told) → Type 0 → List ℕ → List ℕ → List ℕ → Ending → Type 0
 EndsRun told faults model documents script end =
     StopsAtModel model (told model) faults end ⊎ ((lists : Lists) × SaysModelFile (told model) lists × EndsBehindModel told faults documents script end)

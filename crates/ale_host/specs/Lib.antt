@@ -3,6 +3,12 @@ pub mod Words
 pub mod Feeding
 -- what `run` reads
 pub mod Inputs
+-- how a run ends whose files were read
+pub mod Running
+pub mod Prepared
+pub mod Closing
 -- what is printed, and how a run ends
 pub mod PassText
 pub mod Ending
+-- what the program does for its words
+pub mod EndsSo

@@ -40,8 +40,6 @@ pub enum Ending {
     Unread(Items<u8>, NotRead),
     /// Memory ran out.
     OutOfMemory,
-    /// The files of the command `run` were read; no more of it is built yet.
-    RunNotBuilt,
     /// The command `load` is not built yet.
     LoadNotBuilt,
 }
@@ -60,7 +58,7 @@ impl Ending {
             Ending::ScriptRefused(fault) => script_status(*fault),
             Ending::Unread(..) => 5,
             Ending::OutOfMemory => 9,
-            Ending::RunNotBuilt | Ending::LoadNotBuilt => 13,
+            Ending::LoadNotBuilt => 13,
         }
     }
 
@@ -77,7 +75,6 @@ impl Ending {
             Ending::ScriptRefused(fault) => script_text(alloc, *fault),
             Ending::Unread(name, why) => unread_text(alloc, name.as_slice(), *why),
             Ending::OutOfMemory => text_from(alloc, OUT_OF_MEMORY),
-            Ending::RunNotBuilt => text_from(alloc, b"not built: run\n"),
             Ending::LoadNotBuilt => text_from(alloc, b"not built: load\n"),
         }
     }

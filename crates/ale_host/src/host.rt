@@ -1,52 +1,99 @@
 //! The top call. Nothing else reads a file or puts a text.
 
-ghost use Rattle.std.specs.Prelude.{◌≡◌, ◌≢◌, ℕ, List, ◌≤◌, map, string_bytes, IfOk};
+ghost use Rattle.std.specs.Prelude.{◌≡◌, ◌≢◌, ℕ, List, ◌≤◌, map, string_bytes, IfErr, IfOk, OnOk};
 ghost use Rattle.std.specs.Io.KnownBytes.{Appends};
 ghost use Rattle.ale_base.specs.Faults.{Rose};
 ghost use Rattle.ale_io.specs.Written.{AppendsFront};
 ghost use Rattle.idoc_file.specs.Reading.{Stands};
+ghost use Rattle.runs.specs.steps.Put.{IsPart, IsPut};
 ghost use Rattle.ale_host.specs.declared.ending.Ending.{Ending};
 ghost use Rattle.ale_host.specs.Inputs.{EndsBehindDocuments, EndsBehindModel, EndsRun};
 ghost use Rattle.ale_host.specs.Ending.{Ends, EndsPass, EndsFile, IsPrintable, IsQuiet, status_of, text_of};
+ghost use Rattle.ale_host.specs.EndsSo.{EndsSo, IsFront};
+ghost use Rattle.ale_host.specs.Prepared.{EndsAs, IsBehindDocuments, IsBehindModel, IsRead, IsRunOf};
 
 use crate::document_file::read_document_file;
 use crate::ending::{Ending, NotRead, OUT_OF_MEMORY};
-use crate::inputs::{read_documents, read_model, read_script, refused};
+use crate::inputs::{ModelFile, read_documents, read_model, read_script, refused};
+use crate::prepared::{Prepared, prepare};
+use crate::running::run;
 use crate::words::{Form, form_of};
 use ale_base::{Items, OutOfMemory};
-use ale_io::{FileEnd, Files, Sink};
-use idoc_file::Reader;
+use ale_io::{Clock, FileEnd, Files, Sink};
+use ale_volumes::Volumes;
+use idoc_file::{RawDoc, Reader};
 use std::alloc::Global;
 
 /// The status where the sink did not take all of the text.
-const WRITE_FAULT: u8 = 6;
+pub(crate) const WRITE_FAULT: u8 = 6;
 
-/// Does what the words ask for, prints its text to `out`, and gives the exit status.
+/// A call that ended: its exit status, and the volumes.
+#[derive(Drop)]
+pub struct Ended<V> {
+    /// The exit status.
+    pub status: u8,
+    /// The volumes.
+    pub vols: V,
+}
+
+/// Does what the words ask for, prints its text to `out`, and gives the exit status and the volumes.
 ///
 /// The status is 0 where the command was carried out, 1 where the words have none of the three forms, 2 where the text of
 /// a model is refused, 3 where a line of a document file is bad, 4 where a line of a script is no command, 5 where a file
-/// was not read, 6 where the sink did not take all of the text, 9 where memory ran out, 10 where a line passes a limit of
-/// its file, and 13 where something is asked for that is not built yet. The files of `run` are read in order, and the
-/// first one that is not read or is refused ends it. With each but 6 the text that was put is exactly that of the ending, and with 6 it is a part of it that
-/// begins at its front. The bytes of a document file have one ending.
-pub fn aleflow<F: Files, K: Sink>(alloc: Global, words: &[String], files: &mut F, out: &mut K) -> u8
-    ensures ended { result ≢ 6 → (ending : Ending)
-        × Ends (map string_bytes words.now) (F.told files.old) (Rose (F.faults files.old) (F.faults files.new)) ending
-        × (result ≡ status_of ending)
-        × Appends (K.contents out.old) (K.contents out.new) (text_of ending)
-        × (K.faults out.new ≡ K.faults out.old) }
-    ensures write_fault { result ≡ 6 → Rose (K.faults out.old) (K.faults out.new)
-        × ((ending : Ending)
-        × Ends (map string_bytes words.now) (F.told files.old) (Rose (F.faults files.old) (F.faults files.new)) ending
-        × IsQuiet ending (F.faults files.old) (F.faults files.new)
-        × AppendsFront (K.contents out.old) (K.contents out.new) (text_of ending)) }
+/// was not read, 6 where the sink did not take all of the text, 8 where a volume failed as it was opened, 9 where memory ran
+/// out, 10 where a line passes a limit of its file, 11 where a system is down by a fault of its volume and 12 where it is down
+/// because a record did not fit, and 13 where something is asked for that is not built yet: `load`, and a `run` on volumes
+/// that are not empty.
+///
+/// The files of `run` are read in order, and the first one that is not read or is refused ends it. Then the clock is asked and
+/// the systems are opened over the volumes, system i on volume i - 1, with a Genesis each; and then the commands are carried
+/// out, each with the moment that the clock gives for it. The text of each command is put behind it. A system that goes down
+/// ends the run behind the command in which it did. With each status but 6 the text that was put is exactly that of the
+/// ending, and with 6 it is a part of it that begins at its front, and that has at least the text of all commands but the last one that was
+/// carried out. The bytes of a document file have one ending.
+pub fn aleflow<F: Files, K: Sink, V: Volumes, C: Clock>(
+    alloc: Global,
+    words: &[String],
+    files: &mut F,
+    out: &mut K,
+    vols: V,
+    clock: &mut C,
+) -> Ended<V>
+    ensures ended { result.status ≢ 6 → (printed : List ℕ) × ((sure : List ℕ)
+        × EndsSo (record { told = V.told; volume = V.volume; faults = V.faults; moment = V.moment; images_since = V.images_since })
+        (map string_bytes words.now) (F.told files.old) (F.faults files.old) (F.faults files.new) vols result.vols
+        (C.told clock.new) (C.given clock.old) (C.given clock.new) result.status printed sure
+        × Appends (K.contents out.old) (K.contents out.new) printed
+        × (K.faults out.new ≡ K.faults out.old)) }
+    ensures write_fault { result.status ≡ 6 → (status : ℕ) × ((printed : List ℕ) × ((sure : List ℕ)
+        × EndsSo (record { told = V.told; volume = V.volume; faults = V.faults; moment = V.moment; images_since = V.images_since })
+        (map string_bytes words.now) (F.told files.old) (F.faults files.old) (F.faults files.new) vols result.vols
+        (C.told clock.new) (C.given clock.old) (C.given clock.new) status printed sure
+        × IsFront (K.contents out.old) (K.contents out.new) (K.faults out.old) (K.faults out.new) printed sure)) }
     ensures one_ending { (bytes : List ℕ) (one other : Ending) → EndsFile bytes one → EndsFile bytes other → one ≡ other }
     ensures files_kept { (name : List ℕ) → F.told files.new name ≡ F.told files.old name }
     ensures files_counted { F.faults files.old ≤ F.faults files.new }
-    ensures files_quiet { result ≢ 5 → result ≢ 6 → result ≢ 9 → F.faults files.new ≡ F.faults files.old }
+    ensures files_quiet { result.status ≢ 5 → result.status ≢ 6 → result.status ≢ 9 → F.faults files.new ≡ F.faults files.old }
     ensures sink_counted { K.faults out.old ≤ K.faults out.new }
 {
-    let ending = ending_of(alloc, words, files);
+    match asked(alloc, words, files) {
+        Err(ending) => {
+            let status = print(alloc, &ending, out);
+            Ended { status, vols }
+        }
+        Ok(prepared) => run(alloc, prepared, out, vols, clock),
+    }
+}
+
+/// Prints the text of an ending, or that memory ran out for it, and gives the exit status.
+fn print<K: Sink>(alloc: Global, ending: &Ending, out: &mut K) -> u8
+    requires { IsPrintable ending.now }
+    ensures ended { result ≢ 6 → (its : Ending) × EndsAs ending.now its × (result ≡ status_of its)
+        × IsPut (K.contents out.old) (K.contents out.new) (K.faults out.old) (K.faults out.new) (text_of its) }
+    ensures write_fault { result ≡ 6 → (its : Ending) × EndsAs ending.now its
+        × IsPart (K.contents out.old) (K.contents out.new) (K.faults out.old) (K.faults out.new) (text_of its) }
+    ensures counted { K.faults out.old ≤ K.faults out.new }
+{
     match ending.text(alloc) {
         Ok(text) => put(out, ending.status(), text.as_slice()),
         Err(_) => out_of_memory(out),
@@ -67,7 +114,7 @@ pub fn out_of_memory<K: Sink>(out: &mut K) -> u8
 }
 
 /// Puts the text of an ending, and gives its status, or that of a write fault.
-fn put<K: Sink>(out: &mut K, status: u8, text: &[u8]) -> u8
+pub(crate) fn put<K: Sink>(out: &mut K, status: u8, text: &[u8]) -> u8
     requires { status ≢ 6 }
     ensures ended { result ≢ 6 → (result ≡ status) × Appends (K.contents out.old) (K.contents out.new) text.now
         × (K.faults out.new ≡ K.faults out.old) }
@@ -81,70 +128,99 @@ fn put<K: Sink>(out: &mut K, status: u8, text: &[u8]) -> u8
     }
 }
 
-/// How the run of these words ends.
-fn ending_of<F: Files>(alloc: Global, words: &[String], files: &mut F) -> Ending
-    ensures ends { Ends (map string_bytes words.now) (F.told files.old) (Rose (F.faults files.old) (F.faults files.new)) result }
-    ensures printable { IsPrintable result }
+/// What these words ask for: a run whose files were read, or how else it ends.
+fn asked<F: Files>(alloc: Global, words: &[String], files: &mut F) -> Result<Prepared, Ending>
+    ensures ends { IfErr result (Ends (map string_bytes words.now) (F.told files.old) (Rose (F.faults files.old) (F.faults files.new))) }
+    ensures runs { IfOk result (IsRunOf (map string_bytes words.now) (F.told files.old)) }
+    ensures printable { IfErr result IsPrintable }
     ensures kept { (name : List ℕ) → F.told files.new name ≡ F.told files.old name }
     ensures counted { F.faults files.old ≤ F.faults files.new }
-    ensures quiet { IsQuiet result (F.faults files.old) (F.faults files.new) }
+    ensures still { OnOk result (F.faults files.new ≡ F.faults files.old) }
+    ensures quiet { IfErr result (λ ending. IsQuiet ending (F.faults files.old) (F.faults files.new)) }
 {
     match form_of(words) {
-        None => Ending::Usage,
-        Some(Form::Run) => run(
+        None => Err(Ending::Usage),
+        Some(Form::Run) => read_run(
             alloc,
             words[1].as_str(),
             words[2].as_str(),
             words[3].as_str(),
             files,
         ),
-        Some(Form::Load) => Ending::LoadNotBuilt,
+        Some(Form::Load) => Err(Ending::LoadNotBuilt),
         Some(Form::Pass) => match pass(alloc, words[1].as_str(), files) {
-            Ok(ending) => ending,
-            Err(OutOfMemory) => Ending::OutOfMemory,
+            Ok(ending) => Err(ending),
+            Err(OutOfMemory) => Err(Ending::OutOfMemory),
         },
     }
 }
 
-/// How `run` of the files of these names ends, of which each is read before the next.
-fn run<F: Files>(alloc: Global, model: &str, documents: &str, script: &str, files: &mut F) -> Ending
-    ensures ends { EndsRun (F.told files.old) (Rose (F.faults files.old) (F.faults files.new)) model.now documents.now script.now result }
-    ensures printable { IsPrintable result }
+/// What `run` has from the files of these names, of which each is read before the next; or how it ends at one of them.
+fn read_run<F: Files>(
+    alloc: Global,
+    model: &str,
+    documents: &str,
+    script: &str,
+    files: &mut F,
+) -> Result<Prepared, Ending>
+    ensures ends { IfErr result (EndsRun (F.told files.old) (Rose (F.faults files.old) (F.faults files.new)) model.now documents.now script.now) }
+    ensures says { IfOk result (IsRead (F.told files.old) model.now documents.now script.now) }
+    ensures printable { IfErr result IsPrintable }
     ensures kept { (name : List ℕ) → F.told files.new name ≡ F.told files.old name }
     ensures counted { F.faults files.old ≤ F.faults files.new }
-    ensures quiet { IsQuiet result (F.faults files.old) (F.faults files.new) }
+    ensures still { OnOk result (F.faults files.new ≡ F.faults files.old) }
+    ensures quiet { IfErr result (λ ending. IsQuiet ending (F.faults files.old) (F.faults files.new)) }
 {
     match read_model(alloc, model, files) {
-        Ok(_) => run_behind_model(alloc, documents, script, files),
-        Err(ending) => ending,
+        Ok(said) => read_behind_model(alloc, said, documents, script, files),
+        Err(ending) => Err(ending),
     }
 }
 
-/// How a run ends whose model was read.
-fn run_behind_model<F: Files>(alloc: Global, documents: &str, script: &str, files: &mut F) -> Ending
-    ensures ends { EndsBehindModel (F.told files.old) (Rose (F.faults files.old) (F.faults files.new)) documents.now script.now result }
-    ensures printable { IsPrintable result }
+/// The same, where the model was read.
+fn read_behind_model<F: Files>(
+    alloc: Global,
+    said: ModelFile,
+    documents: &str,
+    script: &str,
+    files: &mut F,
+) -> Result<Prepared, Ending>
+    ensures ends { IfErr result (EndsBehindModel (F.told files.old) (Rose (F.faults files.old) (F.faults files.new)) documents.now script.now) }
+    ensures says { IfOk result (IsBehindModel (F.told files.old) said documents.now script.now) }
+    ensures printable { IfErr result IsPrintable }
     ensures kept { (name : List ℕ) → F.told files.new name ≡ F.told files.old name }
     ensures counted { F.faults files.old ≤ F.faults files.new }
-    ensures quiet { IsQuiet result (F.faults files.old) (F.faults files.new) }
+    ensures still { OnOk result (F.faults files.new ≡ F.faults files.old) }
+    ensures quiet { IfErr result (λ ending. IsQuiet ending (F.faults files.old) (F.faults files.new)) }
 {
     match read_documents(alloc, documents, files) {
-        Ok(_) => run_behind_documents(alloc, script, files),
-        Err(ending) => ending,
+        Ok(documents) => read_behind_documents(alloc, said, documents, script, files),
+        Err(ending) => Err(ending),
     }
 }
 
-/// How a run ends whose model and documents were read.
-fn run_behind_documents<F: Files>(alloc: Global, script: &str, files: &mut F) -> Ending
-    ensures ends { EndsBehindDocuments (F.told files.old) (Rose (F.faults files.old) (F.faults files.new)) script.now result }
-    ensures printable { IsPrintable result }
+/// The same, where the model and the documents were read.
+fn read_behind_documents<F: Files>(
+    alloc: Global,
+    said: ModelFile,
+    documents: Items<RawDoc>,
+    script: &str,
+    files: &mut F,
+) -> Result<Prepared, Ending>
+    ensures ends { IfErr result (EndsBehindDocuments (F.told files.old) (Rose (F.faults files.old) (F.faults files.new)) script.now) }
+    ensures says { IfOk result (IsBehindDocuments (F.told files.old) said documents script.now) }
+    ensures printable { IfErr result IsPrintable }
     ensures kept { (name : List ℕ) → F.told files.new name ≡ F.told files.old name }
     ensures counted { F.faults files.old ≤ F.faults files.new }
-    ensures quiet { IsQuiet result (F.faults files.old) (F.faults files.new) }
+    ensures still { OnOk result (F.faults files.new ≡ F.faults files.old) }
+    ensures quiet { IfErr result (λ ending. IsQuiet ending (F.faults files.old) (F.faults files.new)) }
 {
     match read_script(alloc, script, files) {
-        Ok(_) => Ending::RunNotBuilt,
-        Err(ending) => ending,
+        Ok(commands) => match prepare(alloc, said, documents, commands) {
+            Ok(prepared) => Ok(prepared),
+            Err(_) => Err(Ending::OutOfMemory),
+        },
+        Err(ending) => Err(ending),
     }
 }
 

@@ -5,7 +5,8 @@ ghost use Rattle.ale_base.specs.Faults.{Rose};
 ghost use Rattle.idoc_file.specs.declared.file_fault.FileFault.{FileFault};
 ghost use Rattle.ale_host.specs.declared.ending.Ending.{Ending};
 ghost use Rattle.ale_host.specs.Ending.{IsPrintable, IsQuiet};
-ghost use Rattle.ale_host.specs.Inputs.{IsFileWithin, IsUnreadBecause, IsUnreadEnd, IsUnreadSo, SaysDocuments, SaysModelFile, SaysScript, StopsAtDocuments, StopsAtModel, StopsAtScript};
+ghost use Rattle.ale_host.specs.Prepared.{SaysModel};
+ghost use Rattle.ale_host.specs.Inputs.{IsFileWithin, IsUnreadBecause, IsUnreadEnd, IsUnreadSo, SaysDocuments, SaysScript, StopsAtDocuments, StopsAtModel, StopsAtScript};
 
 use crate::document_file::read_document_file;
 use crate::ending::{Ending, NotRead};
@@ -17,13 +18,20 @@ use model_text::ModelFault;
 use script_text::{Command, ScriptFault};
 use std::alloc::Global;
 
-/// The model that the file of this name says, or the ending of the run at this file.
+/// A model, and the text that says it.
+#[derive(Drop)]
+pub(crate) struct ModelFile {
+    pub(crate) text: Items<u8>,
+    pub(crate) model: Model,
+}
+
+/// The model that the file of this name says, with its text, or the ending of the run at this file.
 pub(crate) fn read_model<F: Files>(
     alloc: Global,
     name: &str,
     files: &mut F,
-) -> Result<Model, Ending>
-    ensures says { IfOk result (SaysModelFile (F.told files.old name.now)) }
+) -> Result<ModelFile, Ending>
+    ensures says { IfOk result (SaysModel (F.told files.old name.now)) }
     ensures stops { IfErr result (StopsAtModel name.now (F.told files.old name.now) (Rose (F.faults files.old) (F.faults files.new))) }
     ensures printable { IfErr result IsPrintable }
     ensures kept { (other : List ℕ) → F.told files.new other ≡ F.told files.old other }
@@ -33,7 +41,10 @@ pub(crate) fn read_model<F: Files>(
 {
     let bytes = read_whole(alloc, name, model_text::MAX_BYTES, files)?;
     match model_text::read(alloc, bytes.as_slice()) {
-        Ok(model) => Ok(model),
+        Ok(model) => Ok(ModelFile {
+            text: Items::from_vec(bytes),
+            model,
+        }),
         Err(ModelFault::OutOfMemory) => Err(Ending::OutOfMemory),
         Err(fault) => Err(Ending::ModelRefused(fault)),
     }

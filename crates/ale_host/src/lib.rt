@@ -1,8 +1,10 @@
 //! The top call: what the program does for its words, from the files that it reads to the text that it prints.
 //!
 //! Contract: a run has an ending whose cause stands in its words and files, or is a fault or want of memory, and it
-//! puts exactly the text of that ending; the bytes of a file have one. The definitions are in `specs/`: `Words`,
-//! `Feeding` (how far a file was read), `Inputs` (what `run` reads), `PassText`, `Ending`.
+//! puts exactly the text of that ending; the bytes of a file have one. A `run` whose files were read is a list of turns, in
+//! each of which a command does what it asks for, and the text that it puts is that of the turns and of its last line. The
+//! definitions are in `specs/`: `Words`, `Feeding` (how far a file was read), `Inputs` (what `run` reads), `Running` (how it
+//! goes on), `PassText`, `Ending`.
 #![tactic(auto)]
 
 mod document_file;
@@ -10,7 +12,9 @@ mod ending;
 mod host;
 mod inputs;
 mod pass_text;
+mod prepared;
+mod running;
 mod words;
 
 pub use ending::{Ending, NotRead};
-pub use host::{aleflow, out_of_memory};
+pub use host::{Ended, aleflow, out_of_memory};

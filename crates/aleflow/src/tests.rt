@@ -1,11 +1,14 @@
 //! What no contract can say of a real folder and a real device.
 
 use crate::dir_files::DirFiles;
+use crate::file_volumes::FileVolumes;
 use crate::std_sink::StdSink;
-use ale_io::{FileEnd, Files, Sink, SinkFailed};
+use crate::wall_clock::WallClock;
+use ale_io::{Clock, FileEnd, Files, Sink, SinkFailed};
+use ale_volumes::{VolumeEnd, VolumeFailed, Volumes};
 use std::alloc::{AllocError, Global};
-use std::fs;
 use std::test::Fail;
+use std::{fs, io, rt};
 
 /// A file that the test makes and removes.
 const PATH: &str = "/tmp/aleflow_dir_files_test";
@@ -91,5 +94,59 @@ fn a_full_device_is_a_fault(rt: HostRuntime) -> Result<(), Fail> {
     assert_eq!(rt; sink.writer().as_slice(), b"one two".as_slice());
     let full = fs::File::create(&rt, "/dev/full")?;
     assert_eq!(rt; StdSink::new(full).put(b"one"), Err(SinkFailed));
+    Ok(())
+}
+
+/// The folder of the volumes' files.
+const FOLDER: &str = "aleflow.journal";
+
+/// Removes the folder with all that is in it, or the file of its name.
+fn remove_folder(rt: &(impl rt::Files + Alloc)) -> io::Result<()> {
+    if !fs::exists(rt, FOLDER)? {
+        return Ok(());
+    }
+    match fs::remove_file(rt, FOLDER) {
+        Ok(()) => Ok(()),
+        Err(_) => fs::remove_dir_all(rt, FOLDER),
+    }
+}
+
+#[test]
+fn volumes_are_files_of_one_folder(rt: HostRuntime) -> Result<(), Fail> {
+    remove_folder(&rt)?;
+    let mut volumes = FileVolumes::new(&rt);
+    assert_eq!(rt; volumes.length(3), Ok(0));
+    assert_eq!(rt; volumes.write_at(3, 0, b"0123456789"), Ok(()));
+    assert_eq!(rt; volumes.write_at(3, 8, b"abcd"), Ok(()));
+    assert_eq!(rt; volumes.sync(3), Ok(()));
+    let mut reopened = FileVolumes::new(&rt);
+    let mut into = [0u8; 5];
+    assert_eq!(rt; reopened.length(3), Ok(12));
+    assert_eq!(rt; reopened.read_at(3, 6, &mut into), Ok(()));
+    assert_eq!(rt; into.as_slice(), b"67abc".as_slice());
+    assert_eq!(rt; reopened.read_at(3, 8, &mut into), Err(VolumeFailed));
+    assert_eq!(rt; (reopened.faults(3), reopened.faults(4)), (1, 0));
+    assert!(rt; fs::exists(&rt, "aleflow.journal/vol03")?);
+    assert!(rt; !fs::exists(&rt, "aleflow.journal/vol04")?);
+    remove_folder(&rt)?;
+    // In the place of the folder is a file.
+    fs::write(&rt, FOLDER, b"")?;
+    let mut blocked = FileVolumes::new(&rt);
+    assert_eq!(rt; blocked.write_at(5, 0, b"x"), Err(VolumeEnd::Failed));
+    assert_eq!(rt; blocked.sync(5), Err(VolumeFailed));
+    assert_eq!(rt; (blocked.faults(5), blocked.faults(6)), (2, 0));
+    remove_folder(&rt)?;
+    Ok(())
+}
+
+#[test]
+fn the_wall_clock_counts_seconds_since_1970(rt: HostRuntime) -> Result<(), Fail> {
+    // The first moment of 2026.
+    let earlier = 1_767_225_600;
+    let mut clock = WallClock::new(&rt);
+    for _ in 0..2 {
+        let moment = clock.now();
+        assert!(rt; earlier < moment && moment < 10 * earlier);
+    }
     Ok(())
 }

@@ -1,14 +1,17 @@
 -- What a run of the program gives, and the steps that a case makes of its runs.
-use Rattle.std.specs.Prelude.{◌≡◌, ◌⊎◌, ⊤, ℕ, List, [], ◌∷◌, ◌++◌, map, take, codes, string_bytes}
-use Rattle.std.specs.List.{AllZip}
+use Rattle.std.specs.Prelude.{◌≡◌, ◌⊎◌, ⊤, ℕ, ◌-◌, ◌^◌, ◌<◌, List, [], ◌∷◌, ◌++◌, map, take, replicate, slice_index, codes, string_bytes}
 use Rattle.std.specs.Fmt.{decimal}
-use Rattle.ale_base.specs.Faults.{Rose}
 use Rattle.ale_io.specs.Told.{Told}
 use Rattle.ale_io.specs.Folder.{told_of}
+use Rattle.ale_io.specs.Moments.{given_by}
+use Rattle.ale_io.specs.declared.list_clock.ListClock.{ListClock}
 use Rattle.ale_io.specs.declared.map_files.StoredFile.{StoredFile}
-use Rattle.ale_host.specs.declared.ending.Ending.{Ending}
+use Rattle.ale_volumes.specs.Memory.{MemoryOf}
+use Rattle.ale_volumes.specs.MemoryLemmas.{volume_now, moment_of, images_of}
 use Rattle.ale_host.specs.declared.ending.Ending.TheVariants.{OutOfMemory}
-use Rattle.ale_host.specs.Ending.{Ends, status_of, text_of}
+use Rattle.ale_host.specs.Ending.{status_of, text_of}
+use Rattle.ale_host.specs.EndsSo.{EndsSo}
+use Rattle.ale_host.specs.Running.{Disk}
 use Rattle.case_form.specs.declared.verdict.Relation.TheVariants.{Whole}
 use Rattle.case_form.specs.declared.verdict.Comparison.{Comparison}
 use Rattle.case_form.specs.declared.verdict.Step.{Step}
@@ -22,17 +25,38 @@ use Rattle.worked_cases.specs.declared.case.Run.{Run}
 use Rattle.worked_cases.specs.declared.case.Part.{Part}
 use Rattle.worked_cases.specs.declared.case.Part.TheVariants.{Run as RunPart, Broken}
 
--- at this ending a run gives this status and prints this text: those of the ending, or 6 and a front of its text
-abbrev pub Gives : Ending → ℕ → List ℕ → Type 0
-Gives ending status printed =
-    ((status ≡ status_of ending) × (printed ≡ text_of ending))
-    ⊎ ((status ≡ 6) × ((n : ℕ) × (printed ≡ take n (text_of ending))))
+-- what is known of volumes in memory
+abbrev pub memory : Disk MemoryOf
+memory = record {
+  told = ⊤;
+  volume = volume_now;
+  faults = λ vols n. slice_index vols.calls.faults n;
+  moment = moment_of;
+  images_since = images_of;
+}
 
--- a run of these words over these files may give this status and print this text
-abbrev pub MayGive : Words → (List ℕ → Told) → ℕ → List ℕ → Type 0
-MayGive (Given words) told status printed =
-    (ending : Ending) × (faults : ℕ) × Ends (map string_bytes words.items) told (Rose 0 faults) ending × Gives ending status printed
-MayGive Wanting told status printed = Gives OutOfMemory status printed
+-- volumes of no bytes
+abbrev pub empty_volumes : MemoryOf
+empty_volumes = record { start = replicate 16 []; steps = []; calls = record { failing = []; made = 0; faults = replicate 16 0 } }
+
+-- volumes on which no call was made, and of whose calls these will fail, hold for good what these hold
+pub record StartsFrom (before : MemoryOf) (failing : List ℕ) (begun : MemoryOf) : Type 0 where
+  pub holds : (n : ℕ) → n < 16 → (volume_now begun n).contents ≡ (volume_now before n).contents
+  pub unwritten : begun.steps ≡ []
+  pub calls : begun.calls ≡ record { failing = failing; made = 0; faults = replicate 16 0 }
+
+-- at an ending with this status and text a run gives this status and prints this text: the same, or 6 and a front of the text
+abbrev pub Gives : ℕ → List ℕ → ℕ → List ℕ → Type 0
+Gives ending text status printed = ((status ≡ ending) × (printed ≡ text)) ⊎ ((status ≡ 6) × ((n : ℕ) × (printed ≡ take n text)))
+
+-- a run of these words over these files and on these volumes may leave these volumes, give this status and print this text
+abbrev pub MayGive : Words → (List ℕ → Told) → MemoryOf → MemoryOf → ℕ → List ℕ → Type 0
+MayGive (Given words) told before after status printed =
+    (faults : ℕ) × (clock : ListClock) × (ending : ℕ) × (text sure : List ℕ)
+    × EndsSo memory (map string_bytes words.items) told 0 faults before after
+    (clock.calls < 2 ^ 64 - 1) [] (given_by clock.moments clock.calls) ending text sure
+    × Gives ending text status printed
+MayGive Wanting told before after status printed = (after ≡ before) × Gives (status_of OutOfMemory) (text_of OutOfMemory) status printed
 
 -- a status as it is compared
 abbrev pub shown_status : ℕ → List ℕ
@@ -52,15 +76,29 @@ step_of_run run status printed = record {
   comparisons = status_compared run.status status ∷ map (output_compared printed) run.outputs.items;
 }
 
--- the step of a part of a case over these files: that of the run, by what it gave; or that of a text that is no case
-abbrev pub IsMadeOf : List StoredFile → Part → Step → Type 0
-IsMadeOf files (RunPart run) step =
+-- The step of a part of a case over these files, and the volumes that it leaves: that of the run, by what it gave on volumes
+-- that hold what these hold; or that of a text that is no case
+abbrev pub IsMadeOf : List StoredFile → MemoryOf → Part → Step → MemoryOf → Type 0
+IsMadeOf files before (RunPart run) step after =
     (told : List ℕ → Told) × ((name : List ℕ) → told name ≡ told_of files name)
-    × ((status : ℕ) × (printed : List ℕ) × MayGive run.words told status printed × (step ≡ step_of_run run status printed))
-IsMadeOf files (Broken item) step = IsBrokenStepOf item.line item.differs item.rest.items step
+    × ((begun : MemoryOf) × StartsFrom before run.failing_calls begun
+    × ((status : ℕ) × (printed : List ℕ) × MayGive run.words told begun after status printed × (step ≡ step_of_run run status printed)))
+IsMadeOf files before (Broken item) step after = IsBrokenStepOf item.line item.differs item.rest.items step × (after ≡ before)
 
--- the steps are those of the parts of a case, one for each, in order. That these are the parts that the file spells is not
--- said here
+-- the steps of parts of a case, in order: each part starts from the volumes that the one before it left
+abbrev pub AreMadeFrom : List StoredFile → MemoryOf → List Part → List Step → MemoryOf → Type 0
+AreMadeFrom files before [] [] after = after ≡ before
+AreMadeFrom files before [] (step ∷ steps) after = ⊥
+AreMadeFrom files before (part ∷ parts) [] after = ⊥
+AreMadeFrom files before (part ∷ parts) (step ∷ steps) after =
+    (left : MemoryOf) × IsMadeOf files before part step left × AreMadeFrom files left parts steps after
+
+-- the same, whatever is left at the end
+abbrev pub AreMadeOf : List StoredFile → MemoryOf → List Part → List Step → Type 0
+AreMadeOf files before parts steps = (after : MemoryOf) × AreMadeFrom files before parts steps after
+
+-- the steps are those of the parts of a case, one for each, in order, and the first part starts from empty volumes. That
+-- these are the parts that the file spells is not said here
 abbrev pub AreRuns : Outcome → Type 0
 AreRuns (Malformed line rule) = ⊤
-AreRuns (Steps steps) = (files : List StoredFile) × (parts : List Part) × AllZip (IsMadeOf files) parts steps
+AreRuns (Steps steps) = (files : List StoredFile) × (parts : List Part) × AreMadeOf files empty_volumes parts steps

@@ -4,7 +4,8 @@ use ale_base::Items;
 use ale_io::StoredFile;
 use case_form::{Item, Relation};
 
-/// A case: the files that all its runs see, and its runs and broken texts, in order.
+/// A case: the files that all its runs see, and its runs and broken texts, in order. The first run starts on empty volumes,
+/// and each other one on those that the run before it left.
 #[derive(Drop)]
 pub struct Case {
     pub files: Items<StoredFile>,
@@ -41,6 +42,10 @@ pub struct Run {
     pub failing_reads: Items<u64>,
     /// Which writes fail, counted from 1 in this run.
     pub failing_puts: Items<u64>,
+    /// Which calls on its volumes fail, counted from 1 over all of them in this run.
+    pub failing_calls: Items<u64>,
+    /// The moments that its clock gives, the first one first, and then the last again and again; 0 where there is none.
+    pub moments: Items<u64>,
     /// The status that is expected.
     pub status: u8,
     /// What is expected of the text.

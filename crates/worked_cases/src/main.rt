@@ -1,9 +1,10 @@
-//! The acceptance program: it runs the case files of a folder through the top call, with files and a sink in memory, and
-//! prints a line a case.
+//! The acceptance program: it runs the case files of a folder through the top call, with files, a sink, volumes and a clock in
+//! memory, and prints a line a case.
 //!
-//! Contract: each step of a case is the judgement of one of its runs, in order: the run had an ending by its words and
-//! files, and the step fits exactly where its status and its text are those that the case gives (`specs/`: `Expected`,
-//! `Judged`). `case_form` says by contract how the verdicts that are printed and the exit status follow from these steps.
+//! Contract: each step of a case is the judgement of one of its runs, in order. The run had an ending by its words, files,
+//! volumes and clock, and the step fits exactly where its status and its text are those that the case gives. The first run
+//! starts on empty volumes, and each other one on what the one before it left (`specs/`: `Judged`). `case_form` says by
+//! contract how the verdicts that are printed and the exit status follow from these steps.
 //! The form of a case file is in `docs/reference/cases.md`.
 #![tactic(auto)]
 

@@ -1,49 +1,66 @@
 //! Runs of the top call, and what a case makes of them.
 
-ghost use Rattle.std.specs.Prelude.{◌≡◌, ◌++◌, ℕ, List, map, OnOk, IfOk};
-ghost use Rattle.std.specs.List.{AllZip};
+ghost use Rattle.std.specs.Prelude.{◌≡◌, ◌++◌, ℕ, List, [], map, OnOk, IfOk};
 ghost use Rattle.ale_io.specs.Folder.{told_of};
 ghost use Rattle.case_form.specs.Made.{IsBrokenStepOf};
-ghost use Rattle.worked_cases.specs.Judged.{MayGive, IsMadeOf, step_of_run, status_compared, output_compared, shown_status};
+ghost use Rattle.worked_cases.specs.Judged.{MayGive, IsMadeOf, AreMadeOf, StartsFrom, empty_volumes, step_of_run, status_compared, output_compared, shown_status};
 
 use crate::case::{Case, Output, Part, Run, Words};
 use crate::reader::read_case;
 use ale_base::{Items, OutOfMemory};
-use ale_host::{aleflow, out_of_memory};
-use ale_io::{Calls, MapFiles, VecSink};
+use ale_host::{Ended, aleflow, out_of_memory};
+use ale_io::{Calls, ListClock, MapFiles, VecSink};
+use ale_volumes::MemoryVolumes;
 use case_form::{CaseFault, Comparison, Item, Relation, Step};
 use std::alloc::Global;
+use std::array;
 
-/// The steps of a case, one for each of its parts, in order.
+/// The steps of a case, one for each of its parts, in order. The first run starts on empty volumes.
 pub(crate) fn steps_of_case(alloc: Global, case: Case) -> Result<Items<Step>, CaseFault>
-    ensures { IfOk result (λ steps. AllZip (IsMadeOf case.files) case.parts.items steps) }
+    ensures { IfOk result (λ steps. AreMadeOf case.files empty_volumes case.parts.items steps) }
 {
     let Case { files, parts } = case;
     let mut files = MapFiles {
         files,
         calls: Calls::without_failures(alloc),
     };
+    let mut vols = MemoryVolumes::new(alloc);
     let mut steps = Items::new(alloc);
     for part in parts {
-        steps.push(step_of_part(alloc, part, &mut files)?)?;
+        let (step, left) = step_of_part(alloc, part, &mut files, vols)?;
+        vols = left;
+        steps.push(step)?;
     }
     Ok(steps)
 }
 
-/// The step of a part.
-fn step_of_part(alloc: Global, part: Part, files: &mut MapFiles) -> Result<Step, CaseFault>
-    ensures made { IfOk result (IsMadeOf files.old.files part) }
+/// The step of a part, and the volumes that it leaves.
+fn step_of_part(
+    alloc: Global,
+    part: Part,
+    files: &mut MapFiles,
+    vols: MemoryVolumes,
+) -> Result<(Step, MemoryVolumes), CaseFault>
+    ensures made { IfOk result (λ made. IsMadeOf files.old.files vols part made.0 made.1) }
     ensures kept { (name : List ℕ) → told_of files.new.files name ≡ told_of files.old.files name }
 {
     match part {
-        Part::Run(run) => Ok(step_of_run(alloc, run, files)?),
-        Part::Broken(item) => step_of_broken(alloc, &item),
+        Part::Run(run) => Ok(step_of_run(alloc, run, files, &vols)?),
+        Part::Broken(item) => {
+            let step = step_of_broken(alloc, &item)?;
+            Ok((step, vols))
+        }
     }
 }
 
-/// The step of a run over these files.
-fn step_of_run(alloc: Global, run: Run, files: &mut MapFiles) -> Result<Step, OutOfMemory>
-    ensures made { IfOk result (IsMadeOf files.old.files (Part.Run run)) }
+/// The step of a run over these files, on volumes that hold what these do, and the volumes that it leaves.
+fn step_of_run(
+    alloc: Global,
+    run: Run,
+    files: &mut MapFiles,
+    vols: &MemoryVolumes,
+) -> Result<(Step, MemoryVolumes), OutOfMemory>
+    ensures made { IfOk result (λ made. IsMadeOf files.old.files vols.now (Part.Run run) made.0 made.1) }
     ensures kept { (name : List ℕ) → told_of files.new.files name ≡ told_of files.old.files name }
 {
     let Run {
@@ -52,42 +69,69 @@ fn step_of_run(alloc: Global, run: Run, files: &mut MapFiles) -> Result<Step, Ou
         words,
         failing_reads,
         failing_puts,
+        failing_calls,
+        moments,
         status: wanted,
         outputs,
     } = run;
     files.calls = Calls::with_failures(failing_reads);
-    let (status, printed) = performed(alloc, &words, files, failing_puts);
-    let mut comparisons = Items::new(alloc);
-    comparisons.push(status_compared(alloc, wanted, status)?)?;
-    put_outputs(alloc, &mut comparisons, outputs, printed.as_slice())?;
-    Ok(Step {
-        line,
-        differs,
-        comparisons,
-    })
-}
-
-/// The status and the text of a run of these words over these files, none of whose reads has failed yet.
-fn performed(
-    alloc: Global,
-    words: &Words,
-    files: &mut MapFiles,
-    failing_puts: Items<u64>,
-) -> (u8, Vec<u8>)
-    requires { files.old.calls.faults ≡ 0 }
-    ensures gives { MayGive words.now (told_of files.old.files) result.0 result.1.items }
-    ensures kept { (name : List ℕ) → told_of files.new.files name ≡ told_of files.old.files name }
-{
+    let begun = begun_from(alloc, vols, failing_calls)?;
     let mut out = VecSink {
         bytes: Vec::new(alloc),
         calls: Calls::with_failures(failing_puts),
     };
-    let status = match words {
-        Words::Given(words) => aleflow(alloc, words.as_slice(), files, &mut out),
-        Words::Wanting => out_of_memory(&mut out),
+    let Ended { status, vols } = performed(alloc, &words, files, &mut out, begun, moments);
+    let mut comparisons = Items::new(alloc);
+    comparisons.push(status_compared(alloc, wanted, status)?)?;
+    put_outputs(alloc, &mut comparisons, outputs, out.bytes.as_slice())?;
+    let step = Step {
+        line,
+        differs,
+        comparisons,
     };
-    let VecSink { bytes, calls: _ } = out;
-    (status, bytes)
+    Ok((step, vols))
+}
+
+/// Volumes that hold for good what these do, of which the calls of these numbers will fail.
+fn begun_from(
+    alloc: Global,
+    vols: &MemoryVolumes,
+    failing: Items<u64>,
+) -> Result<MemoryVolumes, OutOfMemory>
+    ensures { IfOk result (StartsFrom vols.now failing) }
+{
+    let mut contents = array::from_fn(|_| Items::new(alloc));
+    for n in 0..16 {
+        contents[usize::from(n)] = Items::from_slice(alloc, vols.contents(n))?;
+    }
+    MemoryVolumes::with_failures(alloc, contents, failing)
+}
+
+/// Runs these words over these files, none of whose reads has failed yet, on these volumes: the status, and the volumes as they
+/// are left.
+fn performed(
+    alloc: Global,
+    words: &Words,
+    files: &mut MapFiles,
+    out: &mut VecSink,
+    vols: MemoryVolumes,
+    moments: Items<u64>,
+) -> Ended<MemoryVolumes>
+    requires quiet { files.old.calls.faults ≡ 0 }
+    requires empty { out.old.bytes.items ≡ [] }
+    ensures gives { MayGive words.now (told_of files.old.files) vols result.vols result.status out.new.bytes.items }
+    ensures kept { (name : List ℕ) → told_of files.new.files name ≡ told_of files.old.files name }
+{
+    match words {
+        Words::Given(words) => {
+            let mut clock = ListClock::with_moments(moments);
+            aleflow(alloc, words.as_slice(), files, out, vols, &mut clock)
+        }
+        Words::Wanting => {
+            let status = out_of_memory(out);
+            Ended { status, vols }
+        }
+    }
 }
 
 /// The comparison of a status.

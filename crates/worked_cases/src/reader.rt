@@ -33,6 +33,7 @@ pub(crate) fn read_case(alloc: Global, file: &str, bytes: &[u8]) -> Result<Case,
 enum ItemKind {
     File,
     Run,
+    Clock,
     Failing,
     Status,
     Prints,
@@ -40,10 +41,11 @@ enum ItemKind {
 }
 
 /// The first words of items.
-const ITEMS: [(&'static [u8], ItemKind); 7] = [
+const ITEMS: [(&'static [u8], ItemKind); 8] = [
     (b"file", ItemKind::File),
     (b"run", ItemKind::Run),
     (b"wordless", ItemKind::Run),
+    (b"clock", ItemKind::Clock),
     (b"failing", ItemKind::Failing),
     (b"status", ItemKind::Status),
     (b"prints", ItemKind::Prints),
@@ -55,12 +57,14 @@ const ITEMS: [(&'static [u8], ItemKind); 7] = [
 enum FailingCall {
     Read,
     Put,
+    Volume,
 }
 
 /// The words of the calls that may fail.
-const CALLS: [(&'static [u8], FailingCall); 2] = [
+const CALLS: [(&'static [u8], FailingCall); 3] = [
     (b"read", FailingCall::Read),
     (b"put", FailingCall::Put),
+    (b"volume", FailingCall::Volume),
 ];
 
 /// How a text that is printed is told.
@@ -79,6 +83,8 @@ struct BegunRun {
     words: Words,
     failing_reads: Items<u64>,
     failing_puts: Items<u64>,
+    failing_calls: Items<u64>,
+    moments: Items<u64>,
     status: Option<u8>,
     outputs: Vec<Output>,
 }
@@ -92,6 +98,8 @@ impl BegunRun {
             words,
             failing_reads,
             failing_puts,
+            failing_calls,
+            moments,
             status,
             outputs,
         } = self;
@@ -102,6 +110,8 @@ impl BegunRun {
                 words,
                 failing_reads,
                 failing_puts,
+                failing_calls,
+                moments,
                 status,
                 outputs,
             }),
@@ -126,6 +136,7 @@ impl Reader {
         match meaning_of(&ITEMS, item.word.as_slice()) {
             Some(ItemKind::File) => self.read_file(&item),
             Some(ItemKind::Run) => self.begin_run(&item),
+            Some(ItemKind::Clock) => self.read_clock(&item),
             Some(ItemKind::Failing) => self.read_failing(&item),
             Some(ItemKind::Status) => self.read_status(&item),
             Some(ItemKind::Prints) => self.read_prints(&item),
@@ -175,6 +186,8 @@ impl Reader {
             words,
             failing_reads: Items::new(alloc),
             failing_puts: Items::new(alloc),
+            failing_calls: Items::new(alloc),
+            moments: Items::new(alloc),
             status: None,
             outputs: Vec::new(alloc),
         });
@@ -198,6 +211,17 @@ impl Reader {
         }
     }
 
+    fn read_clock(&mut self, item: &Item) -> Result<(), CaseFault> {
+        unblocked(item)?;
+        let alloc = self.alloc;
+        let run = self.run(item, false)?;
+        if !run.moments.is_empty() {
+            return Err(broken(item.line, rules::ONE_CLOCK));
+        }
+        run.moments = moments_of(alloc, item.rest.as_slice()).map_err(|end| end.at(item.line))?;
+        Ok(())
+    }
+
     fn read_failing(&mut self, item: &Item) -> Result<(), CaseFault> {
         unblocked(item)?;
         let run = self.run(item, false)?;
@@ -205,6 +229,7 @@ impl Reader {
         match call {
             FailingCall::Read => run.failing_reads.push(number)?,
             FailingCall::Put => run.failing_puts.push(number)?,
+            FailingCall::Volume => run.failing_calls.push(number)?,
         }
         Ok(())
     }
@@ -258,7 +283,22 @@ impl Reader {
     }
 }
 
-/// The call that an item chooses to fail, as `read` or `put` and its number from 1.
+/// The moments of a clock, between blanks, one at least.
+fn moments_of(alloc: Global, text: &[u8]) -> Result<Items<u64>, LineEnd> {
+    let mut moments = Items::new(alloc);
+    for moment in text
+        .split(|byte| *byte == b' ')
+        .filter(|moment| !moment.is_empty())
+    {
+        moments.push(u64::from(number_of(moment)?))?;
+    }
+    if moments.is_empty() {
+        return Err(rules::ONE_CLOCK.into());
+    }
+    Ok(moments)
+}
+
+/// The call that an item chooses to fail, as `read`, `put` or `volume` and its number from 1.
 fn failing_call(item: &Item) -> Result<(FailingCall, u64), CaseFault> {
     let (word, number) = first_word(item.rest.as_slice());
     let number = number_of(number).map_err(|end| end.at(item.line))?;

@@ -3,7 +3,7 @@
 use case_form::Rule;
 
 pub(crate) const NO_SUCH_ITEM: Rule = Rule(
-    "an item is title, file, run, wordless, failing, status, prints or broken",
+    "an item is title, file, run, wordless, clock, failing, status, prints or broken",
 );
 
 pub(crate) const ONE_FILE: Rule = Rule("a file is named by one word, and given once");
@@ -11,13 +11,17 @@ pub(crate) const ONE_FILE: Rule = Rule("a file is named by one word, and given o
 pub(crate) const NO_RUN: Rule = Rule("a case ends with a run or a broken text");
 
 pub(crate) const OUT_OF_ORDER: Rule = Rule(
-    "this item belongs to a run: run, failing, status and prints stand in this order",
+    "this item belongs to a run: run, clock and failing, status and prints stand in this order",
 );
 
 pub(crate) const STATUS_AND_PRINTS: Rule = Rule("a run has one status, from 0 to 255, and prints");
 
 pub(crate) const NO_SUCH_CALL: Rule = Rule(
-    "what fails is `read` or `put` and the number of the call, from 1",
+    "what fails is `read`, `put` or `volume` and the number of the call, from 1",
+);
+
+pub(crate) const ONE_CLOCK: Rule = Rule(
+    "a run has one clock at most, which gives a moment or more",
 );
 
 pub(crate) const NO_SUCH_PRINTS: Rule = Rule(

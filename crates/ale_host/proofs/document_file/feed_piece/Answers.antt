@@ -16,5 +16,6 @@ returns-in-Ok-clause-fed g c = λ is.
     record {
       bytes = is.bytes ++ slice;
       stands = c.in-Ok.ensures.stands is.bytes is.stands;
-      begins = subst (λ (p : List ℕ). MayBegin told (is.bytes ++ p)) (sym whole) (MayBegin-more told is.bytes read.bytes read.piece 65536 is.begins read.holds piece);
+      begins = subst (λ (p : List ℕ). MayBegin told (is.bytes ++ p)) (sym whole)
+          (MayBegin-more told is.bytes read.bytes read.piece 65536 is.begins read.holds piece);
     }

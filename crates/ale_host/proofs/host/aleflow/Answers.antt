@@ -1,17 +1,132 @@
-use Rattle.ale_host.specs.declared.ending.Ending.TheVariants.{OutOfMemory}
+use Rattle.std.specs.Arc.{arc_value}
+use Rattle.std.proofs.Common.{[], map, string_bytes, zero-le, Some, inl, inr, refl, sym, ap, ◌∙◌}
+use Rattle.dist_model.specs.declared.lists.Lists.{Lists}
+use Rattle.said_models.specs.Said.{said}
+use Rattle.ale_base.specs.Faults.{Rose}
+use Rattle.ale_host.specs.Ending.{status_of, text_of}
+use Rattle.ale_host.specs.Running.{masters_of}
+use Rattle.ale_host.proofs.EndingLemmas.{ends-as, quiet-as, quiet-early}
 use Rattle.ale_host.proofs.OneEnding.{one_ending}
+use Rattle.ale_host.proofs.RunningLemmas.{runs-said, said-of}
 use Rattle.ale_host.proofs.host.aleflow.Goals as goal
 
-pub returns-clause-ended : goal.returns-clause-ended
-returns-clause-ended g c = λ taken.
-    let put = c.out_of_memory.ensures.ended taken in (OutOfMemory, tt, put.0, put.1, put.2)
+pub run-requires-clause-said : goal.run-requires-clause-said
+run-requires-clause-said g c =
+    let read = c.in-Ok.ensures.runs in
+    ap said read.1.1.text_is ∙ said-of read.1.0.text read.1.0.model read.1.0.says_model ∙ ap (λ (model : Lists). Some model) (sym read.1.1.model_is)
 
-pub returns-clause-write_fault : goal.returns-clause-write_fault
-returns-clause-write_fault g c = λ failed.
-    let put = c.out_of_memory.ensures.write_fault failed in (put.0, (OutOfMemory, tt, tt, put.1))
+pub returns-in-Err-clause-ended : goal.returns-in-Err-clause-ended
+returns-in-Err-clause-ended g c = λ not_6.
+    let its = c.print-status.ensures.ended not_6 in (
+      text_of its.0,
+      (
+        [],
+        inl (record {
+          ending = its.0;
+          ends = ends-as (map string_bytes c.args.words.now) (g.F.Files.told c.args.files.now)
+              (Rose (g.F.Files.faults c.args.files.now) (g.F.Files.faults c.asked.new.files)) c.in-Err.ending its.0 c.in-Err.ensures.ends its.1;
+          quiet = quiet-early c.in-Err.ending its.0 (g.F.Files.faults c.args.files.now) (g.F.Files.faults c.asked.new.files) c.in-Err.ensures.quiet its.1;
+          status_is = its.2;
+          printed_is = refl;
+          sure_is = refl;
+          volumes = refl;
+          asked = refl;
+        }),
+        its.3.appends,
+        its.3.quiet,
+      ),
+    )
+
+pub returns-in-Err-clause-write_fault : goal.returns-in-Err-clause-write_fault
+returns-in-Err-clause-write_fault g c = λ is_6.
+    let its = c.print-status.ensures.write_fault is_6 in (
+      status_of its.0,
+      (
+        text_of its.0,
+        (
+          [],
+          inl (record {
+            ending = its.0;
+            ends = ends-as (map string_bytes c.args.words.now) (g.F.Files.told c.args.files.now)
+                (Rose (g.F.Files.faults c.args.files.now) (g.F.Files.faults c.asked.new.files)) c.in-Err.ending its.0 c.in-Err.ensures.ends its.1;
+            quiet = quiet-early c.in-Err.ending its.0 (g.F.Files.faults c.args.files.now) (g.F.Files.faults c.asked.new.files) c.in-Err.ensures.quiet its.1;
+            status_is = refl;
+            printed_is = refl;
+            sure_is = refl;
+            volumes = refl;
+            asked = refl;
+          }),
+          record { count = its.2.appends.0; least = zero-le; appends = its.2.appends.1; rose = its.2.rose },
+        ),
+      ),
+    )
+
+pub returns-in-Err-clause-one_ending : goal.returns-in-Err-clause-one_ending
+returns-in-Err-clause-one_ending g c = one_ending
+
+pub returns-in-Err-clause-files_quiet : goal.returns-in-Err-clause-files_quiet
+returns-in-Err-clause-files_quiet g c = λ not_5 not_6 not_9.
+    let its = c.print-status.ensures.ended not_6 in
+    quiet-as c.in-Err.ending its.0 (g.F.Files.faults c.args.files.now) (g.F.Files.faults c.asked.new.files) c.in-Err.ensures.quiet its.1
+    (λ same. not_5 (its.2 ∙ same)) (λ same. not_9 (its.2 ∙ same))
+
+pub returns-in-Ok-clause-ended : goal.returns-in-Ok-clause-ended
+returns-in-Ok-clause-ended g c = λ not_6.
+    let read = c.in-Ok.ensures.runs in
+    let ran = c.run.ensures.ended not_6 in (
+      ran.0,
+      (
+        ran.1.0,
+        inr (record {
+          asks = read.0;
+          quiet = c.in-Ok.ensures.still;
+          said = read.1.0;
+          runs = runs-said (record {
+            told = g.V.Volumes.told;
+            volume = g.V.Volumes.volume;
+            faults = g.V.Volumes.faults;
+            moment = g.V.Volumes.moment;
+            images_since = g.V.Volumes.images_since;
+          })
+              c.in-Ok.prepared.text read.1.0.text (arc_value c.in-Ok.prepared.model) read.1.0.model c.in-Ok.prepared.inputs.masters
+              (masters_of read.1.0.documents) c.in-Ok.prepared.commands read.1.0.commands c.args.vols c.run.result.vols (g.C.Clock.told c.run.new.clock)
+              (g.C.Clock.given c.args.clock.now) (g.C.Clock.given c.run.new.clock) c.run.result.status ran.0 ran.1.0
+              read.1.1.text_is read.1.1.model_is read.1.1.masters_are read.1.1.commands_are ran.1.1;
+        }),
+        ran.1.2.appends,
+        ran.1.2.quiet,
+      ),
+    )
+
+pub returns-in-Ok-clause-write_fault : goal.returns-in-Ok-clause-write_fault
+returns-in-Ok-clause-write_fault g c = λ is_6.
+    let read = c.in-Ok.ensures.runs in
+    let ran = c.run.ensures.write_fault is_6 in (
+      ran.0,
+      (
+        ran.1.0,
+        (
+          ran.1.1.0,
+          inr (record {
+            asks = read.0;
+            quiet = c.in-Ok.ensures.still;
+            said = read.1.0;
+            runs = runs-said (record {
+              told = g.V.Volumes.told;
+              volume = g.V.Volumes.volume;
+              faults = g.V.Volumes.faults;
+              moment = g.V.Volumes.moment;
+              images_since = g.V.Volumes.images_since;
+            })
+                c.in-Ok.prepared.text read.1.0.text (arc_value c.in-Ok.prepared.model) read.1.0.model c.in-Ok.prepared.inputs.masters
+                (masters_of read.1.0.documents) c.in-Ok.prepared.commands read.1.0.commands c.args.vols c.run.result.vols (g.C.Clock.told c.run.new.clock)
+                (g.C.Clock.given c.args.clock.now) (g.C.Clock.given c.run.new.clock) ran.0 ran.1.0 ran.1.1.0
+                read.1.1.text_is read.1.1.model_is read.1.1.masters_are read.1.1.commands_are ran.1.1.1;
+          }),
+          ran.1.1.2,
+        ),
+      ),
+    )
 
 pub returns-in-Ok-clause-one_ending : goal.returns-in-Ok-clause-one_ending
 returns-in-Ok-clause-one_ending g c = one_ending
-
-pub returns-clause-one_ending : goal.returns-clause-one_ending
-returns-clause-one_ending g c = one_ending

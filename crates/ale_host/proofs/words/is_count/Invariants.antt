@@ -5,4 +5,5 @@ use Rattle.ale_base.specs.Decimal.{decimal_value}
 use Rattle.ale_host.proofs.words.is_count.Given as goal
 
 abbrev pub invariant-loop-digit : goal.invariant-loop-digit
-invariant-loop-digit l = (l.number < 10 ^ l.digit-index) × (l.number ≡ decimal_value (take l.digit-index l.text)) × (list_all is_ascii_digit (take l.digit-index l.text) ≡ true)
+invariant-loop-digit l = (l.number < 10 ^ l.digit-index) × (l.number ≡ decimal_value (take l.digit-index l.text)) ×
+    (list_all is_ascii_digit (take l.digit-index l.text) ≡ true)

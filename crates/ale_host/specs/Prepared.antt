@@ -1,0 +1,53 @@
+-- What a run has from its files; only private functions cite this.
+use Rattle.std.specs.Prelude.{◌≡◌, ◌⊎◌, ℕ, List, Some, Ok}
+use Rattle.std.specs.Arc.{arc_value}
+use Rattle.ale_io.specs.Told.{Told}
+use Rattle.dist_model.specs.declared.lists.Lists.{Lists}
+use Rattle.idoc_file.specs.declared.raw_doc.RawDoc.{RawDoc}
+use Rattle.model_text.specs.declared.reading.TheConstants as text_limit
+use Rattle.model_text.specs.Text.{answer_to}
+use Rattle.script_text.specs.declared.command.Command.{Command}
+use Rattle.ale_host.specs.declared.inputs.ModelFile.{ModelFile}
+use Rattle.ale_host.specs.declared.prepared.Prepared.{Prepared}
+use Rattle.ale_host.specs.Inputs.{IsFileWithin, SaysDocuments, SaysScript}
+use Rattle.ale_host.specs.declared.ending.Ending.{Ending}
+use Rattle.ale_host.specs.declared.ending.Ending.TheVariants as ending
+use Rattle.ale_host.specs.declared.words.Form.TheVariants.{Run}
+use Rattle.ale_host.specs.Words.{form_of, documents_file, model_file, script_file}
+use Rattle.ale_host.specs.Running.{Said, masters_of}
+
+-- a run has this from its files: a text and the model that it says, the documents, which are its masters, and the commands
+pub record IsPrepared (text : List ℕ) (model : Lists) (documents : List RawDoc) (commands : List Command) (prepared : Prepared) : Type 0 where
+  pub text_is : prepared.text ≡ text
+  pub model_is : arc_value prepared.model ≡ model
+  pub names_are : arc_value prepared.inputs.model ≡ model
+  pub masters_are : prepared.inputs.masters ≡ masters_of documents
+  pub commands_are : prepared.commands ≡ commands
+
+-- the text of the model is that of its file, as far as it is told, and says it
+pub record SaysModel (told : Told) (file : ModelFile) : Type 0 where
+  pub in_file : IsFileWithin text_limit.MAX_BYTES told file.text
+  pub says : answer_to file.text ≡ Ok file.model
+
+-- behind the model and the documents, a script was read
+abbrev pub IsBehindDocuments : (List ℕ → Told) → ModelFile → List RawDoc → List ℕ → Prepared → Type 0
+IsBehindDocuments told file documents script prepared =
+    (commands : List Command) × SaysScript (told script) commands × IsPrepared file.text file.model documents commands prepared
+
+-- behind the model, documents and a script were read
+abbrev pub IsBehindModel : (List ℕ → Told) → ModelFile → List ℕ → List ℕ → Prepared → Type 0
+IsBehindModel told file documents script prepared =
+    (all : List RawDoc) × SaysDocuments (told documents) all × IsBehindDocuments told file all script prepared
+
+-- what a run has is what its files say
+abbrev pub IsRead : (List ℕ → Told) → List ℕ → List ℕ → List ℕ → Prepared → Type 0
+IsRead told model documents script prepared =
+    (said : Said told model documents script) × IsPrepared said.text said.model said.documents said.commands prepared
+
+-- the words ask for a run, and this is what it has from its files
+abbrev pub IsRunOf : List (List ℕ) → (List ℕ → Told) → Prepared → Type 0
+IsRunOf words told prepared = (form_of words ≡ Some Run) × IsRead told (model_file words) (documents_file words) (script_file words) prepared
+
+-- an ending, or want of memory in its place
+abbrev pub EndsAs : Ending → Ending → Type 0
+EndsAs due its = (its ≡ due) ⊎ (its ≡ ending.OutOfMemory)

@@ -1,0 +1,172 @@
+-- How `run` ends whose files were read: the systems are opened over the volumes, the commands are carried out, and the text of each is
+-- put. This project's own.
+use Rattle.std.specs.Prelude.{◌≡◌, ◌⊎◌, ⊤, ℕ, ◌<◌, List, [], ◌∷◌, ◌++◌, Some, Ok, length, map, codes}
+use Rattle.std.specs.Arc.{arc_value}
+use Rattle.ale_base.specs.Tid.{TidOf}
+use Rattle.ale_io.specs.Told.{Told}
+use Rattle.ale_volumes.specs.declared.volume.Volume.{Volume as OneVolume}
+use Rattle.idoc_file.specs.declared.raw_doc.RawDoc.{RawDoc}
+use Rattle.dist_model.specs.declared.lists.Lists.{Lists}
+use Rattle.model_text.specs.declared.reading.TheConstants as text_limit
+use Rattle.model_text.specs.Text.{answer_to}
+use Rattle.script_text.specs.declared.command.Command.{Command}
+use Rattle.unit_core.specs.declared.raw_unit_doc.RawUnitDoc.{RawUnitDoc}
+use Rattle.unit_journal.specs.Log.{Stands}
+use Rattle.outbound_build.specs.ControlRecord.{system_name}
+use Rattle.document_tables.specs.declared.document_tables.DocumentTables.{DocumentTables}
+use Rattle.model_rules.specs.declared.model_rules.ModelRules.{ModelRules}
+use Rattle.model_rules.specs.Meaning.{model_meaning}
+use Rattle.kept_world.specs.Kept.{KeptOf}
+use Rattle.kept_world.specs.OnVolumes.{AreOnVolumes}
+use Rattle.unit_landscape.specs.Kept.{IsLandscape}
+use Rattle.landscape.specs.declared.open_end.OpenWhy.{OpenWhy}
+use Rattle.landscape.specs.declared.open_end.OpenWhy.TheVariants as open_why
+use Rattle.landscape.specs.Opened.{EndedByFault, HasOpened, LeavesOpening, NoneFailed, WhyEnded}
+use Rattle.report_text.specs.declared.faults.FaultLine.TheVariants as last
+use Rattle.report_text.specs.FaultLine.{fault_line}
+use Rattle.runs.specs.declared.inputs.Inputs.{Inputs}
+use Rattle.runs.specs.declared.run_end.RunEnd.{RunEnd}
+use Rattle.runs.specs.declared.run_end.RunEnd.TheVariants as end
+use Rattle.runs.specs.declared.stage.Stage.{Stage}
+use Rattle.runs.specs.Run.{AreAsked, Run, Turn, text_of}
+use Rattle.wires.specs.Wires.{letters_left}
+use Rattle.ale_host.specs.Inputs.{IsFileWithin, SaysDocuments, SaysScript}
+
+-- what the files of a run say, as far as they are told: a model, with the text that says it, documents, and commands
+pub record Said (told : List ℕ → Told) (model_name documents_name script_name : List ℕ) : Type 0 where
+  pub text : List ℕ
+  pub model : Lists
+  pub documents : List RawDoc
+  pub commands : List Command
+  pub in_file : IsFileWithin text_limit.MAX_BYTES (told model_name) text
+  pub says_model : answer_to text ≡ Ok model
+  pub says_documents : SaysDocuments (told documents_name) documents
+  pub says_script : SaysScript (told script_name) commands
+
+-- the masters of a run: the documents of its document file
+abbrev pub masters_of : List RawDoc → List RawUnitDoc
+masters_of documents = map (λ (document : RawDoc). record { control = document.control; segments = document.segments }) documents
+
+-- ---- status and last line
+
+abbrev pub short_line : List ℕ
+short_line = codes "out of memory\n"
+
+-- the exit status where the systems were not opened, and what is printed
+abbrev pub status_unopened : OpenWhy → ℕ
+status_unopened open_why.Volume = 8
+status_unopened open_why.NotBuilt = 13
+status_unopened open_why.OutOfMemory = 9
+
+abbrev pub line_unopened : OpenWhy → List ℕ
+line_unopened open_why.Volume = fault_line last.Volumes
+line_unopened open_why.NotBuilt = codes "not built: volumes\n"
+line_unopened open_why.OutOfMemory = short_line
+
+-- the exit status at the end of a run
+abbrev pub status_at : RunEnd → ℕ
+status_at end.Whole = 0
+status_at (end.DownByFault system) = 11
+status_at (end.DownFull system size) = 12
+status_at end.WriteFailed = 6
+status_at end.OutOfMemory = 9
+
+-- the line that is due at the end of a run
+abbrev pub IsLine : Lists → RunEnd → List ℕ → Type 0
+IsLine model end.Whole line = line ≡ []
+IsLine model (end.DownByFault system) line = line ≡ fault_line (last.DownByFault (system_name model system))
+IsLine model (end.DownFull system size) line = line ≡ fault_line (last.DownFull (system_name model system) size)
+IsLine model end.WriteFailed line = line ≡ []
+IsLine model end.OutOfMemory line = line ≡ short_line
+
+-- memory may be wanting for the line of an ending that names a system
+abbrev pub MayBeShort : RunEnd → Type 0
+MayBeShort (end.DownByFault system) = ⊤
+MayBeShort (end.DownFull system size) = ⊤
+MayBeShort its = ⊥
+
+-- the status of an ending and its line are these; or memory was wanting for the line
+abbrev pub EndsWith : Lists → RunEnd → ℕ → List ℕ → Type 0
+EndsWith model its status line =
+    ((status ≡ status_at its) × IsLine model its line) ⊎ (MayBeShort its × (status ≡ 9) × (line ≡ short_line))
+
+-- what was put whole wherever a write failed: the text of each turn but the last, where that was not taken, and else of all
+abbrev pub IsSure : {V : Type 0} → RunEnd → List (Turn V) → List ℕ → Type 0
+IsSure {V} end.WriteFailed turns sure = (done : List (Turn V)) × ((last : Turn V) × (turns ≡ done ++ last ∷ []) × (sure ≡ text_of done))
+IsSure its turns sure = sure ≡ text_of turns
+
+-- ---- the run
+
+-- what a run needs of its volumes and of its clock: whether the volumes tell what they hold, what is known of each, how many calls on each
+-- failed, the moment by their clock, and what a crash may leave of each
+pub record Disk (V : Type 0) : Type 1 where
+  pub told : Type 0
+  pub volume : V → ℕ → OneVolume
+  pub faults : V → ℕ → ℕ
+  pub moment : V → ℕ
+  pub images_since : V → ℕ → ℕ → List ℕ → Type 0
+
+-- Commands were carried out from systems that had begun. The report is that of the turns; the volumes hold the logs that the last turn left,
+-- and these are safe.
+pub record RanFrom {V : Type 0} (disk : Disk V) (model : Lists) (inputs : Inputs) (commands : List Command) (begun : KeptOf ModelRules DocumentTables V)
+    (after : V)
+    (clock : Type 0) (given given_after : List ℕ) (status : ℕ) (printed sure : List ℕ) : Type 0 where
+  pub first : Stage V
+  pub begins : first.landscape ≡ begun
+  pub no_letters : (tid : TidOf) → letters_left first.wires tid ≡ []
+  pub turns : List (Turn V)
+  pub its_end : RunEnd
+  pub left : Stage V
+  pub run : Run disk.faults inputs commands first left its_end turns
+  pub line : List ℕ
+  pub ends : EndsWith model its_end status line
+  pub printed_is : printed ≡ text_of turns ++ line
+  pub sure_is : IsSure its_end turns sure
+  pub volumes : after ≡ left.landscape.vols
+  pub safe : IsLandscape (λ (rules : ModelRules). model_meaning rules.systems) left.landscape.world
+  pub on_volumes : AreOnVolumes disk.told disk.volume left.landscape.vols left.landscape.world.systems left.landscape.journals
+  pub asked : AreAsked clock given given_after its_end turns
+
+module _ {V : Type 0} (disk : Disk V) (text : List ℕ) (model : Lists) (masters : List RawUnitDoc) (commands : List Command) (before after : V) where
+  abbrev many : ℕ
+  many = length model.systems
+
+  -- the systems were not opened
+  pub record NotOpened (moment : ℕ) (why : OpenWhy) : Type 0 where
+    pub whys : WhyEnded disk.volume many text (Some moment) before after disk.told why
+    pub faulted : EndedByFault many disk.faults before after why
+    pub left : disk.told → LeavesOpening disk.volume many text (Some moment) before after disk.moment disk.images_since
+
+  -- the systems were opened: all are up, and the log of each is its Genesis alone
+  pub record Opened (moment : ℕ) (begun : KeptOf ModelRules DocumentTables V) : Type 0 where
+    pub world : HasOpened many text (Some moment) begun
+    pub empty : disk.told → (place : ℕ) → place < many → Stands (disk.volume before place).contents []
+    pub still : NoneFailed many disk.faults before begun.vols
+    pub left : disk.told → LeavesOpening disk.volume many text (Some moment) before begun.vols disk.moment disk.images_since
+
+  module _ (clock : Type 0) (given given_after : List ℕ) (status : ℕ) (printed sure : List ℕ) where
+    -- the systems were not opened, and no command was carried out
+    pub record Unopened : Type 0 where
+      pub moment : ℕ
+      pub why : OpenWhy
+      pub not_opened : NotOpened moment why
+      pub status_is : status ≡ status_unopened why
+      pub printed_is : printed ≡ line_unopened why
+      pub sure_is : sure ≡ []
+      pub asked : clock → given_after ≡ given ++ moment ∷ []
+
+    -- the systems were opened, and the commands carried out
+    pub record Ran : Type 0 where
+      pub moment : ℕ
+      pub begun : KeptOf ModelRules DocumentTables V
+      pub opened : Opened moment begun
+      pub inputs : Inputs
+      pub names : arc_value inputs.model ≡ model
+      pub masters_are : inputs.masters ≡ masters
+      pub given_then : List ℕ
+      pub asked : clock → given_then ≡ given ++ moment ∷ []
+      pub from : RanFrom disk model inputs commands begun after clock given_then given_after status printed sure
+
+    -- what became of a run
+    abbrev pub RunsTo : Type 0
+    RunsTo = Unopened ⊎ Ran

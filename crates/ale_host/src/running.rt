@@ -1,0 +1,193 @@
+//! A run whose files were read: the systems are opened, the commands are carried out, and the last line is put.
+
+ghost use Rattle.std.specs.Prelude.{◌≡◌, ◌≢◌, ◌≤◌, ℕ, List, None, Some, length, IfOk};
+ghost use Rattle.std.specs.Arc.{arc_value};
+ghost use Rattle.said_models.specs.Said.{said};
+ghost use Rattle.landscape_opening.specs.declared.beginning.TheConstants.{MOST_TEXT};
+ghost use Rattle.outbound_build.specs.ControlRecord.{system_name};
+ghost use Rattle.report_text.specs.declared.faults.FaultLine.TheVariants as last;
+ghost use Rattle.report_text.specs.FaultLine.{fault_line};
+ghost use Rattle.runs.specs.declared.run_end.RunEnd.TheVariants as run_end;
+ghost use Rattle.runs.specs.Run.{first_down};
+ghost use Rattle.runs.specs.steps.Put.{IsPart, IsPut};
+ghost use Rattle.ale_host.specs.Closing.{IsClosed};
+ghost use Rattle.ale_host.specs.EndsSo.{IsFront};
+ghost use Rattle.ale_host.specs.Running.{RanFrom, RunsTo, line_unopened, status_unopened};
+
+use crate::ending::OUT_OF_MEMORY;
+use crate::host::{Ended, WRITE_FAULT, put};
+use crate::prepared::Prepared;
+use ale_base::{Items, OutOfMemory, SystemNo};
+use ale_io::{Clock, Sink};
+use ale_volumes::Volumes;
+use dist_model::Model;
+use landscape::{Landscape, OpenEnd, OpenWhy};
+use report_text::{FaultLine, fault_line};
+use runs::{Inputs, Ran, RunEnd, Stage, run_script};
+use script_text::Command;
+use std::alloc::Global;
+use wires::Wires;
+
+/// Carries out a run: the clock is asked, the systems are opened over the volumes with that moment, and then the commands are carried out.
+pub(crate) fn run<V: Volumes, K: Sink, C: Clock>(
+    alloc: Global,
+    prepared: Prepared,
+    out: &mut K,
+    vols: V,
+    clock: &mut C,
+) -> Ended<V>
+    requires said { said prepared.text ≡ Some (arc_value prepared.model) }
+    requires short { length prepared.text ≤ MOST_TEXT }
+    requires names { arc_value prepared.inputs.model ≡ arc_value prepared.model }
+    ensures ended { result.status ≢ 6 → (printed : List ℕ) × ((sure : List ℕ)
+        × RunsTo (record { told = V.told; volume = V.volume; faults = V.faults; moment = V.moment; images_since = V.images_since })
+        prepared.text (arc_value prepared.model) prepared.inputs.masters prepared.commands vols result.vols (C.told clock.new) (C.given clock.old) (C.given clock.new) result.status printed sure
+        × IsPut (K.contents out.old) (K.contents out.new) (K.faults out.old) (K.faults out.new) printed) }
+    ensures write_fault { result.status ≡ 6 → (status : ℕ) × ((printed : List ℕ) × ((sure : List ℕ)
+        × RunsTo (record { told = V.told; volume = V.volume; faults = V.faults; moment = V.moment; images_since = V.images_since })
+        prepared.text (arc_value prepared.model) prepared.inputs.masters prepared.commands vols result.vols (C.told clock.new) (C.given clock.old) (C.given clock.new) status printed sure
+        × IsFront (K.contents out.old) (K.contents out.new) (K.faults out.old) (K.faults out.new) printed sure)) }
+    ensures counted { K.faults out.old ≤ K.faults out.new }
+{
+    let Prepared {
+        text,
+        model,
+        inputs,
+        commands,
+    } = prepared;
+    let moment = clock.now();
+    match Landscape::open(alloc, model, text, Some(moment), vols) {
+        Err(OpenEnd { why, vols }) => {
+            let status = put_unopened(why, out);
+            Ended { status, vols }
+        }
+        Ok(landscape) => run_opened(alloc, landscape, &inputs, commands.as_slice(), out, clock),
+    }
+}
+
+/// Puts why the systems were not opened, and gives the status.
+fn put_unopened<K: Sink>(why: OpenWhy, out: &mut K) -> u8
+    ensures ended { result ≢ 6 → (result ≡ status_unopened why)
+        × IsPut (K.contents out.old) (K.contents out.new) (K.faults out.old) (K.faults out.new) (line_unopened why) }
+    ensures write_fault { result ≡ 6 → IsPart (K.contents out.old) (K.contents out.new) (K.faults out.old) (K.faults out.new) (line_unopened why) }
+    ensures counted { K.faults out.old ≤ K.faults out.new }
+{
+    match why {
+        OpenWhy::Volume => put(out, 8, b"volumes fault\n"),
+        OpenWhy::NotBuilt => put(out, 13, b"not built: volumes\n"),
+        OpenWhy::OutOfMemory => put(out, 9, OUT_OF_MEMORY),
+    }
+}
+
+/// Carries out commands, and puts the last line.
+fn run_opened<V: Volumes, K: Sink, C: Clock>(
+    alloc: Global,
+    landscape: Landscape<V>,
+    inputs: &Inputs,
+    commands: &[Command],
+    out: &mut K,
+    clock: &mut C,
+) -> Ended<V>
+    requires up { first_down landscape.world ≡ None }
+    ensures ended { result.status ≢ 6 → (printed : List ℕ) × ((sure : List ℕ)
+        × RanFrom (record { told = V.told; volume = V.volume; faults = V.faults; moment = V.moment; images_since = V.images_since })
+        (arc_value inputs.now.model) inputs.now commands.now landscape result.vols (C.told clock.new) (C.given clock.old) (C.given clock.new) result.status printed sure
+        × IsPut (K.contents out.old) (K.contents out.new) (K.faults out.old) (K.faults out.new) printed) }
+    ensures write_fault { result.status ≡ 6 → (status : ℕ) × ((printed : List ℕ) × ((sure : List ℕ)
+        × RanFrom (record { told = V.told; volume = V.volume; faults = V.faults; moment = V.moment; images_since = V.images_since })
+        (arc_value inputs.now.model) inputs.now commands.now landscape result.vols (C.told clock.new) (C.given clock.old) (C.given clock.new) status printed sure
+        × IsFront (K.contents out.old) (K.contents out.new) (K.faults out.old) (K.faults out.new) printed sure)) }
+    ensures told { C.told clock.new → C.told clock.old }
+    ensures counted { K.faults out.old ≤ K.faults out.new }
+{
+    let stage = Stage {
+        landscape,
+        wires: Wires::new(alloc),
+        full: 0,
+    };
+    let Ran { stage, end } = run_script(alloc, stage, inputs, commands, out, clock);
+    let status = close(alloc, &inputs.model, end, out);
+    let Stage { landscape, .. } = stage;
+    let _ = landscape.world();
+    Ended {
+        status,
+        vols: landscape.into_volumes(),
+    }
+}
+
+/// Puts the last line of a run, and gives the status.
+fn close<K: Sink>(alloc: Global, model: &Model, end: RunEnd, out: &mut K) -> u8
+    ensures closed { IsClosed model.now end result (K.contents out.old) (K.contents out.new) (K.faults out.old) (K.faults out.new) }
+    ensures counted { K.faults out.old ≤ K.faults out.new }
+{
+    match end {
+        RunEnd::Whole => 0,
+        RunEnd::WriteFailed => WRITE_FAULT,
+        RunEnd::OutOfMemory => put(out, 9, OUT_OF_MEMORY),
+        RunEnd::DownByFault(system) => put_fault(alloc, model, system, out),
+        RunEnd::DownFull(system, size) => put_full(alloc, model, system, size, out),
+    }
+}
+
+/// Puts that a system is down by a fault of its volume, and gives the status.
+fn put_fault<K: Sink>(alloc: Global, model: &Model, system: SystemNo, out: &mut K) -> u8
+    ensures closed { IsClosed model.now (run_end.DownByFault system) result (K.contents out.old) (K.contents out.new) (K.faults out.old) (K.faults out.new) }
+    ensures counted { K.faults out.old ≤ K.faults out.new }
+{
+    match fault_text(alloc, model, system) {
+        Ok(text) => put(out, 11, text.as_slice()),
+        Err(_) => put(out, 9, OUT_OF_MEMORY),
+    }
+}
+
+/// Puts that a system is down because a record did not fit, and gives the status.
+fn put_full<K: Sink>(alloc: Global, model: &Model, system: SystemNo, size: u64, out: &mut K) -> u8
+    ensures closed { IsClosed model.now (run_end.DownFull system size) result (K.contents out.old) (K.contents out.new) (K.faults out.old) (K.faults out.new) }
+    ensures counted { K.faults out.old ≤ K.faults out.new }
+{
+    match full_text(alloc, model, system, size) {
+        Ok(text) => put(out, 12, text.as_slice()),
+        Err(_) => put(out, 9, OUT_OF_MEMORY),
+    }
+}
+
+/// The last line where a system is down by a fault of its volume.
+fn fault_text(alloc: Global, model: &Model, system: SystemNo) -> Result<Vec<u8>, OutOfMemory>
+    ensures { IfOk result (λ text. text.items ≡ fault_line (last.DownByFault (system_name model.now system))) }
+{
+    let system = Items::from_slice(alloc, system_name(model, system))?;
+    line_of(alloc, FaultLine::DownByFault { system })
+}
+
+/// The last line where a system is down because a record did not fit.
+fn full_text(
+    alloc: Global,
+    model: &Model,
+    system: SystemNo,
+    length: u64,
+) -> Result<Vec<u8>, OutOfMemory>
+    ensures { IfOk result (λ text. text.items ≡ fault_line (last.DownFull (system_name model.now system) length)) }
+{
+    let system = Items::from_slice(alloc, system_name(model, system))?;
+    line_of(alloc, FaultLine::DownFull { system, length })
+}
+
+/// A last line.
+fn line_of(alloc: Global, line: FaultLine) -> Result<Vec<u8>, OutOfMemory>
+    ensures { IfOk result (λ text. text.items ≡ fault_line line) }
+{
+    let mut text = Vec::new(alloc);
+    fault_line(alloc, &line, &mut text)?;
+    Ok(text)
+}
+
+/// The name of a system; no bytes where there is none of this number.
+fn system_name(model: &Model, system: SystemNo) -> &[u8]
+    ensures { result.now ≡ system_name model.now system }
+{
+    let number = usize::from(system.get());
+    match model.as_lists().systems.get(number - 1) {
+        None => &[],
+        Some(system) => system.name.as_slice(),
+    }
+}

@@ -1,0 +1,15 @@
+use Rattle.std.proofs.Common.{rules, ◌∙◌, ℕ, List}
+use Rattle.ale_volumes.specs.MemoryLemmas.{volume_now}
+use Rattle.worked_cases.proofs.HeldLemmas.{copied_more}
+use Rattle.worked_cases.proofs.performing.begun_from.Goals as goal
+
+pub loop-n-preserved : goal.loop-n-preserved
+loop-n-preserved c =
+    let held : ℕ → List ℕ = λ n. (volume_now c.args.vols.now n).contents in
+    let bytes = c.in_ok-contents.ensures ∙ c.contents.ensures in
+    let now = c.loop-n in
+    let before = now.invariant in
+    record {
+      volumes = search rules;
+      copied = copied_more held now.contents now.n c.from.result c.in_ok-contents.field-0 c.from.ensures bytes c.loop-n-test.true before.volumes before.copied;
+    }
