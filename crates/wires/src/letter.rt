@@ -18,7 +18,7 @@ pub enum Letter {
     LostConfirmation,
 }
 
-/// The letter that a byte says: `o`, `q`, `r`, `t` or `c`. None exactly where it is no other byte.
+/// The letter that a byte says: `o`, `q`, `r`, `t` or `c`. None exactly where it is another byte.
 pub(crate) fn letter_of(byte: u8) -> Option<Letter>
     ensures { result ≡ letter_said byte }
 {
