@@ -10,6 +10,8 @@ pub mod Operator
 pub mod Working
 -- what an operator is shown
 pub mod Shown
+-- how much the logs hold
+pub mod Counted
 -- a landscape that is opened over empty volumes
 pub mod Opened
 -- what only private functions cite

@@ -6,6 +6,7 @@ ghost use Rattle.std.specs.Prelude.{◌≡◌};
 mod changing;
 mod commanding;
 mod confirming;
+mod counting;
 mod executing;
 mod opening;
 mod operating;

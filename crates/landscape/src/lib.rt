@@ -3,7 +3,7 @@
 //! Contract: a command appends exactly the record that it asks for by the log of its system, and nothing where it asks for none, or is
 //! refused exactly for the first reason that applies; each call that moves a unit is its event of the protocol, under the models that
 //! the logs name. The definitions are in `specs/`: `Begun` (what is kept), `Standing` (the tables of a system), `Carried` (what commands
-//! ask for, and how they are carried out), `Operator` (what an operator asks for), `Shown` (what an operator is shown), `Working` (what is prepared for
+//! ask for, and how they are carried out), `Operator` (what an operator asks for), `Shown` (what an operator is shown), `Counted` (how much the logs hold), `Working` (what is prepared for
 //! the work of a claim) and `Opened` (a landscape that is opened).
 #![tactic(auto)]
 
@@ -13,6 +13,6 @@ mod ids;
 mod landscape;
 mod open_end;
 
-pub use counts::{Gathered, Sent};
+pub use counts::{Counts, Gathered, Sent};
 pub use landscape::Landscape;
 pub use open_end::{OpenEnd, OpenWhy};
