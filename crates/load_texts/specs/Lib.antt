@@ -1,0 +1,2 @@
+-- the texts of a load
+pub mod Load
