@@ -1,4 +1,5 @@
-//! The outside that the program reads and writes: files, a sink and a clock, as traits, and each of them in memory.
+//! The outside that the program reads and writes: files, a sink and a clock, as traits, and each of them in memory; and the
+//! gate that workers pass.
 //!
 //! Contract: a call says what it read or wrote where the implementation tells its contents, and it answers `Failed` or
 //! `SinkFailed` only where the implementation's count of faults rises in that call; a clock's call says which moment it
@@ -11,6 +12,7 @@ mod calls;
 mod clock;
 mod file_end;
 mod files;
+mod gate;
 mod list_clock;
 mod map_files;
 mod sink;
@@ -20,6 +22,7 @@ pub use calls::Calls;
 pub use clock::Clock;
 pub use file_end::FileEnd;
 pub use files::Files;
+pub use gate::{Gate, OpenGate};
 pub use list_clock::ListClock;
 pub use map_files::{MapFiles, StoredFile};
 pub use sink::{Sink, SinkFailed};
