@@ -1,0 +1,2 @@
+-- each step of a hand keeps the law of the ring
+pub mod TicketLemmas

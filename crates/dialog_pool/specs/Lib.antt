@@ -1,0 +1,2 @@
+-- which numbers the tickets of a pool have, and where they are
+pub mod Tickets

@@ -1,0 +1,58 @@
+//! The trait of the desk that workers take works from.
+
+ghost use Rattle.std.specs.Prelude.{◌≡◌, ◌≤◌, ℕ, IfOk, IfSome, IfNone};
+
+use ale_base::{OutOfMemory, SystemNo, Tid};
+use std::alloc::Global;
+
+/// What hands out works, and takes each back when it is to be done. One worker at a time has it, under a lock.
+pub trait Desk {
+    /// What a worker takes from the desk.
+    type Work: Send + Drop;
+
+    /// What a worker prepares for a work, while it does not have the desk.
+    type Ready: Send + Drop;
+
+    /// The data that a desk has from its beginning on.
+    type Origin: Send;
+
+    // With what the desk began.
+    ghost origin: { Self → Self.Origin };
+
+    // With what the desk began that gave the work.
+    ghost origin_of: { Self.Work → Self.Origin };
+
+    // The ready is of the work.
+    ghost is_of: { Self.Ready → Self.Work → Type 0 };
+
+    // The desk has no work.
+    ghost is_idle: { Self → Type 0 };
+
+    // How many works were finished.
+    ghost finishes: { Self → ℕ };
+
+    /// Takes a work of this desk. None only where the desk is idle.
+    fn take(&mut self) -> Result<Option<Self::Work>, OutOfMemory>
+        ensures origin { origin self.new ≡ origin self.old }
+        ensures work { IfOk result (λ taken. IfSome taken (λ work. origin_of work ≡ origin self.old)) }
+        ensures idle { IfOk result (λ taken. IfNone taken (is_idle self.old)) }
+        ensures finishes { finishes self.new ≡ finishes self.old };
+
+    /// The system and the unit of a work, as a gate sees them.
+    fn name(work: &Self::Work) -> (SystemNo, Tid);
+
+    /// Prepares a work. A worker calls it while it does not have the desk.
+    fn prepare(alloc: Global, work: &Self::Work) -> Result<Self::Ready, OutOfMemory>
+        ensures { IfOk result (λ ready. is_of ready work.now) };
+
+    /// Does a work whole. It may be there that the work is done no more, and then nothing is.
+    fn act(&mut self, work: Self::Work, ready: Self::Ready) -> Result<(), OutOfMemory>
+        requires origin { origin_of work ≡ origin self.old }
+        requires ready { is_of ready work }
+        ensures origin { origin self.new ≡ origin self.old }
+        ensures finishes { finishes self.old ≤ finishes self.new };
+
+    /// How many works were finished.
+    fn finished(&self) -> u64
+        ensures { result ≡ finishes self.now };
+}
