@@ -15,7 +15,7 @@ pub(crate) struct FakeDesk {
     taken: u32,
     /// At which call on which work memory is wanting.
     want: Option<(Call, u32)>,
-    /// Where preparations meet.
+    /// Where preparations wait for each other.
     meeting: Option<Arc<Meeting>>,
     /// How often each was done.
     done: Vec<u64>,

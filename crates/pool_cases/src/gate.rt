@@ -1,5 +1,6 @@
-//! A gate that counts.
+//! Gates: one that counts, and one at which workers wait for each other.
 
+use crate::meeting::Meeting;
 use ale_base::{SystemNo, Tid};
 use ale_io::Gate;
 use std::sync::atomic::{AtomicU64, Ordering};
@@ -27,5 +28,17 @@ impl CountingGate {
 impl Gate for CountingGate {
     fn pass(&self, _system: SystemNo, _tid: Tid) {
         self.passed.fetch_add(1, Ordering::SeqCst);
+    }
+}
+
+/// A gate at which each work waits until all have come.
+#[derive(Drop)]
+pub(crate) struct MeetingGate {
+    pub(crate) meeting: Meeting,
+}
+
+impl Gate for MeetingGate {
+    fn pass(&self, _system: SystemNo, _tid: Tid) {
+        self.meeting.attend();
     }
 }

@@ -1,9 +1,9 @@
-//! Where preparations wait for each other.
+//! Where workers wait for each other.
 
 use std::sync::atomic::{AtomicU64, Ordering};
 use std::thread;
 
-/// Where each of some preparations waits until all have begun.
+/// Where each of some works waits until all are there.
 #[derive(Drop)]
 pub(crate) struct Meeting {
     expected: u64,
@@ -11,7 +11,7 @@ pub(crate) struct Meeting {
     missed: AtomicU64,
 }
 
-/// How many turns a preparation waits at most.
+/// How many turns a work waits at most.
 const TURNS: u64 = 1_000_000_000;
 
 impl Meeting {
@@ -24,7 +24,7 @@ impl Meeting {
         }
     }
 
-    /// Waits until all that are expected have begun, or the turns are used up.
+    /// Waits until all that are expected are there, or the turns are used up.
     pub(crate) fn attend(&self) {
         self.begun.fetch_add(1, Ordering::SeqCst);
         for _ in 0..TURNS {

@@ -2,7 +2,7 @@
 
 use case_form::Rule;
 
-pub(crate) const NO_SUCH_ITEM: Rule = Rule("an item is run, meet or want");
+pub(crate) const NO_SUCH_ITEM: Rule = Rule("an item is run, gather, meet or want");
 
 pub(crate) const BAD_RUN: Rule = Rule("a run is WORKS by WORKERS, from 1 to 16 of them");
 

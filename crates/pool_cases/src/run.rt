@@ -13,14 +13,25 @@ pub(crate) enum Call {
     Act,
 }
 
-/// A pool: how many works, by how many workers; at which call on which work, counted from 0, memory is wanting; and
-/// whether the preparations wait for each other.
+/// Where the workers of a pool wait for each other.
+#[derive(Clone, Copy, Debug, PartialEq, Eq)]
+pub(crate) enum Place {
+    /// Nowhere.
+    Nowhere,
+    /// As they pass the gate.
+    Gate,
+    /// As they prepare.
+    Preparation,
+}
+
+/// A pool: how many works, by how many workers; at which call on which work, counted from 0, memory is wanting; and where
+/// the workers wait for each other.
 #[derive(Clone, Copy)]
 pub(crate) struct Run {
     pub(crate) works: u32,
     pub(crate) workers: u8,
     pub(crate) want: Option<(Call, u32)>,
-    pub(crate) meets: bool,
+    pub(crate) meeting: Place,
     ghost some: { (1 ≤ workers) × (workers ≤ 16) },
 }
 
@@ -29,10 +40,13 @@ pub(crate) fn read_run(item: &Item) -> Result<Run, LineEnd> {
     let word = item.word.as_slice();
     let rest = item.rest.as_slice();
     if word == b"run".as_slice() {
-        return read_workers(rest, None, false);
+        return read_workers(rest, None, Place::Nowhere);
+    }
+    if word == b"gather".as_slice() {
+        return read_workers(rest, None, Place::Gate);
     }
     if word == b"meet".as_slice() {
-        return read_workers(rest, None, true);
+        return read_workers(rest, None, Place::Preparation);
     }
     if word == b"want".as_slice() {
         return read_want(rest);
@@ -41,7 +55,7 @@ pub(crate) fn read_run(item: &Item) -> Result<Run, LineEnd> {
 }
 
 /// `WORKS by WORKERS`.
-fn read_workers(line: &[u8], want: Option<(Call, u32)>, meets: bool) -> Result<Run, LineEnd> {
+fn read_workers(line: &[u8], want: Option<(Call, u32)>, meeting: Place) -> Result<Run, LineEnd> {
     let (works, rest) = first_word(line);
     let (by, workers) = first_word(rest);
     let works = number_of(works)?;
@@ -53,7 +67,7 @@ fn read_workers(line: &[u8], want: Option<(Call, u32)>, meets: bool) -> Result<R
         works,
         workers: workers as u8,
         want,
-        meets,
+        meeting,
     })
 }
 
@@ -71,7 +85,7 @@ fn read_want(line: &[u8]) -> Result<Run, LineEnd> {
     let number = number_of(number)?;
     match meaning_of(&CALLS, call) {
         Some(call) if of == b"of".as_slice() && number > 0 => {
-            read_workers(rest, Some((call, number - 1)), false)
+            read_workers(rest, Some((call, number - 1)), Place::Nowhere)
         }
         _ => Err(rules::BAD_WANT.into()),
     }

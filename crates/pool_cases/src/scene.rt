@@ -3,9 +3,9 @@
 ghost use Rattle.std.specs.Prelude.{◌≤◌};
 
 use crate::desk::FakeDesk;
-use crate::gate::CountingGate;
+use crate::gate::{CountingGate, MeetingGate};
 use crate::meeting::Meeting;
-use crate::run::Run;
+use crate::run::{Place, Run};
 use ale_base::OutOfMemory;
 use ale_io::{Gate, OpenGate};
 use dialog_pool::{Desk, PoolEnd, PoolShort, run_pool};
@@ -19,10 +19,10 @@ pub(crate) fn found<R: Threads + Wait + Sync>(
     alloc: Global,
     run: Run,
 ) -> Result<Vec<u8>, OutOfMemory> {
-    if run.meets {
-        met(rt, alloc, run)
-    } else {
-        counted(rt, alloc, run)
+    match run.meeting {
+        Place::Nowhere => counted(rt, alloc, run),
+        Place::Gate => gathered(rt, alloc, run),
+        Place::Preparation => met(rt, alloc, run),
     }
 }
 
@@ -41,17 +41,37 @@ fn counted<R: Threads + Wait + Sync>(
     Ok(text)
 }
 
+/// A pool behind a gate at which the works wait for each other.
+fn gathered<R: Threads + Wait + Sync>(
+    rt: &R,
+    alloc: Global,
+    run: Run,
+) -> Result<Vec<u8>, OutOfMemory> {
+    let gate = MeetingGate {
+        meeting: Meeting::of(u64::from(run.works)),
+    };
+    let desk = FakeDesk::of(alloc, run.works, run.want, None)?;
+    let mut text = pooled(rt, alloc, desk, run.workers, &gate)?;
+    text.extend_from_slice(line_on(&gate.meeting))?;
+    Ok(text)
+}
+
 /// A pool whose preparations wait for each other, behind an open gate.
 fn met<R: Threads + Wait + Sync>(rt: &R, alloc: Global, run: Run) -> Result<Vec<u8>, OutOfMemory> {
     let meeting = Arc::new(alloc, Meeting::of(u64::from(run.works)))?;
     let desk = FakeDesk::of(alloc, run.works, run.want, Some(Arc::try_clone(&meeting)?))?;
     let mut text = pooled(rt, alloc, desk, run.workers, &OpenGate)?;
-    text.extend_from_slice(if meeting.was_met() {
-        b"all met\n".as_slice()
-    } else {
-        b"a turn limit was met\n".as_slice()
-    })?;
+    text.extend_from_slice(line_on(&meeting))?;
     Ok(text)
+}
+
+/// The line on a meeting.
+fn line_on(meeting: &Meeting) -> &'static [u8] {
+    if meeting.was_met() {
+        b"all met\n"
+    } else {
+        b"a turn limit was met\n"
+    }
 }
 
 /// How a pool ended, and how often the works of its desk were done.
