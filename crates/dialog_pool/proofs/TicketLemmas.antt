@@ -171,7 +171,8 @@ module _ {T : Type 0} (number_of : T → ℕ) where
       let added : map number_of (tickets ++ x ∷ []) ≡ map number_of tickets ++ v.count ∷ [] =
       map-append number_of tickets (x ∷ []) ∙ ap (λ (n : ℕ). map number_of tickets ++ n ∷ []) is in (
         pushed_one v,
-        subst (λ (numbers : List ℕ). AreOnce numbers (set hands seat (pushed_one v))) (sym added) (kept_pushed (map number_of tickets) hands seat v kept at may),
+        subst (λ (numbers : List ℕ). AreOnce numbers (set hands seat (pushed_one v))) (sym added)
+            (kept_pushed (map number_of tickets) hands seat v kept at may),
         refl,
       )
 

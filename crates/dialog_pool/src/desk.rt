@@ -31,7 +31,7 @@ pub trait Desk {
     // How many works were finished.
     ghost finishes: { Self → ℕ };
 
-    /// Takes a work of this desk. None only where the desk is idle.
+    /// Takes a work of this desk. None only where the desk is idle. After an `Err` the worker has no work.
     fn take(&mut self) -> Result<Option<Self::Work>, OutOfMemory>
         ensures origin { origin self.new ≡ origin self.old }
         ensures work { IfOk result (λ taken. IfSome taken (λ work. origin_of work ≡ origin self.old)) }
@@ -41,11 +41,12 @@ pub trait Desk {
     /// The system and the unit of a work, as a gate sees them.
     fn name(work: &Self::Work) -> (SystemNo, Tid);
 
-    /// Prepares a work. A worker calls it while it does not have the desk.
+    /// Prepares a work. A worker calls it while it does not have the desk. After an `Err` the work is dropped.
     fn prepare(alloc: Global, work: &Self::Work) -> Result<Self::Ready, OutOfMemory>
         ensures { IfOk result (λ ready. is_of ready work.now) };
 
-    /// Does a work whole. It may be there that the work is done no more, and then nothing is.
+    /// Does a work whole, with what was prepared for it, or nothing where it is no longer to be done. After an `Err` what was
+    /// done of it stays.
     fn act(&mut self, work: Self::Work, ready: Self::Ready) -> Result<(), OutOfMemory>
         requires origin { origin_of work ≡ origin self.old }
         requires ready { is_of ready work }

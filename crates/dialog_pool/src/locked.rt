@@ -47,7 +47,7 @@ pub(crate) enum Handed<D: Desk, E: Opening<D::Origin>> {
 const BATCH: u8 = 16;
 
 impl<D: Desk, E: Opening<D::Origin>> Locked<D, E> {
-    ghost use Rattle.std.specs.Prelude.{◌≡◌, ◌≢◌, ◌+◌, ◌-◌, ◌^◌, ◌<◌, ◌≤◌, ◌∷◌, [], true, length, IfOk};
+    ghost use Rattle.std.specs.Prelude.{◌≡◌, ◌≢◌, ◌+◌, ◌^◌, ◌<◌, ◌∷◌, [], true, IfOk};
     ghost use Rattle.dialog_pool.specs.declared.locked.Handed.TheVariants.{Nothing};
     ghost use Rattle.std.specs.Arc.{arc_value};
     ghost use Rattle.crossbeam_queue.specs.Passes.{view, IsPassOf};

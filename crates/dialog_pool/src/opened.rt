@@ -1,6 +1,6 @@
 //! What a pool opens before its workers begin, and how their shares come together when they have ended.
 
-ghost use Rattle.std.specs.Prelude.{◌≡◌, ◌+◌, ◌^◌, ◌<◌, ◌≤◌, true, [], IfOk, vec_len};
+ghost use Rattle.std.specs.Prelude.{◌≡◌, ◌^◌, ◌<◌, true, [], IfOk, vec_len};
 ghost use Rattle.std.specs.Arc.{arc_value};
 ghost use Rattle.crossbeam_queue.specs.Passes.{view, IsPassOf};
 ghost use Rattle.dialog_pool.specs.Tickets.{hand};
@@ -12,7 +12,7 @@ use crate::worker::Worker;
 use ale_base::OutOfMemory;
 use std::alloc::Global;
 use std::sync::Arc;
-use std::sync::ledger::{Blank, Book, Share};
+use std::sync::ledger::{Book, Share};
 
 /// The ring with the hand that pushes, and the workers.
 pub(crate) struct Opened<D: Desk, E: Opening<D::Origin>> {

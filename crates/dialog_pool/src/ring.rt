@@ -1,6 +1,6 @@
 //! The ring on which works go to the workers, and the law that all its calls keep.
 
-ghost use Rattle.std.specs.Prelude.{◌≡◌, ◌+◌, true, false, [], IfOk, MatchOption, MatchResult};
+ghost use Rattle.std.specs.Prelude.{◌≡◌, true, false, [], IfOk, MatchOption, MatchResult};
 ghost use Rattle.crossbeam_queue.specs.Passes.{view, IsPassOf, IsSamePass};
 ghost use Rattle.dialog_pool.specs.Tickets.{hand, pushed_one, popped_one};
 
