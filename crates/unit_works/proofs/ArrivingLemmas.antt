@@ -6,7 +6,10 @@ use Rattle.std.proofs.lemmas.Bool.{both_ways}
 use Rattle.ale_base.specs.Tid.{TidOf}
 use Rattle.ale_base.specs.declared.out_of_memory.OutOfMemory.{OutOfMemory}
 use Rattle.unit_core.specs.declared.ale_unit.AleUnit.{AleUnit}
+use Rattle.ale_base.proofs.MemberLemmas.{filter_map-Some}
 use Rattle.unit_core.specs.declared.records.Record.TheVariants as log
+use Rattle.unit_core.specs.Filters.{received, taken_by}
+use Rattle.unit_core.specs.Queues.{is_among}
 use Rattle.trfc_protocol.specs.declared.answer.Answer.{Answer}
 use Rattle.trfc_protocol.specs.declared.answer.Answer.TheVariants as answer
 use Rattle.trfc_protocol.specs.declared.event.Event.{Event}
@@ -17,7 +20,8 @@ use Rattle.trfc_protocol.specs.Happens.{happens}
 use Rattle.trfc_protocol.specs.Legal.{IsLawful, is_empty}
 use Rattle.trfc_protocol.specs.Meaning.{Meaning}
 use Rattle.trfc_protocol.specs.Offered.{answer_to, may_arrive}
-use Rattle.trfc_protocol.specs.Worlds.{claim_of, committed_unit, is_claimed, is_up, with_claim, with_record}
+use Rattle.trfc_protocol.specs.RecordOf.{record_of_answer}
+use Rattle.trfc_protocol.specs.Worlds.{claim_of, committed_unit, is_claimed, is_up, log_of, with_claim, with_record}
 use Rattle.trfc_protocol.proofs.ClaimLemmas.{claim_of-Some, is_claimed-Contains}
 use Rattle.trfc_protocol.proofs.EventLemmas.{Safe-step}
 use Rattle.trfc_protocol.proofs.ForCallers.{claimed_unit}
@@ -28,19 +32,22 @@ use Rattle.unit_landscape.specs.declared.answers.Arrival.TheVariants as arrival
 use Rattle.unit_landscape.specs.declared.claims.OutClaim.{OutClaim}
 use Rattle.unit_landscape.specs.Appending.{Arrives}
 use Rattle.unit_landscape.specs.Calls.{Answered, Arrived, stands_out}
-use Rattle.unit_landscape.specs.Ends.{IsShort}
+use Rattle.unit_landscape.specs.Ends.{Happened, IsShort}
 use Rattle.unit_landscape.specs.Kept.{IsLandscape}
-use Rattle.unit_landscape.proofs.ArrivingLemmas.{arrival-after, accept-appends}
+use Rattle.unit_landscape.proofs.ArrivingLemmas.{arrival-after, arrival-record, accept-appends}
 use Rattle.unit_landscape.proofs.EventLemmas.{event-up}
 use Rattle.unit_landscape.proofs.ReplyingLemmas.{may-arrive}
 use Rattle.unit_works.specs.Events.{is_arrival}
 use Rattle.unit_works.specs.Finished.{finished_in}
 use Rattle.unit_works.specs.Went.{WentOn}
-use Rattle.unit_works.specs.steps.Arriving.{BeginsNoRun, BeginsNone, ClaimsCome, run_held}
+use Rattle.unit_works.specs.steps.Arriving.{BringsNothing, BeginsNone, ClaimsCome, HasArrived, accepted, run_held}
+use Rattle.unit_works.specs.Trips.{HaveGrown, NoneFell}
 use Rattle.unit_works.specs.Claims.{AreOrGone}
 use Rattle.unit_works.proofs.ClaimLemmas.{Contains-last, held-out, next-fresh, stands-gone}
 use Rattle.unit_works.proofs.StateLemmas.{committed-record}
-use Rattle.unit_works.proofs.FellLemmas.{finished-fell, claims-fell}
+use Rattle.unit_works.proofs.FellLemmas.{claims-fell, fell-not_none, finished-fell}
+use Rattle.unit_works.proofs.GrowthLemmas.{happened-grown}
+use Rattle.unit_works.proofs.LogLemmas.{among-behind, grown-record, listed, record-here}
 use Rattle.unit_works.proofs.WentLemmas.{went-happened, went-fell, went-short}
 use Rattle.unit_works.proofs.WorldLemmas.{finished-record, claims-record}
 
@@ -67,7 +74,39 @@ answered-new true false false true true is = cc
 answered-new true false false true false is = cc
 answered-new true false false false offers is = refl
 
+answered-unknown : (up among claimed empty offers : Bool)
+    → cond (not up) answer.Down (cond among answer.Known (cond claimed answer.Busy (cond empty (cond offers answer.Run answer.SysFail) answer.New))) ≡
+    answer.New
+    → (among ≡ false) × (claimed ≡ false)
+answered-unknown false among claimed empty offers is = cc
+answered-unknown true true claimed empty offers is = cc
+answered-unknown true false true empty offers is = cc
+answered-unknown true false false empty offers is = (refl, refl)
+
+-- a unit that was taken in is among those received
+among-accepted : {R : Type 0} (world : World R) (unit : AleUnit) → is_up world unit.receiver ≡ true
+    → is_among unit.tid (received (log_of (with_record world unit.receiver (log.Accept unit)) unit.receiver)) ≡ true
+among-accepted world unit up =
+    ap (λ l. is_among unit.tid (received l))
+    (grown-record world unit.receiver (log.Accept unit) up unit.receiver
+    ∙ ap (λ l. log_of world unit.receiver ++ l) (record-here unit.receiver (log.Accept unit)))
+    ∙ ap (is_among unit.tid) (filter_map-Some taken_by (log_of world unit.receiver) (log.Accept unit) unit refl)
+    ∙ among-behind unit (received (log_of world unit.receiver))
+
+-- what is appended at once is the record of the answer
+accepted-is : (unit : AleUnit) (given : Answer) → listed (record_of_answer unit given) ≡ accepted given unit
+accepted-is unit answer.New = refl
+accepted-is unit answer.Run = refl
+accepted-is unit answer.Down = refl
+accepted-is unit answer.Known = refl
+accepted-is unit answer.Busy = refl
+accepted-is unit answer.SysFail = refl
+
 module _ {R : Type 0} (rules : Meaning) (world : World R) (unit : AleUnit) where
+  new-unknown : answer_to rules world unit ≡ answer.New
+      → (is_among unit.tid (received (log_of world unit.receiver)) ≡ false) × (is_claimed Direct unit.tid world.claims ≡ false)
+  new-unknown is = answered-unknown _ _ _ _ _ is
+
   run-parts : answer_to rules world unit ≡ answer.Run → (is_empty unit.inq ≡ true) × (is_claimed Direct unit.tid world.claims ≡ false)
   run-parts is = answered-run _ _ _ _ _ is
 
@@ -176,7 +215,7 @@ module _ {R A V : Type 0} (meaning : R → Meaning) (lawful : (r : R) → IsLawf
     ]
 
     -- a unit that arrives where it begins no run begins none
-    pub begins-none : BeginsNoRun (meaning before.world.rules) before.world claim unit → (given : Arrival) → Comes given → BeginsNone given
+    pub begins-none : BringsNothing (meaning before.world.rules) before.world claim unit → (given : Arrival) → Comes given → BeginsNone given
     begins-none none (arrival.Run begun) did = none.none did.0.0
     begins-none none (arrival.New receipt) did = tt
     begins-none none (arrival.Known receipt) did = tt
@@ -184,21 +223,69 @@ module _ {R A V : Type 0} (meaning : R → Meaning) (lawful : (r : R) → IsLawf
     begins-none none arrival.SysFail did = tt
     begins-none none arrival.Down did = tt
 
+    -- ---- what is appended
+
+    grown-answered : (given : Answer) → answer_to (meaning before.world.rules) before.world unit ≡ given
+        → Happened (meaning before.world.rules) faults before after (event.Arrive unit.tid)
+        → HaveGrown before.world after.world (accepted (answer_to (meaning before.world.rules) before.world unit) unit)
+    grown-answered given answers did =
+        subst (HaveGrown before.world after.world) (accepted-is unit given ∙ ap (λ a. accepted a unit) (sym answers))
+        (happened-grown meaning lawful faults before after is (event.Arrive unit.tid) refl (record_of_answer unit given)
+        (arrival-record (meaning before.world.rules) before.world unit given (arrives given answers)) did)
+
+    -- where no system fell, the receiver that takes the unit in appends that
+    pub has-arrived : (given : Arrival) → Comes given → NoneFell before.world after.world
+        → HasArrived (meaning before.world.rules) before.world after.world unit given
+    has-arrived (arrival.New receipt) did none = record {
+      tells = (did.0.0, did.1);
+      grew = grown-answered answer.New did.0.0 did.0.1;
+      claims = let new = world-new did.0 in ap (λ (w : World R). w.claims) new.0 ∙ claims-record before.world unit.receiver (log.Accept unit) None;
+    }
+    has-arrived (arrival.Run begun) did none = record {
+      tells = (did.0.0, did.1, did.2);
+      grew = grown-answered answer.Run did.0.0 did.0.1;
+      claims = claims-arrived (arrival.Run begun) did;
+    }
+    has-arrived (arrival.Known receipt) did none = record {
+      tells = (did.0.0.0, did.1);
+      grew = grown-answered answer.Known did.0.0.0 did.0.0.1;
+      claims = ap (λ (k : KeptOf R A V). k.world.claims) did.0.1;
+    }
+    has-arrived arrival.Busy did none = record {
+      tells = did.0.0;
+      grew = grown-answered answer.Busy did.0.0 did.0.1;
+      claims = ap (λ (k : KeptOf R A V). k.world.claims) did.1;
+    }
+    has-arrived arrival.SysFail did none = record {
+      tells = did.0.0;
+      grew = grown-answered answer.SysFail did.0.0 did.0.1;
+      claims = ap (λ (k : KeptOf R A V). k.world.claims) did.1;
+    }
+    has-arrived arrival.Down did none = elim did [
+      | inl idle ↦ record {
+        tells = idle.0.0;
+        grew = grown-answered answer.Down idle.0.0 idle.0.1;
+        claims = ap (λ (k : KeptOf R A V). k.world.claims) idle.1;
+      }
+      | inr fell ↦ absurd (fell-not_none meaning lawful faults before after is (event.Arrive unit.tid) fell.1 none)
+    ]
+
     -- ---- once more
 
     rules-stay : (e : Event) → after.world ≡ happens (meaning before.world.rules) before.world e → after.world.rules ≡ before.world.rules
     rules-stay e same = (Safe-step meaning lawful before.world after.world e is.safe same).0
 
     abbrev Again : Type 0
-    Again = BeginsNoRun (meaning after.world.rules) after.world claim unit
+    Again = BringsNothing (meaning after.world.rules) after.world claim unit
 
-    by-rules : after.world.rules ≡ before.world.rules → BeginsNoRun (meaning before.world.rules) after.world claim unit → Again
-    by-rules same no_run = subst (λ (r : R). BeginsNoRun (meaning r) after.world claim unit) (sym same) no_run
+    by-rules : after.world.rules ≡ before.world.rules → BringsNothing (meaning before.world.rules) after.world claim unit → Again
+    by-rules same no_run = subst (λ (r : R). BringsNothing (meaning r) after.world claim unit) (sym same) no_run
 
-    same-again : after ≡ before → (given : Answer) → answer_to (meaning before.world.rules) before.world unit ≡ given → (given ≡ answer.Run → ⊥) → Again
-    same-again same given answers other =
-        subst (λ (k : KeptOf R A V). BeginsNoRun (meaning k.world.rules) k.world claim unit) (sym same)
-        (record { committed = committed; none = λ runs. other (sym answers ∙ runs) })
+    same-again : after ≡ before → (given : Answer) → answer_to (meaning before.world.rules) before.world unit ≡ given → (given ≡ answer.Run → ⊥)
+        → (given ≡ answer.New → ⊥) → Again
+    same-again same given answers other known =
+        subst (λ (k : KeptOf R A V). BringsNothing (meaning k.world.rules) k.world claim unit) (sym same)
+        (record { committed = committed; none = λ runs. other (sym answers ∙ runs); not_new = λ new. known (sym answers ∙ new) })
 
     -- a unit that arrived while its claim stands begins no run as it arrives once more
     pub again-arrived : (given : Arrival) → Comes given → stands_out after.world claim ≡ true → Again
@@ -211,6 +298,11 @@ module _ {R A V : Type 0} (meaning : R → Meaning) (lawful : (r : R) → IsLawf
               ∙ committed-record (meaning before.world.rules) (lawful before.world.rules) before.world unit.receiver (log.Accept unit) new.1 refl claim.tid
               ∙ committed;
           none = λ runs. both_ways (is_empty unit.inq) empty (run-parts (meaning before.world.rules) after.world unit runs).0;
+          not_new = λ answers.
+              both_ways (is_among unit.tid (received (log_of after.world unit.receiver)))
+              (new-unknown (meaning before.world.rules) after.world unit answers).0
+              (ap (λ (w : World R). is_among unit.tid (received (log_of w unit.receiver))) new.0
+              ∙ among-accepted before.world unit new.1);
         })
     again-arrived (arrival.Run begun) did still =
         let world = world-run did.0 in
@@ -222,12 +314,14 @@ module _ {R A V : Type 0} (meaning : R → Meaning) (lawful : (r : R) → IsLawf
         by-rules (rules-stay (event.Arrive unit.tid) was.world) (record {
           committed = ap (λ (w : World R). committed_unit (meaning before.world.rules) w claim.tid) world ∙ committed;
           none = λ runs. both_ways (is_claimed Direct unit.tid after.world.claims) (run-parts (meaning before.world.rules) after.world unit runs).1 claimed;
+          not_new = λ answers.
+              both_ways (is_claimed Direct unit.tid after.world.claims) (new-unknown (meaning before.world.rules) after.world unit answers).1 claimed;
         })
-    again-arrived (arrival.Known receipt) did still = same-again did.0.1 answer.Known did.0.0.0 (λ is. cc)
-    again-arrived arrival.Busy did still = same-again did.1 answer.Busy did.0.0 (λ is. cc)
-    again-arrived arrival.SysFail did still = same-again did.1 answer.SysFail did.0.0 (λ is. cc)
+    again-arrived (arrival.Known receipt) did still = same-again did.0.1 answer.Known did.0.0.0 (λ is. cc) (λ is. cc)
+    again-arrived arrival.Busy did still = same-again did.1 answer.Busy did.0.0 (λ is. cc) (λ is. cc)
+    again-arrived arrival.SysFail did still = same-again did.1 answer.SysFail did.0.0 (λ is. cc) (λ is. cc)
     again-arrived arrival.Down did still = elim did [
-      | inl idle ↦ same-again idle.1 answer.Down idle.0.0 (λ is. cc)
+      | inl idle ↦ same-again idle.1 answer.Down idle.0.0 (λ is. cc) (λ is. cc)
       | inr fell ↦
           let gone = claims-fell meaning lawful faults before after is (event.Arrive unit.tid) fell.1 in
           let stood = sym still ∙ stands-gone after.world claim gone in

@@ -1,14 +1,22 @@
 -- A unit is claimed, to be shipped or to be executed.
 use Rattle.std.specs.Prelude.{Result, Ok, Err, IfOk, IfSome, OnErr}
 use Rattle.std.specs.Result.{is_ok}
-use Rattle.std.proofs.Common.{◌≡◌, ℕ, Option, Some, None, [], ◌∷◌, ◌++◌, refl, sym, ap, subst, ◌∙◌, true, false}
+use Rattle.std.proofs.Common.{◌≡◌, ◌&&◌, ◌||◌, ℕ, not, cond, List, Option, Some, None, [], ◌∷◌, ◌++◌, refl, sym, ap, subst, ◌∙◌, true, false}
+use Rattle.std.proofs.lemmas.Bool.{and_from, and_parts}
+use Rattle.ale_base.specs.Tid.{TidOf, is_tid}
+use Rattle.unit_core.specs.declared.ale_unit.AleUnit.{AleUnit}
+use Rattle.unit_core.specs.Filters.{received}
+use Rattle.unit_core.specs.Queues.{is_among, unit_named}
 use Rattle.ale_base.specs.declared.out_of_memory.OutOfMemory.{OutOfMemory}
 use Rattle.trfc_protocol.specs.declared.event.Event.TheVariants as event
-use Rattle.trfc_protocol.specs.declared.held.HeldKind.TheVariants.{Out, In}
+use Rattle.trfc_protocol.specs.declared.answer.Answer.TheVariants as answer
+use Rattle.trfc_protocol.specs.declared.held.Held.{Held}
+use Rattle.trfc_protocol.specs.declared.held.HeldKind.TheVariants.{Out, In, Direct}
 use Rattle.trfc_protocol.specs.declared.world.World.{World}
-use Rattle.trfc_protocol.specs.Legal.{IsLawful}
+use Rattle.trfc_protocol.specs.Legal.{IsLawful, is_empty, is_free_inbound, is_free_outbound}
 use Rattle.trfc_protocol.specs.Meaning.{Meaning}
-use Rattle.trfc_protocol.specs.Worlds.{claim_of, with_claim}
+use Rattle.trfc_protocol.specs.Offered.{answer_to, is_stopped_inbound, is_stopped_outbound, may_move, offers_received_now}
+use Rattle.trfc_protocol.specs.Worlds.{claim_of, committed_by, committed_unit, is_claimed, is_kind, is_up, log_of, offers_now, with_claim}
 use Rattle.kept_world.specs.Kept.{KeptOf}
 use Rattle.unit_landscape.specs.declared.claims.OutClaim.{OutClaim}
 use Rattle.unit_landscape.specs.declared.claims.InClaim.{InClaim}
@@ -21,7 +29,22 @@ use Rattle.unit_works.specs.Went.{WentOn}
 use Rattle.unit_works.specs.steps.Claims.{out_held}
 use Rattle.unit_works.specs.steps.Claiming.{IsShipped, IsExecuted}
 use Rattle.unit_works.proofs.ClaimLemmas.{next-fresh, found-last, stands-found_out}
+use Rattle.unit_works.proofs.LogLemmas.{grown-same}
 use Rattle.unit_works.proofs.WentLemmas.{went-same, went-happened}
+
+-- a claim to ship a unit begins no run
+no-run : (tid other : TidOf) (number system : ℕ) (claims : List Held)
+    → is_claimed Direct tid (claims ++ record { number = number; tid = other; system = system; kind = Out } ∷ []) ≡ is_claimed Direct tid claims
+no-run tid other number system [] = refl
+no-run tid other number system (h ∷ hs) = ap (λ b. is_kind h.kind Direct && is_tid h.tid tid || b) (no-run tid other number system hs)
+
+-- so a receiver answers as before
+answer-claimed : {R : Type 0} (rules : Meaning) (world : World R) (tid : TidOf) (system : ℕ) (unit : AleUnit)
+    → answer_to rules (with_claim world tid system Out) unit ≡ answer_to rules world unit
+answer-claimed rules world tid system unit =
+    ap (λ b. cond (not (is_up world unit.receiver)) answer.Down (cond (is_among unit.tid (received (log_of world unit.receiver))) answer.Known
+    (cond b answer.Busy (cond (is_empty unit.inq) (cond (offers_now rules world unit.receiver unit.function) answer.Run answer.SysFail) answer.New))))
+    (no-run unit.tid tid world.next_number system world.claims)
 
 module _ {R A V : Type 0} (meaning : R → Meaning) (lawful : (r : R) → IsLawful (meaning r)) (faults : V → ℕ → ℕ) (before after : KeptOf R A V)
     (is : IsLandscape meaning before.world) (system : ℕ) where
@@ -59,6 +82,19 @@ module _ {R A V : Type 0} (meaning : R → Meaning) (lawful : (r : R) → IsLawf
               (ap (claim_of claim.number) claims ∙ found-last claim.number before.world.claims (out_held claim) refl fresh) refl refl;
           claims = claims;
           fresh = fresh;
+          unit = did.4.0;
+          committed = did.4.1;
+          may =
+              let up = is_up before.world claim.tid.system && is_free_outbound (committed_by (meaning before.world.rules) before.world claim.tid.system)
+              (log_of before.world claim.tid.system) claim.tid in
+              let free = not (is_claimed Out claim.tid before.world.claims) in
+              let moves = may_move (is_stopped_outbound (log_of before.world claim.tid.system))
+              (committed_unit (meaning before.world.rules) before.world claim.tid) in
+              let parts = and_parts (up && free) moves did.1 in
+              and_from up moves (and_parts up free parts.0).0 parts.1;
+          answers = ap (λ (w : World R). answer_to (meaning before.world.rules) w (did.4.0)) world-claimed_out
+              ∙ answer-claimed (meaning before.world.rules) before.world claim.tid claim.tid.system (did.4.0);
+          grew = grown-same before.world after.world (λ s. ap (λ (w : World R). log_of w s) world-claimed_out);
         }
 
   pub finished-out : (result : Result (Option OutClaim) OutOfMemory) → GaveOut result → OnErr result (after ≡ before)
@@ -102,6 +138,15 @@ module _ {R A V : Type 0} (meaning : R → Meaning) (lawful : (r : R) → IsLawf
               ∙ ap (λ (s : ℕ). before.world.claims ++ record { number = claim.number; tid = claim.tid; system = s; kind = In } ∷ []) (sym did.3);
           fresh = subst (λ n. claim_of n before.world.claims ≡ None) (sym made.next)
               (next-fresh (meaning before.world.rules) (lawful before.world.rules) before.world is.safe);
+          here = did.3;
+          may =
+              let up = is_up before.world system && is_free_inbound (log_of before.world system) claim.tid in
+              let free = not (is_claimed In claim.tid before.world.claims) in
+              let moves = may_move (is_stopped_inbound (log_of before.world system)) (unit_named claim.tid (received (log_of before.world system))) in
+              let parts = and_parts (up && free) moves did.1 in
+              and_from up moves (and_parts up free parts.0).0 parts.1;
+          offers = ap (λ (w : World R). offers_received_now (meaning before.world.rules) w system claim.tid) world-claimed_in;
+          grew = grown-same before.world after.world (λ s. ap (λ (w : World R). log_of w s) world-claimed_in);
         }
 
   pub finished-in : (result : Result (Option InClaim) OutOfMemory) → GaveIn result → OnErr result (after ≡ before)

@@ -2,7 +2,8 @@
 use Rattle.std.specs.Prelude.{Contains, Result, Ok, Err, IfOk, OnErr}
 use Rattle.std.specs.Option.{option_map_or}
 use Rattle.std.specs.Result.{is_ok}
-use Rattle.std.proofs.Common.{◌≡◌, ◌+◌, ℕ, true, false, cond, None, List, [], ◌∷◌, ◌++◌, inl, inr, refl, sym, ap, subst, ◌∙◌, arith}
+use Rattle.std.proofs.Common.{◌≡◌, ◌+◌, ℕ, Bool, true, false, cond, Some, None, List, [], ◌∷◌, ◌++◌, inl, inr, refl, sym, ap, subst, ◌∙◌, arith}
+use Rattle.std.proofs.lemmas.Bool.{both_ways}
 use Rattle.ale_base.specs.Tid.{TidOf}
 use Rattle.ale_base.specs.declared.out_of_memory.OutOfMemory.{OutOfMemory}
 use Rattle.ale_base.proofs.MemberLemmas.{Contains-here, Contains-there, filter_map-Some}
@@ -20,6 +21,7 @@ use Rattle.trfc_protocol.specs.Legal.{IsLawful}
 use Rattle.trfc_protocol.specs.Meaning.{Meaning}
 use Rattle.trfc_protocol.specs.Worlds.{committed_unit, is_up, log_of, state_with, with_record}
 use Rattle.trfc_protocol.proofs.EventLemmas.{Safe-step}
+use Rattle.trfc_protocol.proofs.SafeLemmas.{committed_unit-is}
 use Rattle.trfc_protocol.proofs.WorldLemmas.{is_up-known, joins-with_state}
 use Rattle.kept_world.specs.Kept.{KeptOf}
 use Rattle.unit_landscape.specs.declared.answers.Closed.{Closed}
@@ -36,9 +38,12 @@ use Rattle.unit_works.specs.Events.{is_confirmation}
 use Rattle.unit_works.specs.Finished.{finished_in, is_ending}
 use Rattle.unit_works.specs.Went.{WentOn}
 use Rattle.unit_works.specs.Claims.{AreOrGone}
-use Rattle.unit_works.specs.steps.Confirming.{Forgets}
+use Rattle.unit_works.specs.steps.Confirming.{Forgets, HasSent, sent_to}
+use Rattle.unit_works.specs.Trips.{HaveGrown, NoneFell, forgot, one_at}
 use Rattle.unit_works.proofs.StateLemmas.{committed-record}
-use Rattle.unit_works.proofs.FellLemmas.{finished-fell, claims-fell}
+use Rattle.unit_works.proofs.FellLemmas.{claims-fell, fell-not_none, finished-fell}
+use Rattle.unit_works.proofs.GrowthLemmas.{happened-grown}
+use Rattle.unit_works.proofs.LogLemmas.{grown-same}
 use Rattle.unit_works.proofs.WentLemmas.{went-same, went-happened, went-fell, went-short}
 use Rattle.unit_works.proofs.WorldLemmas.{finished-record, claims-record}
 
@@ -148,6 +153,46 @@ module _ {R A V : Type 0} (meaning : R → Meaning) (lawful : (r : R) → IsLawf
         let same = did.2 in ap (λ (k : KeptOf R A V). is_forgotten (meaning k.world.rules) k.world tid) same ∙ did.1
     forgets-confirmed confirmed.Down did = tt
 
+    -- where no system fell, the receiver that is up appends that it has forgotten the id, unless it had
+    module _ (unit : AleUnit) (named : committed_unit (meaning before.world.rules) before.world tid ≡ Some unit) where
+      its : unit.tid ≡ tid
+      its = (committed_unit-is (meaning before.world.rules) (lawful before.world.rules) before.world is.safe tid unit named).1
+
+      receiver : Receiver ≡ unit.receiver
+      receiver = ap (λ found. option_map_or (λ (u : AleUnit). u.receiver) found 0) named
+
+      forgot-is : is_forgotten (meaning before.world.rules) before.world tid ≡ forgot before.world unit
+      forgot-is =
+          ap (λ s. is_listed tid (forgotten_in (log_of before.world s))) receiver
+          ∙ ap (λ t. is_listed t (forgotten_in (log_of before.world unit.receiver))) (sym its)
+
+      sent-is : (forgotten : Bool) → is_forgotten (meaning before.world.rules) before.world tid ≡ forgotten
+          → sent_to forgotten unit ≡ sent_to (forgot before.world unit) unit
+      sent-is forgotten known = ap (λ b. sent_to b unit) (sym known ∙ forgot-is)
+
+      pub has-sent : is_up before.world unit.receiver ≡ true → (given : Confirmed) → Sent given → NoneFell before.world after.world
+          → HasSent before.world after.world tid unit given
+      has-sent up confirmed.Forgotten did none =
+          let appends = forgets did.0 did.1 in
+          record {
+            its = its;
+            grew = subst (HaveGrown before.world after.world)
+                (ap (λ s. one_at s (log.Forget tid)) receiver ∙ ap (λ t. one_at unit.receiver (log.Forget t)) (sym its) ∙ sent-is false did.1)
+                (happened-grown meaning lawful faults before after is (event.Confirm tid) refl (Some (record { system = Receiver; next = log.Forget tid }))
+                appends.writes did.2);
+            came = λ down. cc;
+          }
+      has-sent up confirmed.Already did none = record {
+        its = its;
+        grew = subst (HaveGrown before.world after.world) (sent-is true did.1)
+            (grown-same before.world after.world (λ s. ap (λ (k : KeptOf R A V). log_of k.world s) did.2));
+        came = λ down. cc;
+      }
+      has-sent up confirmed.Down did none = elim did [
+        | inl idle ↦ absurd (both_ways (is_up before.world unit.receiver) (sym (ap (is_up before.world) receiver) ∙ idle.0) up)
+        | inr fell ↦ absurd (fell-not_none meaning lawful faults before after is (event.Confirm tid) fell none)
+      ]
+
   -- ---- the reply to the confirmation comes to the sender
 
   module _ (gone : is_forgotten (meaning before.world.rules) before.world tid ≡ true) where
@@ -187,4 +232,17 @@ module _ {R A V : Type 0} (meaning : R → Meaning) (lawful : (r : R) → IsLawf
     claims-closed closed.Down did = elim did [
       | inl idle ↦ same-claims idle.1
       | inr fell ↦ inr (claims-fell meaning lawful faults before after is (event.Reply (Forgotten tid)) fell)
+    ]
+
+    -- where no system fell, the sender that is up appends that
+    pub grown-closed : is_up before.world tid.system ≡ true → is_listed tid (ended_in (log_of before.world tid.system)) ≡ false → (given : Closed)
+        → Closes given → NoneFell before.world after.world → HaveGrown before.world after.world (one_at tid.system (log.Ended tid))
+    grown-closed up lasts closed.Recorded did none =
+        let appends = ends did.0 did.1 in
+        happened-grown meaning lawful faults before after is (event.Reply (Forgotten tid)) refl (Some (record { system = tid.system; next = log.Ended tid }))
+        appends.writes did.2
+    grown-closed up lasts closed.Already did none = absurd (both_ways (is_listed tid (ended_in (log_of before.world tid.system))) lasts did.1)
+    grown-closed up lasts closed.Down did none = elim did [
+      | inl idle ↦ absurd (both_ways (is_up before.world tid.system) idle.0 up)
+      | inr fell ↦ absurd (fell-not_none meaning lawful faults before after is (event.Reply (Forgotten tid)) fell none)
     ]

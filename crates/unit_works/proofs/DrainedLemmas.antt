@@ -5,6 +5,7 @@ use Rattle.std.proofs.Common.{◌≡◌, ◌+◌, ◌≤◌, ℕ, true, false, n
 use Rattle.std.proofs.lemmas.Bool.{cases_Bool, cases_lt}
 use Rattle.ale_base.specs.Tid.{TidOf, is_tid}
 use Rattle.ale_base.specs.declared.out_of_memory.OutOfMemory.{OutOfMemory}
+use Rattle.unit_core.specs.declared.ale_unit.AleUnit.{AleUnit}
 use Rattle.unit_core.specs.Filters.{received}
 use Rattle.unit_core.specs.Queues.{unit_named}
 use Rattle.unit_core.proofs.TidLemmas.{is_tid-true}
@@ -20,9 +21,13 @@ use Rattle.document_tables.specs.declared.document_tables.DocumentTables.{Docume
 use Rattle.model_rules.specs.declared.model_rules.ModelRules.{ModelRules}
 use Rattle.wires.specs.declared.letter.Letter.{Letter}
 use Rattle.wires.specs.Wires.{letters_left, next_letter, rest_letters}
+use Rattle.unit_works.specs.Acts.{Act, GrewBy, HaveActed, confirm, execute, ship}
 use Rattle.unit_works.specs.Drained.{DrainedAs, Found, FoundAs, HasWorked, IsIdle, WorkedSo}
 use Rattle.unit_works.specs.Events.{is_confirmation, is_execution, is_shipping, is_work}
-use Rattle.unit_works.specs.Works.{ExecutedAs, HasTaken, HaveEnded, HaveTaken, Lines, NothingIn, NothingOut, ShippedAs, Worked}
+use Rattle.unit_works.specs.Trips.{confirmation, forgot, is_due}
+use Rattle.unit_works.specs.steps.Confirming.{IsDueOf}
+use Rattle.unit_works.specs.Worked.{HasTaken, HaveEnded, HaveTaken, Lines, NothingIn, NothingOut, Worked}
+use Rattle.unit_works.specs.Works.{ExecutedAs, ShippedAs}
 use Rattle.unit_works.specs.steps.Rounds.{NothingAt, NothingTo, joined}
 use Rattle.unit_works.proofs.WorkedLemmas.{confirmation-works, ended-on, ended-same, execution-works, is_lawful, meaning, on, shipping-works, still, wider}
 
@@ -60,6 +65,22 @@ taken-on before between after first second tid =
     (one.0 ++ two.0, one.1 ∙ ap (λ rest. one.0 ++ rest) two.1 ∙ sym (append_assoc one.0 two.0 (letters_left after tid)))
 
 module _ {V : Type 0} (faults : V → ℕ → ℕ) where
+  -- ---- acts
+
+  -- acts, and then others
+  acted-on : (acts more : List Act) (before between after : KeptOf ModelRules DocumentTables V) (lines lines_between lines_after : Lines)
+      → HaveActed faults before lines acts between lines_between → HaveActed faults between lines_between more after lines_after
+      → HaveActed faults before lines (acts ++ more) after lines_after
+  acted-on [] more before between after lines lines_between lines_after first second =
+      subst (λ (k : KeptOf ModelRules DocumentTables V). HaveActed faults k lines more after lines_after) first.0
+      (subst (λ l. HaveActed faults between l more after lines_after) first.1 second)
+  acted-on (act ∷ acts) more before between after lines lines_between lines_after first second = (
+    first.0,
+    first.1,
+    first.2,
+    acted-on acts more first.0 between after first.1 lines_between lines_after first.3 second,
+  )
+
   -- ---- works
 
   -- none were done
@@ -69,6 +90,8 @@ module _ {V : Type 0} (faults : V → ℕ → ℕ) where
     went = still faults is_work true before after same;
     taken = subst (HaveTaken lines) (sym same_lines) (taken-none lines);
     ended = ended-same faults before after same;
+    acts = [];
+    did = (same, same_lines);
   }
 
   -- one after the other
@@ -79,6 +102,8 @@ module _ {V : Type 0} (faults : V → ℕ → ℕ) where
     went = on faults is_work true before between after first.went second.went;
     taken = taken-on lines lines_between lines_after first.taken second.taken;
     ended = ended-on faults before between after n m first.ended second.ended;
+    acts = first.acts ++ second.acts;
+    did = acted-on first.acts second.acts before between after lines lines_between lines_after first.did second.did;
   }
 
   -- ---- what was found
@@ -88,13 +113,16 @@ module _ {V : Type 0} (faults : V → ℕ → ℕ) where
         → Found faults before lines after lines_after 1 (NothingOut before.world system) found
     shipped-found system None did = did
     shipped-found system (Some n) did =
-        let letter = next_letter (letters_left lines did.0) in (
+        let letter = next_letter (letters_left lines did.0) in
+        let shipped = did.2 in (
           record {
-            went = wider faults (is_shipping letter) is_work true before after (shipping-works letter) did.3;
-            taken = taken-one did.0 lines lines_after did.2;
-            ended = did.4;
+            went = wider faults (is_shipping letter) is_work true before after (shipping-works letter) shipped.went;
+            taken = taken-one did.0 lines lines_after shipped.taken;
+            ended = did.3;
+            acts = ship did.0 letter ∷ [];
+            did = (after, lines_after, did.2, (refl, refl));
           },
-          did.5,
+          did.4,
         )
 
     pub found-went : (most : ℕ) (nothing : Type 0) (found : Option ℕ) → Found faults before lines after lines_after most nothing found
@@ -126,13 +154,32 @@ module _ {V : Type 0} (faults : V → ℕ → ℕ) where
   -- a unit that took a letter was confirmed, or was not
   pub so-confirmed : {T : Type 0} (before after : KeptOf ModelRules DocumentTables V) (lines lines_after : Lines) (result : Result T OutOfMemory)
       → Worked faults before after is_confirmation (is_ok result) → OnOk result (HaveEnded faults before after 0) → HaveTaken lines lines_after
+      → (tid : TidOf) (letter : Letter) → letter ≡ next_letter (letters_left lines tid) → HasTaken tid lines lines_after
+      → IsDueOf (meaning before.world.rules) before.world tid
+      → ((unit : AleUnit) → committed_unit (meaning before.world.rules) before.world tid ≡ Some unit → is_due before.world unit ≡ true
+      → OnOk result (GrewBy before after (confirmation letter (forgot before.world unit) unit)))
       → WorkedSo faults before lines after lines_after 0 result
-  so-confirmed before after lines lines_after (Ok done) went ended taken = record {
+  so-confirmed before after lines lines_after (Ok done) went ended taken tid letter next takes is grew = record {
     went = wider faults is_confirmation is_work true before after confirmation-works went;
     taken = taken;
     ended = ended;
+    acts = confirm tid letter ∷ [];
+    did = (
+      after,
+      lines_after,
+      record {
+        unit = is.unit;
+        committed = is.committed;
+        due = is.due;
+        next = next;
+        taken = takes;
+        went = went;
+        grew = grew is.unit is.committed is.due;
+      },
+      (refl, refl),
+    );
   }
-  so-confirmed before after lines lines_after (Err why) went ended taken = wider faults is_confirmation is_work false before after confirmation-works went
+  so-confirmed before after lines lines_after (Err why) went ended taken tid letter next takes is grew = wider faults is_confirmation is_work false before after confirmation-works went
 
   -- works, and then a drain
   pub drained-on : (before between after : KeptOf ModelRules DocumentTables V) (lines lines_between lines_after : Lines) (result : Result ℕ OutOfMemory)
@@ -161,9 +208,11 @@ module _ {V : Type 0} (faults : V → ℕ → ℕ) where
   executed-found before after lines system None did = (did.0, refl, did.1)
   executed-found before after lines system (Some n) did = (
     record {
-      went = wider faults is_execution is_work true before after execution-works did.2;
+      went = let executed = did.2 in wider faults is_execution is_work true before after execution-works executed.went;
       taken = taken-none lines;
       ended = did.3;
+      acts = execute system did.0 ∷ [];
+      did = (after, lines, (did.2, refl), (refl, refl));
     },
     did.4,
   )

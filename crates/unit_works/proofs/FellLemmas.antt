@@ -16,6 +16,8 @@ use Rattle.unit_landscape.specs.Ends.{Failed, FellInstead, Overflowed}
 use Rattle.unit_landscape.specs.Kept.{IsLandscape}
 use Rattle.unit_landscape.proofs.EndsLemmas.{falls-up}
 use Rattle.unit_works.specs.Finished.{finished_in}
+use Rattle.unit_works.specs.Trips.{NoneFell}
+use Rattle.unit_works.proofs.LogLemmas.{fall-not_none}
 use Rattle.unit_works.proofs.WorldLemmas.{finished-fall, claims-fall}
 
 -- a system that was up fell
@@ -53,3 +55,7 @@ module _ {R A V : Type 0} (meaning : R → Meaning) (lawful : (r : R) → IsLawf
 
   pub claims-fell : after.world.claims ≡ []
   claims-fell = let f = fell in ap (λ (w : World R). w.claims) f.world ∙ claims-fall before.world f.system f.rest
+
+  -- so one fell that was up
+  pub fell-not_none : NoneFell before.world after.world → ⊥
+  fell-not_none none = let f = fell in fall-not_none before.world after.world f.system f.rest f.up f.world none

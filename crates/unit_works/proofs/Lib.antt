@@ -6,10 +6,14 @@ pub mod WorldLemmas
 pub mod ClaimLemmas
 -- what an event makes of the states of systems
 pub mod StateLemmas
+-- records one after the other, and how an event lets logs grow
+pub mod LogLemmas
 -- a system falls as it is to append a record
 pub mod FellLemmas
 -- how a landscape goes on
 pub mod WentLemmas
+-- what is appended where no system fell, one after the other
+pub mod GrowthLemmas
 -- a unit is claimed
 pub mod ClaimingLemmas
 -- a unit that is shipped arrives
@@ -20,6 +24,8 @@ pub mod EndingLemmas
 pub mod ReplyingLemmas
 -- a unit is confirmed
 pub mod ConfirmingLemmas
+-- what is appended as a unit is delivered, shipped whole and confirmed
+pub mod TripLemmas
 -- works one after the other
 pub mod WorkedLemmas
 -- works until none is left

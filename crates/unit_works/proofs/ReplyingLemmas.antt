@@ -1,11 +1,12 @@
 -- A shipment is replied to: nothing has ended, and its claim is gone.
 use Rattle.std.specs.Prelude.{Result, Ok, Err, filter}
-use Rattle.std.proofs.Common.{◌≡◌, ◌==◌, ◌+◌, ◌&&◌, ℕ, not, true, false, cond, Some, List, [], inl, inr, refl, ap, ◌∙◌, arith}
+use Rattle.std.proofs.Common.{◌≡◌, ◌==◌, ◌+◌, ◌&&◌, ℕ, not, Bool, true, false, cond, Option, Some, None, List, [], ◌∷◌, inl, inr, refl, sym, ap, subst, ◌∙◌, arith}
 use Rattle.std.proofs.lemmas.Bool.{both_ways, cond_both}
-use Rattle.ale_base.specs.Tid.{is_tid}
-use Rattle.ale_base.specs.declared.mark.Mark.TheVariants.{Cpicerr}
+use Rattle.ale_base.specs.Tid.{TidOf, is_tid}
+use Rattle.ale_base.specs.declared.mark.Mark.TheVariants.{Cpicerr, Sysfail}
 use Rattle.unit_core.specs.declared.records.Record.{Record}
 use Rattle.unit_core.specs.declared.records.Record.TheVariants as log
+use Rattle.trfc_protocol.specs.declared.event.CoreAnswer.{CoreAnswer}
 use Rattle.trfc_protocol.specs.declared.event.CoreAnswer.TheVariants as core
 use Rattle.trfc_protocol.specs.declared.event.Event.{Event}
 use Rattle.trfc_protocol.specs.declared.event.Event.TheVariants as event
@@ -15,7 +16,10 @@ use Rattle.trfc_protocol.specs.declared.world.World.{World}
 use Rattle.trfc_protocol.specs.Happens.{happens}
 use Rattle.trfc_protocol.specs.Legal.{IsLawful}
 use Rattle.trfc_protocol.specs.Meaning.{Meaning}
+use Rattle.trfc_protocol.specs.RecordOf.{record_of}
 use Rattle.trfc_protocol.specs.Worlds.{claim_of, without_claim}
+use Rattle.trfc_protocol.proofs.ClaimLemmas.{claim_of-Some}
+use Rattle.trfc_protocol.proofs.ForCallers.{shipped_by}
 use Rattle.kept_world.specs.Kept.{KeptOf}
 use Rattle.world_tables.specs.Joining.{after_record}
 use Rattle.unit_landscape.specs.declared.answers.Replied.{Replied}
@@ -31,14 +35,18 @@ use Rattle.unit_landscape.specs.Ends.{Happened}
 use Rattle.unit_landscape.specs.Kept.{IsLandscape}
 use Rattle.unit_landscape.specs.Writes.{Appends}
 use Rattle.unit_landscape.proofs.EventLemmas.{event-after, event-up}
-use Rattle.unit_landscape.proofs.ReplyingLemmas.{busy-after, lost-appends, out-number, receipt-appends, refusal-appends}
+use Rattle.unit_landscape.proofs.ReplyingLemmas.{busy-after, busy-none, lost-appends, out-number, receipt-appends, refusal-appends}
 use Rattle.unit_works.specs.Events.{is_reply}
 use Rattle.unit_works.specs.Finished.{finished_in, is_ending}
 use Rattle.unit_works.specs.Went.{WentOn}
 use Rattle.unit_works.specs.Claims.{AreOrGone}
+use Rattle.unit_works.specs.Trips.{HaveGrown, NoneFell, noted_of, one_at}
+use Rattle.unit_works.specs.steps.Arriving.{event_of}
 use Rattle.unit_works.specs.steps.Claims.{AreWithOut, out_held}
 use Rattle.unit_works.proofs.ClaimLemmas.{held-out, found-last, stands-found_out, without-last}
-use Rattle.unit_works.proofs.FellLemmas.{finished-fell, claims-fell}
+use Rattle.unit_works.proofs.FellLemmas.{claims-fell, fell-not_none, finished-fell}
+use Rattle.unit_works.proofs.GrowthLemmas.{happened-grown}
+use Rattle.unit_works.proofs.LogLemmas.{listed}
 use Rattle.unit_works.proofs.StateLemmas.{is_step}
 use Rattle.unit_works.proofs.WentLemmas.{went-same, went-happened, went-fell, went-short, went-whole}
 use Rattle.unit_works.proofs.WorldLemmas.{finished-record, claims-record}
@@ -182,3 +190,111 @@ module _ {R A V : Type 0} (meaning : R → Meaning) (lawful : (r : R) → IsLawf
   claims-replied (Err end.Stale) did other others with =
       let same = did.1 in inr (ap (λ (k : KeptOf R A V). k.world.claims) same ∙ stale-gone others with did.0)
   claims-replied (Err end.OutOfMemory) did other others with = absurd (other refl)
+
+  -- ---- what is appended
+
+  -- the event says what the sender learnt
+  learnt-done : (learnt : Option CoreAnswer) → event.Reply (Claim claim.number core.Done) ≡ event_of learnt claim.number → learnt ≡ Some core.Done
+  learnt-done (Some core.Done) same = refl
+  learnt-done (Some core.Busy) same = cc
+  learnt-done (Some core.SysFail) same = cc
+  learnt-done None same = cc
+
+  learnt-refused : (learnt : Option CoreAnswer) → event.Reply (Claim claim.number core.SysFail) ≡ event_of learnt claim.number → learnt ≡ Some core.SysFail
+  learnt-refused (Some core.SysFail) same = refl
+  learnt-refused (Some core.Busy) same = cc
+  learnt-refused (Some core.Done) same = cc
+  learnt-refused None same = cc
+
+  learnt-busy : (learnt : Option CoreAnswer) → event.Reply (Claim claim.number core.Busy) ≡ event_of learnt claim.number → learnt ≡ Some core.Busy
+  learnt-busy (Some core.Busy) same = refl
+  learnt-busy (Some core.Done) same = cc
+  learnt-busy (Some core.SysFail) same = cc
+  learnt-busy None same = cc
+
+  learnt-lost : (learnt : Option CoreAnswer) → event.LoseReply claim.number ≡ event_of learnt claim.number → learnt ≡ None
+  learnt-lost None same = refl
+  learnt-lost (Some core.Busy) same = cc
+  learnt-lost (Some core.Done) same = cc
+  learnt-lost (Some core.SysFail) same = cc
+
+  module _ (held : Held) (holds : HoldsOut before.world claim held) (learnt : Option CoreAnswer) where
+    abbrev Notes : Reply → Type 0
+    Notes answer =
+        reply_event (meaning before.world.rules) before.world claim answer ≡ event_of learnt claim.number
+        → listed (record_of (meaning before.world.rules) before.world (reply_event (meaning before.world.rules) before.world claim answer))
+        ≡ noted_of learnt claim.tid
+
+    here : held.system ≡ claim.tid.system
+    here =
+        shipped_by (meaning before.world.rules) (lawful before.world.rules) before.world is.safe held
+        (claim_of-Some claim.number before.world.claims held holds.found).0 holds.kind
+        ∙ ap (λ (t : TidOf). t.system) holds.its
+
+    -- a record of the sender on the unit of the claim
+    of_claim : (next : TidOf → Record) → one_at held.system (next held.tid) ≡ one_at claim.tid.system (next claim.tid)
+    of_claim next = ap (λ s. one_at s (next held.tid)) here ∙ ap (λ t. one_at claim.tid.system (next t)) holds.its
+
+    noted-lost : learnt ≡ None → one_at held.system (log.Mark held.tid Cpicerr) ≡ noted_of learnt claim.tid
+    noted-lost none = of_claim (λ t. log.Mark t Cpicerr) ∙ sym (ap (λ l. noted_of l claim.tid) none)
+
+    noted : (answer : Reply) → Notes answer
+    noted (reply.Done receipt) same = by_count (is_tid receipt.tid claim.tid && was_received (meaning before.world.rules) before.world claim.tid) refl
+      where
+        by_count : (b : Bool) → (is_tid receipt.tid claim.tid && was_received (meaning before.world.rules) before.world claim.tid) ≡ b
+            → listed (record_of (meaning before.world.rules) before.world (reply_event (meaning before.world.rules) before.world claim (reply.Done receipt)))
+            ≡ noted_of learnt claim.tid
+        by_count true counts =
+            let appends = receipt-appends (meaning before.world.rules) (lawful before.world.rules) before.world is.safe claim held holds receipt true
+            (sym counts ∙ ap (λ t. is_tid receipt.tid t && was_received (meaning before.world.rules) before.world t) (sym holds.its)) in
+            let its = learnt-done learnt (sym (ap (λ b. cond b (event.Reply (Claim claim.number core.Done)) (event.LoseReply claim.number)) counts) ∙ same) in
+            ap listed appends.writes ∙ of_claim log.Done ∙ sym (ap (λ l. noted_of l claim.tid) its)
+        by_count false counts =
+            let appends = receipt-appends (meaning before.world.rules) (lawful before.world.rules) before.world is.safe claim held holds receipt false
+            (sym counts ∙ ap (λ t. is_tid receipt.tid t && was_received (meaning before.world.rules) before.world t) (sym holds.its)) in
+            let its = learnt-lost learnt (sym (ap (λ b. cond b (event.Reply (Claim claim.number core.Done)) (event.LoseReply claim.number)) counts) ∙ same) in
+            ap listed appends.writes ∙ noted-lost its
+    noted reply.SysFail same = by_refusal (is_refused (meaning before.world.rules) before.world claim.tid) refl
+      where
+        by_refusal : (b : Bool) → is_refused (meaning before.world.rules) before.world claim.tid ≡ b
+            → listed (record_of (meaning before.world.rules) before.world (reply_event (meaning before.world.rules) before.world claim reply.SysFail))
+            ≡ noted_of learnt claim.tid
+        by_refusal true refused =
+            let appends = refusal-appends (meaning before.world.rules) (lawful before.world.rules) before.world is.safe claim held holds true
+            (sym refused ∙ ap (is_refused (meaning before.world.rules) before.world) (sym holds.its)) in
+            let its = learnt-refused learnt
+            (sym (ap (λ b. cond b (event.Reply (Claim claim.number core.SysFail)) (event.LoseReply claim.number)) refused) ∙ same) in
+            ap listed appends.writes ∙ of_claim (λ t. log.Mark t Sysfail) ∙ sym (ap (λ l. noted_of l claim.tid) its)
+        by_refusal false refused =
+            let appends = refusal-appends (meaning before.world.rules) (lawful before.world.rules) before.world is.safe claim held holds false
+            (sym refused ∙ ap (is_refused (meaning before.world.rules) before.world) (sym holds.its)) in
+            let its = learnt-lost learnt
+            (sym (ap (λ b. cond b (event.Reply (Claim claim.number core.SysFail)) (event.LoseReply claim.number)) refused) ∙ same) in
+            ap listed appends.writes ∙ noted-lost its
+    noted reply.Lost same =
+        let appends = lost-appends (meaning before.world.rules) (lawful before.world.rules) before.world is.safe claim held holds in
+        ap listed appends.writes ∙ noted-lost (learnt-lost learnt same)
+    noted reply.Busy same =
+        ap listed (busy-none before.world claim held holds (meaning before.world.rules)) ∙ sym (ap (λ l. noted_of l claim.tid) (learnt-busy learnt same))
+
+  -- where no system fell, the sender appends what it notes of what it learnt
+  pub grown-replied : (learnt : Option CoreAnswer) → stands_out before.world claim ≡ true
+      → reply_event (meaning before.world.rules) before.world claim given ≡ event_of learnt claim.number
+      → (result : Result Replied WorkEnd) → RepliedAs (meaning before.world.rules) faults before after claim given result
+      → (result ≡ Err end.OutOfMemory → ⊥) → NoneFell before.world after.world → HaveGrown before.world after.world (noted_of learnt claim.tid)
+  grown-replied learnt stands same result did other none = by_end result did other
+    where
+      grown : Happened (meaning before.world.rules) faults before after ItsEvent → HaveGrown before.world after.world (noted_of learnt claim.tid)
+      grown was =
+          let there = held-out before.world claim stands in
+          subst (HaveGrown before.world after.world) (noted there.0 there.1 learnt given same)
+          (happened-grown meaning lawful faults before after is ItsEvent (step-reply given)
+          (record_of (meaning before.world.rules) before.world ItsEvent) refl was)
+
+      by_end : (r : Result Replied WorkEnd) → RepliedAs (meaning before.world.rules) faults before after claim given r
+          → (r ≡ Err end.OutOfMemory → ⊥) → HaveGrown before.world after.world (noted_of learnt claim.tid)
+      by_end (Ok replied.Recorded) ends some = grown ends.2
+      by_end (Ok replied.Released) ends some = grown ends.2
+      by_end (Ok replied.Down) ends some = absurd (fell-not_none meaning lawful faults before after is ItsEvent ends.1 none)
+      by_end (Err end.Stale) ends some = absurd (both_ways (stands_out before.world claim) ends.0 stands)
+      by_end (Err end.OutOfMemory) ends some = absurd (some refl)

@@ -199,7 +199,7 @@ step-sent {R} rules lawful world safe =
 -- ---- what becomes of claims leaves the systems
 
 module _ {R : Type 0} (rules : Meaning) (world : World R) where
-  abbrev Same : World R → Type 0
+  abbrev pub Same : World R → Type 0
   Same after = after.systems ≡ world.systems
 
   run_systems : (unit : AleUnit) (given : Answer) → Same (with_run world unit given)
@@ -230,7 +230,7 @@ module _ {R : Type 0} (rules : Meaning) (world : World R) where
   busy_systems None = refl
   busy_systems (Some held) = kind_systems held held.kind
 
-  claims_systems : (e : Event) → Same (with_claims_after rules world e)
+  pub claims_systems : (e : Event) → Same (with_claims_after rules world e)
   claims_systems (event.Commit system what) = refl
   claims_systems (event.Claim tid) =
       cond_both (is_offered_outbound rules world tid) (with_claim world tid tid.system Out) world Same (λ _. refl) (λ _. refl)
@@ -324,7 +324,7 @@ module _ {R : Type 0} (world : World R) (system : ℕ) (up : is_up world system 
 -- ---- an event that is neither a fall nor an opening
 
 module _ {R : Type 0} (rules : Meaning) (lawful : IsLawful rules) (world : World R) (safe : Safe rules world) (e : Event) (step : is_step e ≡ true) where
-  happens-step : (f : Event) → is_step f ≡ true → happens rules world f ≡ written (record_of rules world f) (with_claims_after rules world f)
+  pub happens-step : (f : Event) → is_step f ≡ true → happens rules world f ≡ written (record_of rules world f) (with_claims_after rules world f)
   happens-step (event.Fall system kept) is = cc
   happens-step (event.Open system) is = cc
   happens-step (event.Commit system what) is = refl

@@ -120,7 +120,7 @@ module _ {R A V : Type 0} (meaning : R → Meaning) (faults : V → ℕ → ℕ)
   cause-first None rules committed holds stays cause = unfit-still rules committed stays cause
 
 -- a system that is up has a number from 1 on
-up-least : {R : Type 0} (world : World R) (system : ℕ) → is_up world system ≡ true → 1 ≤ system
+pub up-least : {R : Type 0} (world : World R) (system : ℕ) → is_up world system ≡ true → 1 ≤ system
 up-least world system up = let known = is_up-known world system up in state_of-least world.systems system known.0 known.1
 
 module _ {R A V : Type 0} (meaning : R → Meaning) (faults : V → ℕ → ℕ) (may : Event → Bool) where

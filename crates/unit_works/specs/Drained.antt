@@ -1,5 +1,5 @@
 -- A drain: works are done until none is left.
-use Rattle.std.specs.Prelude.{◌≡◌, ◌≤◌, ℕ, false, Option, Some, None, Result, Ok, Err, true}
+use Rattle.std.specs.Prelude.{◌≡◌, ◌≤◌, ℕ, false, Option, Some, None, List, Result, Ok, Err, true}
 use Rattle.ale_base.specs.Tid.{TidOf}
 use Rattle.ale_base.specs.declared.out_of_memory.OutOfMemory.{OutOfMemory}
 use Rattle.trfc_protocol.specs.declared.world.World.{World}
@@ -9,7 +9,8 @@ use Rattle.document_tables.specs.declared.document_tables.DocumentTables.{Docume
 use Rattle.model_rules.specs.declared.model_rules.ModelRules.{ModelRules}
 use Rattle.model_rules.specs.Meaning.{model_meaning}
 use Rattle.unit_works.specs.Events.{is_work}
-use Rattle.unit_works.specs.Works.{HaveEnded, HaveTaken, Lines, Worked}
+use Rattle.unit_works.specs.Worked.{HaveEnded, HaveTaken, Lines, Worked}
+use Rattle.unit_works.specs.Acts.{Act, HaveActed}
 
 -- no unit is offered at any system in either direction
 pub record IsIdle (world : World ModelRules) : Type 0 where
@@ -18,11 +19,13 @@ pub record IsIdle (world : World ModelRules) : Type 0 where
 
 module _ {V : Type 0} (faults : V → ℕ → ℕ) (before : KeptOf ModelRules DocumentTables V) (lines : Lines) (after : KeptOf ModelRules DocumentTables V)
     (lines_after : Lines) where
-  -- Works were done, and so many runs and executions ended; no claim was added.
+  -- Acts were done one after the other, and nothing else; so many runs and executions ended; no claim was added.
   pub record HasWorked (n : ℕ) : Type 0 where
     pub went : Worked faults before after is_work true
     pub taken : HaveTaken lines lines_after
     pub ended : HaveEnded faults before after n
+    pub acts : List Act
+    pub did : HaveActed faults before lines acts after lines_after
 
   -- Works were done until no unit is offered at any system in either direction, and so many runs and executions ended. Where memory is
   -- wanting, works were done.

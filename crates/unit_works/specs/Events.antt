@@ -9,7 +9,7 @@ use Rattle.trfc_protocol.specs.declared.event.Action.TheVariants.{Revoke}
 use Rattle.unit_landscape.specs.declared.answers.Reply.{Reply}
 use Rattle.unit_landscape.specs.declared.answers.Reply.TheVariants as reply
 use Rattle.wires.specs.declared.letter.Letter.{Letter}
-use Rattle.wires.specs.declared.letter.Letter.TheVariants.{Whole, LostRequest, LostReply, Twice}
+use Rattle.wires.specs.declared.letter.Letter.TheVariants.{Whole, LostRequest, LostReply, Twice, LostConfirmation}
 
 -- the records that works append: a unit is marked or done, is taken in, executed or run, fails, and its id is forgotten
 abbrev pub is_works_record : Record → Bool
@@ -60,6 +60,11 @@ abbrev pub is_confirmed_under : Letter → Bool
 is_confirmed_under Whole = true
 is_confirmed_under Twice = true
 is_confirmed_under _ = false
+
+-- whether the confirmation of a unit that was done before is sent under its letter
+abbrev pub is_sent_under : Letter → Bool
+is_sent_under LostConfirmation = false
+is_sent_under _ = true
 
 -- what happens as a unit is shipped under a letter: it arrives and a run of it ends only where the request is not lost, its sender learns
 -- of an answer only where none is lost, and its confirmation is sent only where that is not lost; and a system may fall

@@ -6,6 +6,12 @@ pub mod Went
 pub mod Finished
 -- the claims that are left
 pub mod Claims
+-- works of a landscape, and the letters that units take
+pub mod Worked
+-- what acts append to the logs
+pub mod Trips
+-- acts, and lists of them
+pub mod Acts
 -- a unit is shipped, or executed
 pub mod Works
 -- works are done until none is left

@@ -1,55 +1,19 @@
--- Works of a landscape whose systems work by models: it goes on by events, units take letters, and runs and executions end.
-use Rattle.std.specs.Prelude.{◌≡◌, ◌≤◌, ◌⊎◌, ◌+◌, ℕ, Bool, false, Option, Some, None, List, ◌++◌, Result, Ok, Err, true}
+-- A unit is shipped, or executed.
+use Rattle.std.specs.Prelude.{◌≡◌, ◌≤◌, ℕ, Option, Some, None, Result, Ok, Err, false}
 use Rattle.ale_base.specs.Tid.{TidOf}
 use Rattle.ale_base.specs.declared.out_of_memory.OutOfMemory.{OutOfMemory}
 use Rattle.ale_base.specs.declared.way.Way.TheVariants.{Outgoing, Incoming}
-use Rattle.trfc_protocol.specs.declared.event.Event.{Event}
-use Rattle.trfc_protocol.specs.declared.world.World.{World}
-use Rattle.trfc_protocol.specs.Offered.{is_offered_outbound, is_offered_inbound}
-use Rattle.trfc_protocol.specs.Worlds.{is_up}
 use Rattle.kept_world.specs.Kept.{KeptOf}
 use Rattle.kept_world.specs.Answers.{first_to_go}
 use Rattle.document_tables.specs.declared.document_tables.DocumentTables.{DocumentTables}
 use Rattle.model_rules.specs.declared.model_rules.ModelRules.{ModelRules}
 use Rattle.model_rules.specs.Meaning.{model_meaning}
-use Rattle.wires.specs.declared.letter.Letter.{Letter}
-use Rattle.wires.specs.Wires.{after_take, letters_left, next_letter}
-use Rattle.unit_works.specs.Events.{is_execution, is_shipping, is_work}
-use Rattle.unit_works.specs.Finished.{finished_in}
-use Rattle.unit_works.specs.Went.{WentOn}
-use Rattle.unit_works.specs.Claims.{AreOrGone}
-
--- what is kept of the letters that are left of units
-abbrev pub Lines : Type 0
-Lines = List ((ℕ × ℕ) × List Letter)
-
--- a unit took the letter that was next, and all others keep theirs
-abbrev pub HasTaken : TidOf → Lines → Lines → Type 0
-HasTaken tid before after = (other : TidOf) → letters_left after other ≡ after_take tid (letters_left before) other
-
--- units took letters that were next, and keep the others
-abbrev pub HaveTaken : Lines → Lines → Type 0
-HaveTaken before after = (tid : TidOf) → (taken : List Letter) × (letters_left before tid ≡ taken ++ letters_left after tid)
-
--- nothing is offered outbound at a system: it is down, or none of its units may go
-abbrev pub NothingOut : World ModelRules → ℕ → Type 0
-NothingOut world system =
-    (is_up world system ≡ false) ⊎ ((tid : TidOf) → tid.system ≡ system → is_offered_outbound (model_meaning world.rules.systems) world tid ≡ false)
-
--- nothing is offered inbound at a system: it is down, or no unit that it received may be executed
-abbrev pub NothingIn : World ModelRules → ℕ → Type 0
-NothingIn world system = (is_up world system ≡ false) ⊎ ((tid : TidOf) → is_offered_inbound world system tid ≡ false)
+use Rattle.wires.specs.Wires.{letters_left, next_letter}
+use Rattle.unit_works.specs.Events.{is_execution, is_work}
+use Rattle.unit_works.specs.Worked.{HaveEnded, Lines, NothingIn, NothingOut, Worked}
+use Rattle.unit_works.specs.Acts.{HasExecuted, HasShipped}
 
 module _ {V : Type 0} (faults : V → ℕ → ℕ) (before after : KeptOf ModelRules DocumentTables V) where
-  -- A landscape went on by events that may happen. Where the work is whole, each system that fell had a cause; else memory was wanting.
-  abbrev pub Worked : (Event → Bool) → Bool → Type 0
-  Worked may whole = WentOn (λ (rules : ModelRules). model_meaning rules.systems) faults may whole before after
-
-  -- So many runs and executions have ended. No claim was added: they are as before, or there are none, as where a system fell.
-  pub record HaveEnded (n : ℕ) : Type 0 where
-    pub finished : finished_in after.world ≡ finished_in before.world + n
-    pub claims : AreOrGone after.world.claims before.world.claims
-
   -- The first unit that is offered outbound at a system was shipped under its next letter, and at most one run ended; or there is none, and
   -- nothing has changed.
   abbrev pub ShippedAs : Lines → Lines → ℕ → Result (Option ℕ) OutOfMemory → Type 0
@@ -57,11 +21,10 @@ module _ {V : Type 0} (faults : V → ℕ → ℕ) (before after : KeptOf ModelR
   ShippedAs lines lines_after system (Ok (Some n)) =
       (tid : TidOf)
       × (first_to_go (model_meaning before.world.rules.systems) before.world system Outgoing ≡ Some tid)
-      × HasTaken tid lines lines_after
-      × Worked (is_shipping (next_letter (letters_left lines tid))) true
-      × HaveEnded n
+      × HasShipped faults before after lines lines_after tid (next_letter (letters_left lines tid))
+      × HaveEnded faults before after n
       × (n ≤ 1)
-  ShippedAs lines lines_after system (Err short) = Worked is_work false
+  ShippedAs lines lines_after system (Err short) = Worked faults before after is_work false
 
   -- The first unit that is offered inbound at a system was executed: its execution ended, or the system fell; or there is none, and nothing
   -- has changed.
@@ -70,7 +33,7 @@ module _ {V : Type 0} (faults : V → ℕ → ℕ) (before after : KeptOf ModelR
   ExecutedAs system (Ok (Some n)) =
       (tid : TidOf)
       × (first_to_go (model_meaning before.world.rules.systems) before.world system Incoming ≡ Some tid)
-      × Worked is_execution true
-      × HaveEnded n
+      × HasExecuted faults before after system tid
+      × HaveEnded faults before after n
       × (n ≤ 1)
-  ExecutedAs system (Err short) = Worked is_execution false
+  ExecutedAs system (Err short) = Worked faults before after is_execution false

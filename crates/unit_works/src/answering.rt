@@ -1,16 +1,27 @@
 //! A shipment is answered: a run that it began ends, and what its receiver replies comes to its claim.
 
-ghost use Rattle.std.specs.Prelude.{◌≡◌, ◌≤◌, ◌+◌, List, true, false, IfOk, OnOk};
+ghost use Rattle.std.specs.Prelude.{◌≡◌, ◌≤◌, ◌+◌, List, Option, Some, true, false, IfOk, OnOk};
 ghost use Rattle.std.specs.Result.{is_ok};
+ghost use Rattle.ale_base.specs.Tid.{TidOf};
+ghost use Rattle.unit_core.specs.declared.ale_unit.AleUnit.{AleUnit};
+ghost use Rattle.trfc_protocol.specs.declared.answer.Answer.{Answer};
+ghost use Rattle.trfc_protocol.specs.declared.event.CoreAnswer.{CoreAnswer};
+ghost use Rattle.trfc_protocol.specs.declared.event.CoreAnswer.TheVariants as core;
 ghost use Rattle.trfc_protocol.specs.declared.held.Held.{Held};
-ghost use Rattle.unit_landscape.specs.Calls.{stands_out};
+ghost use Rattle.trfc_protocol.specs.declared.held.HeldKind.TheVariants.{Direct};
+ghost use Rattle.trfc_protocol.specs.Offered.{answer_to};
+ghost use Rattle.trfc_protocol.specs.Worlds.{committed_unit};
+ghost use Rattle.model_rules.specs.Meaning.{model_meaning};
+ghost use Rattle.unit_landscape.specs.Calls.{reply_event, stands_out};
+ghost use Rattle.unit_works.specs.Acts.{GrewBy};
 ghost use Rattle.unit_works.specs.Claims.{AreOrGone};
 ghost use Rattle.unit_works.specs.Events.{arrives_under, is_delivery, is_end, is_reply};
 ghost use Rattle.unit_works.specs.Finished.{finished_in};
-ghost use Rattle.unit_works.specs.Works.{Worked};
-ghost use Rattle.unit_works.specs.steps.Arriving.{ClaimsLeft, IsAnswered};
+ghost use Rattle.unit_works.specs.Trips.{NoneFell, noted_of};
+ghost use Rattle.unit_works.specs.Worked.{Worked};
+ghost use Rattle.unit_works.specs.steps.Arriving.{ClaimsAre, ClaimsLeft, HasAnswered, HasDelivered, IsAnswered, Says, Tells, event_of};
 ghost use Rattle.unit_works.specs.steps.Claims.{AreWithOut};
-ghost use Rattle.unit_works.specs.steps.Ending.{ended_by};
+ghost use Rattle.unit_works.specs.steps.Ending.{IsRun, ended_by};
 
 use crate::arriving::arrive_under;
 use crate::ending::{ended_by, finish};
@@ -42,7 +53,10 @@ pub(crate) fn deliver<V: Volumes>(
     ensures went { Worked V.faults landscape.old landscape.new (is_delivery letter) (is_ok result) }
     ensures answered { IfOk result (λ answered. IsAnswered landscape.old.world landscape.new.world answered.finished) }
     ensures claims { OnOk result (AreOrGone landscape.new.world.claims landscape.old.world.claims) }
+    ensures grew { IfOk result (λ answered. NoneFell landscape.old.world landscape.new.world → (unit : AleUnit) → committed_unit (model_meaning landscape.old.world.rules.systems) landscape.old.world claim.now.tid ≡ Some unit
+        → HasDelivered (model_meaning landscape.new.world.rules.systems) landscape.old.world landscape.new.world claim.now unit letter (answer_to (model_meaning landscape.old.world.rules.systems) landscape.old.world unit) answered.given) }
 {
+    let _ = landscape.world();
     if !arrives_under(letter) {
         return Ok(Answered {
             given: Reply::Lost,
@@ -63,6 +77,9 @@ fn answer_of<V: Volumes>(
     ensures went { Worked V.faults landscape.old landscape.new is_end (is_ok result) }
     ensures answered { IfOk result (λ answered. IsAnswered landscape.old.world landscape.new.world answered.finished) }
     ensures claims { (others : List Held) → ClaimsLeft landscape.old.world.claims others arrival → OnOk result (AreOrGone landscape.new.world.claims others) }
+    ensures grew { (unit : AleUnit) (given : Answer) (others : List Held) → committed_unit (model_meaning landscape.old.world.rules.systems) landscape.old.world unit.tid ≡ Some unit → Tells given unit arrival
+        → ClaimsAre landscape.old.world.claims others arrival
+        → IfOk result (λ answered. NoneFell landscape.old.world landscape.new.world → HasAnswered landscape.old.world landscape.new.world unit given others answered.given) }
 {
     match arrival {
         Arrival::New(receipt) => Ok(at_once(Reply::Done(receipt))),
@@ -79,7 +96,8 @@ fn answer_of<V: Volumes>(
 
 /// A reply before which no run ended.
 fn at_once(given: Reply) -> Answered
-    ensures { result.finished ≡ 0 }
+    ensures count { result.finished ≡ 0 }
+    ensures given { result.given ≡ given }
 {
     Answered { given, finished: 0 }
 }
@@ -88,6 +106,7 @@ fn at_once(given: Reply) -> Answered
 fn after_run(finished: Finished) -> Answered
     ensures count { result.finished ≡ ended_by finished }
     ensures few { result.finished ≤ 1 }
+    ensures says { (tid : TidOf) → IsRun Direct tid finished → Says (Some core.Done) tid result.given }
 {
     let count = ended_by(&finished);
     let given = match finished {
@@ -109,6 +128,9 @@ pub(crate) fn reply<V: Volumes>(
     ensures went { Worked V.faults landscape.old landscape.new (is_reply given) (is_ok result) }
     ensures finished { OnOk result (finished_in landscape.new.world ≡ finished_in landscape.old.world) }
     ensures claims { (others : List Held) → AreWithOut landscape.old.world.claims others claim → OnOk result (AreOrGone landscape.new.world.claims others) }
+    ensures grew { (learnt : Option CoreAnswer) → stands_out landscape.old.world claim ≡ true
+        → reply_event (model_meaning landscape.old.world.rules.systems) landscape.old.world claim given ≡ event_of learnt claim.number
+        → OnOk result (GrewBy landscape.old landscape.new (noted_of learnt claim.tid)) }
 {
     let _ = landscape.world();
     match landscape.reply(claim, given) {

@@ -1,7 +1,8 @@
 //! A unit that is shipped arrives at its receiver, once or twice.
 
-ghost use Rattle.std.specs.Prelude.{◌≡◌, Some, true, false, IfOk, OnOk};
+ghost use Rattle.std.specs.Prelude.{◌≡◌, [], Some, true, false, IfOk, OnOk};
 ghost use Rattle.std.specs.Result.{is_ok};
+ghost use Rattle.unit_core.specs.declared.ale_unit.AleUnit.{AleUnit as UnitOf};
 ghost use Rattle.trfc_protocol.specs.Worlds.{committed_unit};
 ghost use Rattle.unit_landscape.specs.declared.answers.Arrival.{Arrival as ArrivalOf};
 ghost use Rattle.unit_landscape.specs.Calls.{Arrived, stands_out};
@@ -9,8 +10,9 @@ ghost use Rattle.model_rules.specs.Meaning.{model_meaning};
 ghost use Rattle.unit_works.specs.Claims.{AreOrGone};
 ghost use Rattle.unit_works.specs.Events.{is_arrival};
 ghost use Rattle.unit_works.specs.Finished.{finished_in};
-ghost use Rattle.unit_works.specs.Works.{Worked};
-ghost use Rattle.unit_works.specs.steps.Arriving.{BeginsNone, BeginsNoRun, ClaimsCome, ClaimsLeft, is_twice};
+ghost use Rattle.unit_works.specs.Trips.{HaveGrown, NoneFell};
+ghost use Rattle.unit_works.specs.Worked.{Worked};
+ghost use Rattle.unit_works.specs.steps.Arriving.{BeginsNone, BringsNothing, ClaimsCome, ClaimsLeft, HasArrived, is_twice};
 
 use crate::falls::{Append, Falls};
 use crate::letters::is_twice;
@@ -32,6 +34,8 @@ pub(crate) fn arrive_under<V: Volumes>(
     ensures went { Worked V.faults landscape.old landscape.new is_arrival (is_ok result) }
     ensures finished { OnOk result (finished_in landscape.new.world ≡ finished_in landscape.old.world) }
     ensures claims { IfOk result (ClaimsLeft landscape.new.world.claims landscape.old.world.claims) }
+    ensures grew { IfOk result (λ given. NoneFell landscape.old.world landscape.new.world → (unit : UnitOf) → committed_unit (model_meaning landscape.old.world.rules.systems) landscape.old.world claim.now.tid ≡ Some unit
+        → HasArrived (model_meaning landscape.old.world.rules.systems) landscape.old.world landscape.new.world unit given) }
 {
     let unit = unit_of(landscape, claim)?;
     let first = arrive(landscape, claim, &unit)?;
@@ -64,10 +68,12 @@ fn arrive<V: Volumes>(
     ensures finished { OnOk result (finished_in landscape.new.world ≡ finished_in landscape.old.world) }
     ensures arrived { IfOk result (Arrived (model_meaning landscape.old.world.rules.systems) V.faults landscape.old landscape.new unit.now) }
     ensures claims { IfOk result (ClaimsCome landscape.old.world.claims landscape.new.world.claims) }
-    ensures none { IfOk result (λ given. BeginsNoRun (model_meaning landscape.old.world.rules.systems) landscape.old.world claim.now unit.now
+    ensures grew { IfOk result (λ given. NoneFell landscape.old.world landscape.new.world
+        → HasArrived (model_meaning landscape.old.world.rules.systems) landscape.old.world landscape.new.world unit.now given) }
+    ensures none { IfOk result (λ given. BringsNothing (model_meaning landscape.old.world.rules.systems) landscape.old.world claim.now unit.now
         → BeginsNone given) }
     ensures again { OnOk result (stands_out landscape.new.world claim.now ≡ true
-        → BeginsNoRun (model_meaning landscape.new.world.rules.systems) landscape.new.world claim.now unit.now) }
+        → BringsNothing (model_meaning landscape.new.world.rules.systems) landscape.new.world claim.now unit.now) }
 {
     let _ = landscape.world();
     landscape.arrive(unit)
@@ -82,10 +88,11 @@ fn arrive_again<V: Volumes>(
     letter: Letter,
 ) -> Result<(), OutOfMemory>
     requires again { stands_out landscape.old.world claim.now ≡ true
-        → BeginsNoRun (model_meaning landscape.old.world.rules.systems) landscape.old.world claim.now unit.now }
+        → BringsNothing (model_meaning landscape.old.world.rules.systems) landscape.old.world claim.now unit.now }
     ensures went { Worked V.faults landscape.old landscape.new is_arrival (is_ok result) }
     ensures finished { OnOk result (finished_in landscape.new.world ≡ finished_in landscape.old.world) }
     ensures claims { OnOk result (AreOrGone landscape.new.world.claims landscape.old.world.claims) }
+    ensures grew { OnOk result (NoneFell landscape.old.world landscape.new.world → HaveGrown landscape.old.world landscape.new.world [] × (landscape.new.world.claims ≡ landscape.old.world.claims)) }
     ensures arrived { OnOk result (is_twice letter ≡ true → stands_out landscape.old.world claim.now ≡ true
         → (given : ArrivalOf) × Arrived (model_meaning landscape.old.world.rules.systems) V.faults landscape.old landscape.new unit.now given) }
 {

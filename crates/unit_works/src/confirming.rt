@@ -1,20 +1,23 @@
 //! A unit that is done is confirmed.
 
-ghost use Rattle.std.specs.Prelude.{◌≡◌, ◌&&◌, true, false, IfOk, OnOk};
+ghost use Rattle.std.specs.Prelude.{◌≡◌, ◌&&◌, Some, [], true, false, IfOk, OnOk, if◌then◌else◌};
 ghost use Rattle.std.specs.Result.{is_ok};
-ghost use Rattle.unit_core.specs.Filters.{done_in};
+ghost use Rattle.unit_core.specs.declared.ale_unit.AleUnit.{AleUnit};
+ghost use Rattle.unit_core.specs.declared.records.Record.TheVariants.{Ended};
+ghost use Rattle.unit_core.specs.Filters.{done_in, ended_in};
 ghost use Rattle.unit_core.specs.Queues.{is_listed};
 ghost use Rattle.system_tables.specs.OfLog.{is_unconfirmed};
-ghost use Rattle.trfc_protocol.specs.Worlds.{is_up, log_of};
+ghost use Rattle.trfc_protocol.specs.Worlds.{committed_unit, is_up, log_of};
 ghost use Rattle.unit_landscape.specs.Calls.{is_forgotten};
 ghost use Rattle.model_rules.specs.Meaning.{model_meaning};
-ghost use Rattle.unit_works.specs.Claims.{AreOrGone};
-ghost use Rattle.unit_works.specs.Events.{is_confirmation, is_confirming};
+ghost use Rattle.unit_works.specs.Acts.{GrewBy};
+ghost use Rattle.unit_works.specs.Events.{is_confirmation, is_confirmed_under, is_confirming, is_sent_under};
 ghost use Rattle.unit_works.specs.Finished.{finished_in};
 ghost use Rattle.unit_works.specs.Drained.{WorkedSo};
-ghost use Rattle.unit_works.specs.Works.{HaveEnded, Worked};
-ghost use Rattle.unit_works.specs.steps.Confirming.{Forgets};
-ghost use Rattle.unit_works.specs.steps.Rounds.{is_sent_under};
+ghost use Rattle.unit_works.specs.Trips.{NoneFell, confirmation, forgot, is_due, one_at};
+ghost use Rattle.unit_works.specs.Worked.{HaveEnded, Worked};
+ghost use Rattle.unit_works.specs.steps.Confirming.{Forgets, HasSent, IsDueOf};
+ghost use Rattle.wires.specs.declared.letter.Letter.TheVariants.{Whole};
 ghost use Rattle.wires.specs.Wires.{letters_left, next_letter};
 
 use crate::falls::{Append, Falls};
@@ -26,12 +29,16 @@ use unit_landscape::{Closed, Confirmed};
 use wires::{Letter, Wires};
 
 /// Sends the confirmation of a unit that is done and not ended, and then the reply to it. Nothing changes where it is not done or ended,
-/// or one of its systems is down. After an `Err` the confirmation may have come to the receiver.
+/// or one of its systems is down. Where it is done and not ended, both its systems are up and none falls, the logs grow by exactly the
+/// record of the receiver, unless it has forgotten the unit before, and that of the sender. After an `Err` the confirmation may have come
+/// to the receiver.
 pub fn confirm<V: Volumes>(landscape: &mut Landscape<V>, tid: Tid) -> Result<(), OutOfMemory>
     ensures went { Worked V.faults landscape.old landscape.new is_confirmation (is_ok result) }
     ensures ended { OnOk result (HaveEnded V.faults landscape.old landscape.new 0) }
     ensures same { (is_up landscape.old.world tid.system && is_unconfirmed tid (log_of landscape.old.world tid.system)) ≡ false
         → landscape.new ≡ landscape.old }
+    ensures due { (unit : AleUnit) → committed_unit (model_meaning landscape.old.world.rules.systems) landscape.old.world tid ≡ Some unit → is_due landscape.old.world unit ≡ true
+        → OnOk result (GrewBy landscape.old landscape.new (confirmation Whole (forgot landscape.old.world unit) unit)) }
 {
     let mut falls = Falls::new(landscape);
     confirm_noted(landscape, &mut falls, tid)
@@ -47,7 +54,10 @@ fn confirm_noted<V: Volumes>(
     ensures ended { OnOk result (HaveEnded V.faults landscape.old landscape.new 0) }
     ensures same { (is_up landscape.old.world tid.system && is_unconfirmed tid (log_of landscape.old.world tid.system)) ≡ false
         → landscape.new ≡ landscape.old }
+    ensures due { (unit : AleUnit) → committed_unit (model_meaning landscape.old.world.rules.systems) landscape.old.world tid ≡ Some unit → is_due landscape.old.world unit ≡ true
+        → OnOk result (GrewBy landscape.old landscape.new (confirmation Whole (forgot landscape.old.world unit) unit)) }
 {
+    let _ = landscape.world();
     if !landscape.is_unconfirmed(tid) {
         return Ok(());
     }
@@ -63,6 +73,8 @@ fn confirm_done<V: Volumes>(
     requires done { is_listed tid (done_in (log_of landscape.old.world tid.system)) ≡ true }
     ensures went { Worked V.faults landscape.old landscape.new is_confirmation (is_ok result) }
     ensures ended { OnOk result (HaveEnded V.faults landscape.old landscape.new 0) }
+    ensures due { (unit : AleUnit) → committed_unit (model_meaning landscape.old.world.rules.systems) landscape.old.world tid ≡ Some unit → is_due landscape.old.world unit ≡ true
+        → OnOk result (GrewBy landscape.old landscape.new (confirmation Whole (forgot landscape.old.world unit) unit)) }
 {
     let confirmed = send(landscape, tid)?;
     falls.note(landscape, tid, Append::Forget);
@@ -81,6 +93,8 @@ fn send<V: Volumes>(landscape: &mut Landscape<V>, tid: Tid) -> Result<Confirmed,
     requires done { is_listed tid (done_in (log_of landscape.old.world tid.system)) ≡ true }
     ensures went { Worked V.faults landscape.old landscape.new is_confirmation (is_ok result) }
     ensures ended { OnOk result (HaveEnded V.faults landscape.old landscape.new 0) }
+    ensures sent { (unit : AleUnit) → committed_unit (model_meaning landscape.old.world.rules.systems) landscape.old.world tid ≡ Some unit → is_up landscape.old.world unit.receiver ≡ true
+        → IfOk result (λ given. NoneFell landscape.old.world landscape.new.world → HasSent landscape.old.world landscape.new.world tid unit given) }
     ensures forgets { IfOk result (Forgets (model_meaning landscape.new.world.rules.systems) landscape.new.world tid) }
 {
     let _ = landscape.world();
@@ -92,6 +106,8 @@ fn end<V: Volumes>(landscape: &mut Landscape<V>, tid: Tid) -> Result<Closed, Out
     requires forgotten { is_forgotten (model_meaning landscape.old.world.rules.systems) landscape.old.world tid ≡ true }
     ensures went { Worked V.faults landscape.old landscape.new is_confirmation (is_ok result) }
     ensures ended { OnOk result (HaveEnded V.faults landscape.old landscape.new 0) }
+    ensures grew { is_up landscape.old.world tid.system ≡ true → is_listed tid (ended_in (log_of landscape.old.world tid.system)) ≡ false
+        → OnOk result (GrewBy landscape.old landscape.new (one_at tid.system (Ended tid))) }
 {
     let _ = landscape.world();
     landscape.ended(tid)
@@ -106,6 +122,10 @@ pub(crate) fn confirm_under<V: Volumes>(
 ) -> Result<(), OutOfMemory>
     ensures went { Worked V.faults landscape.old landscape.new (is_confirming letter) (is_ok result) }
     ensures ended { OnOk result (HaveEnded V.faults landscape.old landscape.new 0) }
+    ensures same { (is_up landscape.old.world tid.system && is_unconfirmed tid (log_of landscape.old.world tid.system)) ≡ false
+        → landscape.new ≡ landscape.old }
+    ensures due { (unit : AleUnit) → committed_unit (model_meaning landscape.old.world.rules.systems) landscape.old.world tid ≡ Some unit → is_due landscape.old.world unit ≡ true
+        → OnOk result (GrewBy landscape.old landscape.new (if is_confirmed_under letter then confirmation Whole (forgot landscape.old.world unit) unit else [])) }
 {
     if !is_confirmed_under(letter) {
         return Ok(());
@@ -148,8 +168,10 @@ fn confirm_due<V: Volumes>(
 
 /// Whether a unit is done and not ended, and both its systems are up.
 fn is_due<V: Volumes>(landscape: &Landscape<V>, tid: Tid) -> bool
-    ensures { result ≡ true → (is_up landscape.now.world tid.system && is_unconfirmed tid (log_of landscape.now.world tid.system)) ≡ true }
+    ensures sender { result ≡ true → (is_up landscape.now.world tid.system && is_unconfirmed tid (log_of landscape.now.world tid.system)) ≡ true }
+    ensures due { result ≡ true → IsDueOf (model_meaning landscape.now.world.rules.systems) landscape.now.world tid }
 {
+    let _ = landscape.world();
     match landscape.unit(tid) {
         Some(unit) => landscape.is_up(unit.receiver) && landscape.is_unconfirmed(tid),
         None => false,
@@ -166,6 +188,8 @@ fn confirm_sent<V: Volumes>(
     ensures went { Worked V.faults landscape.old landscape.new is_confirmation (is_ok result) }
     ensures ended { OnOk result (HaveEnded V.faults landscape.old landscape.new 0) }
     ensures lost { is_sent_under letter ≡ false → landscape.new ≡ landscape.old }
+    ensures due { (unit : AleUnit) → committed_unit (model_meaning landscape.old.world.rules.systems) landscape.old.world tid ≡ Some unit → is_due landscape.old.world unit ≡ true
+        → OnOk result (GrewBy landscape.old landscape.new (confirmation letter (forgot landscape.old.world unit) unit)) }
 {
     if !is_sent_under(letter) {
         return Ok(());

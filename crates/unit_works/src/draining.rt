@@ -32,7 +32,8 @@ pub struct Drained<V: Volumes> {
 
 /// Works until nothing is left to do. At first each unit that is done and not ended, with both its systems up, takes a letter, and is
 /// confirmed unless its confirmation is lost. Then the first unit that is offered at each system is shipped under its next letter, and the
-/// first is executed, round by round, until a whole round finds none.
+/// first is executed, round by round, until a whole round finds none. So a drain is a list of such acts, one after the other, and nothing
+/// else: where no system falls in an act, the logs grow in it by exactly its records.
 ///
 /// `OutOfMemory` comes where a request for memory was refused, and after more rounds than there can be. The works before it were done.
 pub fn drain<V: Volumes>(alloc: Global, landscape: Landscape<V>, wires: Wires) -> Drained<V>

@@ -3,14 +3,16 @@
 ghost use Rattle.std.specs.Prelude.{◌≡◌, ◌+◌, List, IsNone, IfOk, IfSome};
 ghost use Rattle.std.specs.Result.{is_ok};
 ghost use Rattle.trfc_protocol.specs.declared.held.Held.{Held};
+ghost use Rattle.unit_landscape.specs.Appending.{HoldsIn};
 ghost use Rattle.landscape.specs.Working.{IsPreparedFor};
 ghost use Rattle.model_rules.specs.Meaning.{model_meaning};
 ghost use Rattle.unit_works.specs.Claims.{AreOrGone};
 ghost use Rattle.unit_works.specs.Events.{is_end};
 ghost use Rattle.unit_works.specs.Finished.{finished_in};
-ghost use Rattle.unit_works.specs.Works.{Worked};
+ghost use Rattle.unit_works.specs.Trips.{NoneFell};
+ghost use Rattle.unit_works.specs.Worked.{Worked};
 ghost use Rattle.unit_works.specs.steps.Claims.{AreWith};
-ghost use Rattle.unit_works.specs.steps.Ending.{IsDownFor, ended_by};
+ghost use Rattle.unit_works.specs.steps.Ending.{HasFinished, IsDownFor, ended_by};
 
 use crate::falls::{Append, Falls};
 use ale_base::{OutOfMemory, Tid};
@@ -32,6 +34,8 @@ pub(crate) fn finish<V: Volumes>(
     ensures finished { IfOk result (λ given. finished_in landscape.new.world ≡ finished_in landscape.old.world + ended_by given) }
     ensures claims { (others : List Held) → AreWith landscape.old.world.claims others claim
         → IfOk result (λ given. AreOrGone landscape.new.world.claims others) }
+    ensures grew { (held : Held) → HoldsIn landscape.old.world claim held
+        → IfOk result (λ given. NoneFell landscape.old.world landscape.new.world → HasFinished (model_meaning landscape.old.world.rules.systems) landscape.old.world landscape.new.world claim held given) }
 {
     let tid = claim.tid();
     let finished = finish_prepared(alloc, landscape, claim)?;
@@ -49,6 +53,8 @@ fn finish_prepared<V: Volumes>(
     ensures finished { IfOk result (λ given. finished_in landscape.new.world ≡ finished_in landscape.old.world + ended_by given) }
     ensures claims { (others : List Held) → AreWith landscape.old.world.claims others claim
         → IfOk result (λ given. AreOrGone landscape.new.world.claims others) }
+    ensures grew { (held : Held) → HoldsIn landscape.old.world claim held
+        → IfOk result (λ given. NoneFell landscape.old.world landscape.new.world → HasFinished (model_meaning landscape.old.world.rules.systems) landscape.old.world landscape.new.world claim held given) }
 {
     match prepared_for(alloc, landscape, claim.tid())? {
         None => Ok(not_finished(landscape, claim)),
@@ -61,6 +67,7 @@ fn not_finished<V: Volumes>(landscape: &Landscape<V>, claim: InClaim) -> Finishe
     requires down { IsDownFor (model_meaning landscape.now.world.rules.systems) landscape.now.world claim.tid }
     ensures finished { ended_by result ≡ 0 }
     ensures claims { (others : List Held) → AreWith landscape.now.world.claims others claim → AreOrGone landscape.now.world.claims others }
+    ensures stands { (held : Held) → HoldsIn landscape.now.world claim held → ⊥ }
 {
     let _ = landscape.world();
     let _number = claim.number();
@@ -78,6 +85,8 @@ fn finish_with<V: Volumes>(
     ensures finished { IfOk result (λ given. finished_in landscape.new.world ≡ finished_in landscape.old.world + ended_by given) }
     ensures claims { (others : List Held) → AreWith landscape.old.world.claims others claim
         → IfOk result (λ given. AreOrGone landscape.new.world.claims others) }
+    ensures grew { (held : Held) → HoldsIn landscape.old.world claim held
+        → IfOk result (λ given. NoneFell landscape.old.world landscape.new.world → HasFinished (model_meaning landscape.old.world.rules.systems) landscape.old.world landscape.new.world claim held given) }
 {
     let _ = landscape.world();
     match landscape.finish(claim, prepared) {

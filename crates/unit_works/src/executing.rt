@@ -5,7 +5,8 @@ ghost use Rattle.std.specs.Result.{is_ok};
 ghost use Rattle.model_rules.specs.Meaning.{model_meaning};
 ghost use Rattle.unit_works.specs.Events.{is_run};
 ghost use Rattle.unit_works.specs.Finished.{finished_in};
-ghost use Rattle.unit_works.specs.Works.{ExecutedAs, NothingIn, Worked};
+ghost use Rattle.unit_works.specs.Worked.{NothingIn, Worked};
+ghost use Rattle.unit_works.specs.Works.{ExecutedAs};
 ghost use Rattle.unit_works.specs.steps.Claiming.{IsExecuted};
 
 use crate::ending::{ended_by, finish};
@@ -17,8 +18,9 @@ use std::alloc::Global;
 use unit_landscape::InClaim;
 
 /// Claims the first unit that is offered inbound at a system, and executes it with what is prepared of its documents: `Some(1)` where it
-/// was executed or failed, and `Some(0)` where the system fell. None exactly where nothing is offered there or the system is down, and then
-/// nothing has changed. After an `Err` a part of it may have happened.
+/// was executed or failed, and `Some(0)` where the system fell. Where it did not fall, its log grows by exactly the record of that: the unit
+/// was executed where its function is offered there, and else failed. None exactly where nothing is offered there or the system is down,
+/// and then nothing has changed. After an `Err` a part of it may have happened.
 pub fn execute_next<V: Volumes>(
     alloc: Global,
     landscape: &mut Landscape<V>,

@@ -1,9 +1,8 @@
 //! What letters let through.
 
 ghost use Rattle.std.specs.Prelude.{◌≡◌};
-ghost use Rattle.unit_works.specs.Events.{arrives_under, is_answered_under, is_confirmed_under, told_of};
+ghost use Rattle.unit_works.specs.Events.{arrives_under, is_answered_under, is_confirmed_under, is_sent_under, told_of};
 ghost use Rattle.unit_works.specs.steps.Arriving.{is_twice};
-ghost use Rattle.unit_works.specs.steps.Rounds.{is_sent_under};
 
 use unit_landscape::Reply;
 use wires::Letter;

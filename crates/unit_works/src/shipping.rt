@@ -1,14 +1,20 @@
 //! Units are claimed and shipped.
 
-ghost use Rattle.std.specs.Prelude.{◌≡◌, ◌≤◌, List, true, IsNone, IfOk, IfSome, OnErr, OnOk};
+ghost use Rattle.std.specs.Prelude.{◌≡◌, ◌≤◌, List, Some, true, IsNone, IfOk, IfSome, OnErr, OnOk};
 ghost use Rattle.std.specs.Result.{is_ok};
+ghost use Rattle.unit_core.specs.declared.ale_unit.AleUnit.{AleUnit};
 ghost use Rattle.trfc_protocol.specs.declared.held.Held.{Held};
+ghost use Rattle.trfc_protocol.specs.Offered.{answer_to};
+ghost use Rattle.trfc_protocol.specs.Worlds.{committed_unit};
 ghost use Rattle.unit_landscape.specs.Calls.{stands_out};
 ghost use Rattle.model_rules.specs.Meaning.{model_meaning};
+ghost use Rattle.unit_works.specs.Acts.{GrewBy};
 ghost use Rattle.unit_works.specs.Claims.{AreOrGone};
 ghost use Rattle.unit_works.specs.Events.{is_claim, is_shipping};
 ghost use Rattle.unit_works.specs.Finished.{finished_in};
-ghost use Rattle.unit_works.specs.Works.{NothingOut, ShippedAs, Worked};
+ghost use Rattle.unit_works.specs.Trips.{shipment};
+ghost use Rattle.unit_works.specs.Worked.{NothingOut, Worked};
+ghost use Rattle.unit_works.specs.Works.{ShippedAs};
 ghost use Rattle.unit_works.specs.steps.Arriving.{IsAnswered};
 ghost use Rattle.unit_works.specs.steps.Claiming.{IsShipped};
 ghost use Rattle.unit_works.specs.steps.Claims.{AreWithOut};
@@ -25,8 +31,9 @@ use unit_landscape::{OutClaim, Reply};
 use wires::{Letter, Wires};
 
 /// Claims the first unit that is offered outbound at a system, and ships it whole under its next letter: it arrives, and a run of it ends;
-/// its sender learns of the answer; and where it is done then, it is confirmed. How many runs ended. None exactly where nothing is offered
-/// there or the system is down, and then nothing has changed. After an `Err` a part of it may have happened.
+/// its sender learns of the answer; and where it is done then, it is confirmed. Where no system falls, the logs grow by exactly the records
+/// of that, as the receiver would answer before. How many runs ended. None exactly where nothing is offered there or the system is down,
+/// and then nothing has changed. After an `Err` a part of it may have happened.
 pub fn ship_next<V: Volumes>(
     alloc: Global,
     landscape: &mut Landscape<V>,
@@ -85,7 +92,10 @@ fn ship<V: Volumes>(
     ensures finished { IfOk result (IsAnswered landscape.old.world landscape.new.world) }
     ensures claims { (others : List Held) → AreWithOut landscape.old.world.claims others claim
         → OnOk result (AreOrGone landscape.new.world.claims others) }
+    ensures grew { (unit : AleUnit) → committed_unit (model_meaning landscape.old.world.rules.systems) landscape.old.world claim.tid ≡ Some unit
+        → OnOk result (GrewBy landscape.old landscape.new (shipment letter (answer_to (model_meaning landscape.old.world.rules.systems) landscape.old.world unit) unit)) }
 {
+    let _ = landscape.world();
     let tid = claim.tid();
     let answered = deliver(alloc, landscape, falls, &claim, letter)?;
     let Answered { given, finished } = answered;

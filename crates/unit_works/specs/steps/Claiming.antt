@@ -2,7 +2,9 @@
 use Rattle.std.specs.Prelude.{◌≡◌, ℕ, true, [], ◌∷◌, ◌++◌, None, Some}
 use Rattle.ale_base.specs.declared.way.Way.TheVariants.{Outgoing, Incoming}
 use Rattle.trfc_protocol.specs.Meaning.{Meaning}
-use Rattle.trfc_protocol.specs.Worlds.{claim_of}
+use Rattle.trfc_protocol.specs.Offered.{answer_to, offers_received_now}
+use Rattle.trfc_protocol.specs.Worlds.{claim_of, committed_unit}
+use Rattle.unit_core.specs.declared.ale_unit.AleUnit.{AleUnit}
 use Rattle.kept_world.specs.Answers.{first_to_go}
 use Rattle.trfc_protocol.specs.declared.held.Held.{Held}
 use Rattle.trfc_protocol.specs.declared.held.HeldKind.TheVariants.{In}
@@ -10,6 +12,7 @@ use Rattle.trfc_protocol.specs.declared.world.World.{World}
 use Rattle.unit_landscape.specs.declared.claims.OutClaim.{OutClaim}
 use Rattle.unit_landscape.specs.declared.claims.InClaim.{InClaim}
 use Rattle.unit_landscape.specs.Calls.{stands_out}
+use Rattle.unit_works.specs.Trips.{HaveGrown, may_execute, may_ship}
 use Rattle.unit_works.specs.steps.Claims.{out_held}
 
 -- the first unit that is offered outbound at a system was claimed to be shipped, and no other
@@ -18,6 +21,11 @@ pub record IsShipped {R : Type 0} (rules : Meaning) (before after : World R) (sy
   pub stands : stands_out after claim ≡ true
   pub claims : after.claims ≡ before.claims ++ out_held claim ∷ []
   pub fresh : claim_of claim.number before.claims ≡ None
+  pub unit : AleUnit
+  pub committed : committed_unit rules before claim.tid ≡ Some unit
+  pub may : may_ship rules before claim.tid ≡ true
+  pub answers : answer_to rules after unit ≡ answer_to rules before unit
+  pub grew : HaveGrown before after []
 
 -- a claim to execute a unit that was taken in, as a world keeps it
 abbrev pub in_held : InClaim → Held
@@ -28,3 +36,7 @@ pub record IsExecuted {R : Type 0} (rules : Meaning) (before after : World R) (s
   pub first : first_to_go rules before system Incoming ≡ Some claim.tid
   pub claims : after.claims ≡ before.claims ++ in_held claim ∷ []
   pub fresh : claim_of claim.number before.claims ≡ None
+  pub here : claim.system ≡ system
+  pub may : may_execute before system claim.tid ≡ true
+  pub offers : offers_received_now rules after system claim.tid ≡ offers_received_now rules before system claim.tid
+  pub grew : HaveGrown before after []

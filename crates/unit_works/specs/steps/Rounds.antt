@@ -1,10 +1,8 @@
 -- Rounds of all systems.
-use Rattle.std.specs.Prelude.{◌≤◌, ◌+◌, ℕ, Bool, true, false, Option, Some, None}
+use Rattle.std.specs.Prelude.{◌≤◌, ◌+◌, ℕ, Option, Some, None}
 use Rattle.trfc_protocol.specs.declared.world.World.{World}
 use Rattle.model_rules.specs.declared.model_rules.ModelRules.{ModelRules}
-use Rattle.wires.specs.declared.letter.Letter.{Letter}
-use Rattle.wires.specs.declared.letter.Letter.TheVariants.{LostConfirmation}
-use Rattle.unit_works.specs.Works.{NothingIn, NothingOut}
+use Rattle.unit_works.specs.Worked.{NothingIn, NothingOut}
 
 -- nothing is offered at a system
 abbrev pub NothingAt : World ModelRules → ℕ → Type 0
@@ -19,8 +17,3 @@ abbrev pub joined : Option ℕ → Option ℕ → Option ℕ
 joined None there = there
 joined (Some n) None = Some n
 joined (Some n) (Some m) = Some (n + m)
-
--- whether the confirmation of a unit that was done before is sent under its letter
-abbrev pub is_sent_under : Letter → Bool
-is_sent_under LostConfirmation = false
-is_sent_under _ = true

@@ -1,6 +1,8 @@
-use Rattle.std.proofs.Common.{true, refl}
+use Rattle.std.proofs.Common.{true, refl, subst}
 use Rattle.unit_works.specs.Events.{is_end}
-use Rattle.unit_works.proofs.WorkedLemmas.{still}
+use Rattle.unit_works.specs.steps.Arriving.{ClaimsAre, Tells, run_held}
+use Rattle.unit_works.proofs.TripLemmas.{answered-run, run-holds}
+use Rattle.unit_works.proofs.WorkedLemmas.{meaning, still}
 use Rattle.unit_works.proofs.answering.answer_of.Goals as goal
 
 pub returns-in-New-clause-went : goal.returns-in-New-clause-went
@@ -17,3 +19,13 @@ returns-in-SysFail-clause-went g c = still g.V.Volumes.faults is_end true c.args
 
 pub returns-in-Down-clause-went : goal.returns-in-Down-clause-went
 returns-in-Down-clause-went g c = still g.V.Volumes.faults is_end true c.args.landscape.now c.args.landscape.now refl
+
+pub returns-in_ok-finished-in-Run-clause-grew : goal.returns-in_ok-finished-in-Run-clause-grew
+returns-in_ok-finished-in-Run-clause-grew g c = λ unit given others named tells claims none.
+    let told = subst (Tells given unit) c.in-Run.is tells in
+    let are = subst (ClaimsAre c.args.landscape.now.world.claims others) c.in-Run.is claims in
+    answered-run (meaning c.args.landscape.now.world.rules) c.args.landscape.now.world unit given others c.in-Run.claim told are named
+    c.finish.new.landscape.world c.in_ok-finished-in-Run.finished c.after_run.result.given
+    (c.in_ok-finished-in-Run.ensures.grew (run_held c.in-Run.claim)
+    (run-holds (meaning c.args.landscape.now.world.rules) c.args.landscape.now.world unit given others c.in-Run.claim told are) none)
+    c.after_run.ensures.says

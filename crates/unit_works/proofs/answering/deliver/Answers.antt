@@ -1,7 +1,8 @@
 use Rattle.std.specs.Result.{is_ok}
 use Rattle.std.proofs.Common.{true, false, refl, sym, ◌∙◌}
+use Rattle.unit_works.specs.declared.answering.Answered.{Answered}
 use Rattle.unit_works.specs.Events.{is_arrival, is_delivery, is_end}
-use Rattle.unit_works.proofs.WorkedLemmas.{arrival-delivers, end-delivers, on, short-of, still, wider}
+use Rattle.unit_works.proofs.WorkedLemmas.{arrival-delivers, delivered, end-delivers, on, short-of, still, wider}
 use Rattle.unit_works.proofs.answering.deliver.Goals as goal
 
 pub returns-in_err-arrival-clause-went : goal.returns-in_err-arrival-clause-went
@@ -21,3 +22,10 @@ returns-clause-went g c =
 
 pub returns-then-not-arrives_under-clause-went : goal.returns-then-not-arrives_under-clause-went
 returns-then-not-arrives_under-clause-went g c = still g.V.Volumes.faults (is_delivery c.args.letter) true c.args.landscape.now c.args.landscape.now refl
+
+pub returns-clause-grew : goal.returns-clause-grew
+returns-clause-grew g c =
+    delivered g.V.Volumes.faults c.args.landscape.now c.arrive_under.new.landscape c.answer_of.new.landscape c.args.claim.now c.args.letter
+    c.in_ok-arrival.arrival c.answer_of.result (λ (answered : Answered). answered.given) c.world.ensures.safe
+    (sym c.arrives_under.ensures ∙ c.if-not-arrives_under.false) c.in_ok-arrival.ensures.went c.answer_of.ensures.went c.in_ok-arrival.ensures.grew
+    c.answer_of.ensures.grew

@@ -1,6 +1,6 @@
 use Rattle.std.proofs.lemmas.Result.{IfOk-weaker}
 use Rattle.unit_landscape.specs.Calls.{Arrived}
-use Rattle.unit_works.proofs.ArrivingLemmas.{again-arrived, arrives-committed, arrives-may, begins-none, claims-arrived, finished-arrived, went-arrived}
+use Rattle.unit_works.proofs.ArrivingLemmas.{again-arrived, arrives-committed, arrives-may, begins-none, claims-arrived, finished-arrived, has-arrived, went-arrived}
 use Rattle.unit_works.proofs.WorkedLemmas.{meaning, is_lawful, ok-of}
 use Rattle.unit_works.proofs.arriving.arrive.Goals as goal
 
@@ -43,3 +43,9 @@ returns-clause-again g c =
     c.arrive.ensures.event
     (again-arrived meaning is_lawful c.args.landscape.now c.world.ensures.safe c.args.claim.now c.args.unit.now c.requires.stands c.requires.committed
     g.V.Volumes.faults c.arrive.new.self)
+
+pub returns-clause-grew : goal.returns-clause-grew
+returns-clause-grew g c =
+    IfOk-weaker c.arrive.result _ _
+    (has-arrived meaning is_lawful c.args.landscape.now c.world.ensures.safe c.args.claim.now c.args.unit.now c.requires.stands c.requires.committed
+    g.V.Volumes.faults c.arrive.new.self) c.arrive.ensures.event

@@ -1,7 +1,7 @@
 use Rattle.std.specs.Result.{is_ok}
 use Rattle.std.proofs.Common.{true, false, refl}
 use Rattle.unit_works.specs.Events.{is_arrival}
-use Rattle.unit_works.proofs.WorkedLemmas.{left-on, on, short-of, still}
+use Rattle.unit_works.proofs.WorkedLemmas.{arrived-on, left-on, on, short-of, still}
 use Rattle.unit_works.proofs.arriving.arrive_under.Goals as goal
 
 pub returns-in_err-arrive_again-clause-went : goal.returns-in_err-arrive_again-clause-went
@@ -23,3 +23,9 @@ returns-clause-claims g c =
 
 pub returns-in_err-unit-clause-went : goal.returns-in_err-unit-clause-went
 returns-in_err-unit-clause-went g c = still g.V.Volumes.faults is_arrival (is_ok c.from_residual.result) c.args.landscape.now c.args.landscape.now refl
+
+pub returns-clause-grew : goal.returns-clause-grew
+returns-clause-grew g c =
+    arrived-on g.V.Volumes.faults c.args.landscape.now c.arrive.new.landscape c.arrive_again.new.landscape c.args.claim.now.tid c.in_ok-unit.unit
+    c.in_ok-first.first c.in_ok-first.ensures.went c.in_ok-arrive_again.ensures.went c.in_ok-unit.ensures c.in_ok-first.ensures.grew
+    c.in_ok-arrive_again.ensures.grew

@@ -1,7 +1,7 @@
 use Rattle.std.proofs.Common.{arith}
 use Rattle.std.proofs.lemmas.Result.{IfOk-weaker}
 use Rattle.unit_landscape.specs.Calls.{ConfirmedAs}
-use Rattle.unit_works.proofs.ConfirmingLemmas.{claims-confirmed, finished-confirmed, forgets-confirmed, went-confirmed}
+use Rattle.unit_works.proofs.ConfirmingLemmas.{claims-confirmed, finished-confirmed, forgets-confirmed, has-sent, went-confirmed}
 use Rattle.unit_works.proofs.WorkedLemmas.{meaning, is_lawful, ok-of}
 use Rattle.unit_works.proofs.confirming.send.Goals as goal
 
@@ -27,4 +27,10 @@ pub returns-clause-forgets : goal.returns-clause-forgets
 returns-clause-forgets g c =
     IfOk-weaker c.confirm.result _ _
     (forgets-confirmed meaning is_lawful g.V.Volumes.faults c.args.landscape.now c.confirm.new.self c.world.ensures.safe c.args.tid c.requires.done)
+    c.confirm.ensures.event
+
+pub returns-clause-sent : goal.returns-clause-sent
+returns-clause-sent g c = λ unit named up.
+    IfOk-weaker c.confirm.result _ _
+    (has-sent meaning is_lawful g.V.Volumes.faults c.args.landscape.now c.confirm.new.self c.world.ensures.safe c.args.tid c.requires.done unit named up)
     c.confirm.ensures.event

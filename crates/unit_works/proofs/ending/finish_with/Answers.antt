@@ -2,8 +2,8 @@ use Rattle.std.specs.Prelude.{Err, IfOk}
 use Rattle.std.proofs.Common.{◌≡◌, ◌+◌, ap, subst, ◌∙◌}
 use Rattle.unit_works.specs.Claims.{AreOrGone}
 use Rattle.unit_works.specs.Finished.{finished_in}
-use Rattle.unit_works.specs.steps.Ending.{ended_by, ended_of}
-use Rattle.unit_works.proofs.EndingLemmas.{claims-finished, finished-finished, went-finished, went-finished_short}
+use Rattle.unit_works.specs.steps.Ending.{HasFinished, ended_by, ended_of}
+use Rattle.unit_works.proofs.EndingLemmas.{claims-finished, finished-finished, has-finished, went-finished, went-finished_short}
 use Rattle.unit_works.proofs.WorkedLemmas.{meaning, is_lawful}
 use Rattle.unit_works.proofs.ending.finish_with.Goals as goal
 
@@ -39,3 +39,17 @@ pub returns-in-Err-OutOfMemory-clause-went : goal.returns-in-Err-OutOfMemory-cla
 returns-in-Err-OutOfMemory-clause-went g c =
     went-finished_short meaning is_lawful c.args.landscape.now c.world.ensures.safe c.args.claim g.V.Volumes.faults c.finish.new.self
     c.finish.result c.finish.ensures.ends
+
+pub returns-in-Ok-clause-grew : goal.returns-in-Ok-clause-grew
+returns-in-Ok-clause-grew g c = λ held holds none.
+    subst (λ r. IfOk (ended_of r) (λ given. HasFinished (meaning c.args.landscape.now.world.rules) c.args.landscape.now.world c.finish.new.self.world
+    c.args.claim held given)) c.in-Ok.is
+    (has-finished meaning is_lawful c.args.landscape.now c.world.ensures.safe c.args.claim g.V.Volumes.faults c.finish.new.self held holds c.finish.result
+    c.finish.ensures.ends none)
+
+pub returns-in-Err-Stale-clause-grew : goal.returns-in-Err-Stale-clause-grew
+returns-in-Err-Stale-clause-grew g c = λ held holds none.
+    subst (λ r. IfOk (ended_of r) (λ given. HasFinished (meaning c.args.landscape.now.world.rules) c.args.landscape.now.world c.finish.new.self.world
+    c.args.claim held given)) (c.in-Err-Stale.is ∙ ap Err c.in-Err-Stale.field-0-is)
+    (has-finished meaning is_lawful c.args.landscape.now c.world.ensures.safe c.args.claim g.V.Volumes.faults c.finish.new.self held holds c.finish.result
+    c.finish.ensures.ends none)

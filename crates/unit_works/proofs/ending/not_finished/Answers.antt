@@ -1,4 +1,5 @@
 use Rattle.std.proofs.Common.{inr}
+use Rattle.unit_landscape.proofs.FinishingLemmas.{in-stands}
 use Rattle.unit_works.proofs.EndingLemmas.{stands-up, with-gone}
 use Rattle.unit_works.proofs.WorkedLemmas.{meaning, is_lawful}
 use Rattle.unit_works.proofs.ending.not_finished.Goals as goal
@@ -7,3 +8,8 @@ pub returns-clause-claims : goal.returns-clause-claims
 returns-clause-claims g c = λ others with.
     inr (with-gone meaning is_lawful c.args.landscape.now c.world.ensures.safe c.args.claim others with
     (λ stands. stands-up meaning is_lawful c.args.landscape.now c.world.ensures.safe c.args.claim stands c.requires.down))
+
+pub returns-clause-stands : goal.returns-clause-stands
+returns-clause-stands g c = λ held holds.
+    stands-up meaning is_lawful c.args.landscape.now c.world.ensures.safe c.args.claim (in-stands c.args.landscape.now.world c.args.claim held holds)
+    c.requires.down

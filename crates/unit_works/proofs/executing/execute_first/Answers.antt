@@ -25,4 +25,5 @@ returns g c =
     c.in-Some.is c.in_ok-claim.ensures.claim in
     executed g.V.Volumes.faults c.args.landscape.now c.claim_next.new.landscape c.finish.new.landscape c.args.system c.in-Some.claim c.in_ok-finished.finished
     c.in_ok-claim.ensures.went c.claim_next.ensures.finished is c.in_ok-finished.ensures.went c.in_ok-finished.ensures.finished c.in_ok-finished.ensures.claims
+    c.in_ok-finished.ensures.grew
     c.ended_by.result c.ended_by.ensures

@@ -4,7 +4,7 @@ use Rattle.document_tables.specs.declared.document_tables.DocumentTables.{Docume
 use Rattle.model_rules.specs.declared.model_rules.ModelRules.{ModelRules}
 use Rattle.unit_works.specs.Drained.{Found}
 use Rattle.unit_works.specs.Events.{is_work}
-use Rattle.unit_works.specs.Works.{NothingIn, NothingOut}
+use Rattle.unit_works.specs.Worked.{NothingIn, NothingOut}
 use Rattle.unit_works.specs.steps.Rounds.{NothingAt}
 use Rattle.unit_works.proofs.DrainedLemmas.{executed-found, executed-went, found-on, found-short, found-went, shipped-found}
 use Rattle.unit_works.proofs.WorkedLemmas.{on}

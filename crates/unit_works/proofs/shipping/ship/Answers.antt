@@ -1,6 +1,6 @@
 use Rattle.std.proofs.Common.{true, false}
 use Rattle.unit_works.specs.Events.{is_shipping}
-use Rattle.unit_works.proofs.WorkedLemmas.{ships-confirmed, ships-delivered, ships-replied, short-of}
+use Rattle.unit_works.proofs.WorkedLemmas.{ships-confirmed, ships-delivered, ships-replied, shipped-grew, short-of}
 use Rattle.unit_works.proofs.shipping.ship.Goals as goal
 
 pub returns-in_err-answered-clause-went : goal.returns-in_err-answered-clause-went
@@ -28,3 +28,10 @@ returns-clause-went g c =
     ships-confirmed g.V.Volumes.faults c.args.letter true c.args.landscape.now c.reply.new.landscape c.confirm_under.new.landscape
     (ships-replied g.V.Volumes.faults c.args.letter true c.args.landscape.now c.deliver.new.landscape c.reply.new.landscape c.in_ok-answered.answered.given
     c.told_under-told.result c.told_under-told.ensures c.in_ok-answered.ensures.went c.in_ok-reply.ensures.went) c.in_ok-confirm_under.ensures.went
+
+pub returns-clause-grew : goal.returns-clause-grew
+returns-clause-grew g c =
+    shipped-grew g.V.Volumes.faults c.args.landscape.now c.deliver.new.landscape c.reply.new.landscape c.confirm_under.new.landscape c.args.claim c.args.letter
+    c.in_ok-answered.answered.given c.told_under-told.result c.tid-tid.result c.world.ensures.safe c.requires.stands c.told_under-told.ensures c.tid-tid.ensures
+    c.in_ok-answered.ensures.went c.in_ok-reply.ensures.went c.in_ok-confirm_under.ensures.went c.in_ok-answered.ensures.grew c.in_ok-reply.ensures.grew
+    c.in_ok-confirm_under.ensures.due c.confirm_under.ensures.same

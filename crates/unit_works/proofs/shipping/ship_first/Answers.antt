@@ -30,4 +30,4 @@ returns g c =
     c.in-Some.claim
     c.tid.result c.take-letter.result c.in_ok-finished.finished
     c.in_ok-claim.ensures.went c.claim_next.ensures.finished is c.tid.ensures c.take-letter.ensures.letter c.take-letter.ensures.rest
-    c.in_ok-finished.ensures.went c.in_ok-finished.ensures.finished c.in_ok-finished.ensures.claims
+    c.in_ok-finished.ensures.went c.in_ok-finished.ensures.finished c.in_ok-finished.ensures.claims c.in_ok-finished.ensures.grew

@@ -1,0 +1,118 @@
+-- What acts append to the logs: a unit is shipped under a letter, executed at its receiver, or confirmed under a letter.
+use Rattle.std.specs.Prelude.{◌≡◌, ℕ, Bool, true, false, not, ◌==◌, ◌&&◌, Option, Some, None, List, [], ◌∷◌, ◌++◌, map, filter, if◌then◌else◌}
+use Rattle.ale_base.specs.Tid.{TidOf}
+use Rattle.ale_base.specs.declared.mark.Mark.TheVariants.{Cpicerr, Sysfail}
+use Rattle.unit_core.specs.declared.ale_unit.AleUnit.{AleUnit}
+use Rattle.unit_core.specs.declared.records.Record.{Record}
+use Rattle.unit_core.specs.declared.records.Record.TheVariants.{Accept, Direct, Execute, Fail, Done, Mark, Forget, Ended}
+use Rattle.unit_core.specs.Filters.{received, forgotten_in}
+use Rattle.unit_core.specs.Queues.{is_listed, unit_named}
+use Rattle.system_tables.specs.OfLog.{is_unconfirmed}
+use Rattle.trfc_protocol.specs.declared.world.World.{World}
+use Rattle.trfc_protocol.specs.declared.answer.Answer.{Answer}
+use Rattle.trfc_protocol.specs.declared.answer.Answer.TheVariants as answer
+use Rattle.trfc_protocol.specs.declared.event.CoreAnswer.{CoreAnswer}
+use Rattle.trfc_protocol.specs.declared.event.CoreAnswer.TheVariants as reply
+use Rattle.trfc_protocol.specs.Meaning.{Meaning}
+use Rattle.trfc_protocol.specs.Worlds.{is_up, log_of, committed_by, committed_unit}
+use Rattle.trfc_protocol.specs.Legal.{is_free_outbound, is_free_inbound}
+use Rattle.trfc_protocol.specs.Offered.{answer_to, is_stopped_outbound, is_stopped_inbound, may_move}
+use Rattle.trfc_protocol.specs.RecordOf.{Writing}
+use Rattle.wires.specs.declared.letter.Letter.{Letter}
+use Rattle.unit_works.specs.Events.{arrives_under, is_answered_under, is_confirmed_under, is_sent_under}
+
+-- the records that come to a system's log, in order, of those that are appended
+abbrev pub records_at : ℕ → List Writing → List Record
+records_at system added = map (λ (it : Writing). it.next) (filter (λ (it : Writing). it.system == system) added)
+
+-- each log is the one before with its records behind it
+abbrev pub HaveGrown : {R : Type 0} → World R → World R → List Writing → Type 0
+HaveGrown before after added = (system : ℕ) → log_of after system ≡ log_of before system ++ records_at system added
+
+-- no system fell: each that was up is up
+abbrev pub NoneFell : {R : Type 0} → World R → World R → Type 0
+NoneFell before after = (system : ℕ) → is_up before system ≡ true → is_up after system ≡ true
+
+-- one record more at a system
+abbrev pub one_at : ℕ → Record → List Writing
+one_at system next = record { system = system; next = next } ∷ []
+
+-- what a receiver appends as a unit arrives that it answers so: it takes the unit in, or takes it in and executes it in one record, or has
+-- it, is busy with it, or can't execute it
+abbrev pub taken_in : Answer → AleUnit → List Writing
+taken_in answer.New unit = one_at unit.receiver (Accept unit)
+taken_in answer.Run unit = one_at unit.receiver (Direct unit)
+taken_in _ unit = []
+
+-- what comes back from a receiver that answers so: it has the unit, or can't execute it, or is busy with it; nothing from one that is down
+abbrev pub back_of : Answer → Option CoreAnswer
+back_of answer.New = Some reply.Done
+back_of answer.Run = Some reply.Done
+back_of answer.Known = Some reply.Done
+back_of answer.Busy = Some reply.Busy
+back_of answer.SysFail = Some reply.SysFail
+back_of answer.Down = None
+
+-- what a sender learns of a shipment under a letter: nothing where the request or the reply is lost
+abbrev pub learnt_under : Letter → Answer → Option CoreAnswer
+learnt_under letter given = if is_answered_under letter then back_of given else None
+
+-- what a sender appends: the unit is done; or it is marked, since its receiver can't execute it, or since nothing came back; nothing where
+-- its receiver is busy with it
+abbrev pub noted_of : Option CoreAnswer → TidOf → List Writing
+noted_of (Some reply.Done) tid = one_at tid.system (Done tid)
+noted_of (Some reply.SysFail) tid = one_at tid.system (Mark tid Sysfail)
+noted_of (Some reply.Busy) tid = []
+noted_of None tid = one_at tid.system (Mark tid Cpicerr)
+
+-- whether a sender learns that its unit is done
+abbrev pub is_done : Option CoreAnswer → Bool
+is_done (Some reply.Done) = true
+is_done _ = false
+
+-- what is appended as a unit is confirmed: its receiver forgets the id, and its sender notes that it did
+abbrev pub closing : AleUnit → List Writing
+closing unit = one_at unit.receiver (Forget unit.tid) ++ one_at unit.tid.system (Ended unit.tid)
+
+-- What is appended as a unit is shipped whole under a letter: its receiver takes it in where the request arrives, however often it does;
+-- its sender notes what it learns; and where it is done, its confirmation and the reply to it come, unless the letter loses it.
+abbrev pub shipment : Letter → Answer → AleUnit → List Writing
+shipment letter given unit =
+    (if arrives_under letter then taken_in given unit else [])
+    ++ noted_of (learnt_under letter given) unit.tid
+    ++ (if is_confirmed_under letter && is_done (learnt_under letter given) then closing unit else [])
+
+-- what is appended as a unit is executed: that it was, or that it failed where its receiver does not offer its function
+abbrev pub execution : Bool → ℕ → TidOf → List Writing
+execution offered system tid = one_at system (if offered then Execute tid else Fail tid)
+
+-- What is appended as a unit is confirmed that was done before: its receiver forgets the id, unless it has, and its sender notes that it
+-- did; nothing where the confirmation is lost.
+abbrev pub confirmation : Letter → Bool → AleUnit → List Writing
+confirmation letter forgotten unit =
+    if is_sent_under letter then (if forgotten then [] else one_at unit.receiver (Forget unit.tid)) ++ one_at unit.tid.system (Ended unit.tid) else []
+
+module _ {R : Type 0} (rules : Meaning) (world : World R) where
+  -- a unit may be shipped: its sender is up, it is outstanding and not marked, it heads its outbound queues, and none of them is stopped
+  abbrev pub may_ship : TidOf → Bool
+  may_ship tid =
+      is_up world tid.system
+      && is_free_outbound (committed_by rules world tid.system) (log_of world tid.system) tid
+      && may_move (is_stopped_outbound (log_of world tid.system)) (committed_unit rules world tid)
+
+module _ {R : Type 0} (world : World R) where
+  -- a unit may be executed at a system: it is up, the unit was received, is not executed and not marked, it heads its inbound queues, and
+  -- none of them is stopped
+  abbrev pub may_execute : ℕ → TidOf → Bool
+  may_execute system tid =
+      is_up world system
+      && is_free_inbound (log_of world system) tid
+      && may_move (is_stopped_inbound (log_of world system)) (unit_named tid (received (log_of world system)))
+
+  -- the confirmation of a unit is due: it is done and not ended, and both its systems are up
+  abbrev pub is_due : AleUnit → Bool
+  is_due unit = is_up world unit.tid.system && is_up world unit.receiver && is_unconfirmed unit.tid (log_of world unit.tid.system)
+
+  -- the receiver of a unit has forgotten it
+  abbrev pub forgot : AleUnit → Bool
+  forgot unit = is_listed unit.tid (forgotten_in (log_of world unit.receiver))
