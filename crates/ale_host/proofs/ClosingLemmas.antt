@@ -1,5 +1,5 @@
 -- The last line of a run, and the text of its turns before it.
-use Rattle.std.proofs.Common.{◌≡◌, ◌≢◌, ℕ, ◌+◌, ◌≤◌, List, [], ◌∷◌, ◌++◌, Option, length, take, arith, inl, refl, sym, ap, subst, ◌∙◌, append-nil}
+use Rattle.std.proofs.Common.{◌≡◌, ◌≢◌, ℕ, ◌+◌, ◌<◌, ◌≤◌, List, [], ◌∷◌, ◌++◌, Option, length, take, arith, inl, refl, sym, ap, subst, ◌∙◌, append-nil}
 use Rattle.std.specs.Io.KnownBytes.{Appends}
 use Rattle.std.proofs.KnownBytes.{Appends-trans}
 use Rattle.ale_base.specs.Faults.{Rose}
@@ -105,3 +105,15 @@ full-other system size = λ same. absurd (cc)
 
 pub short-other : end.OutOfMemory ≢ end.WriteFailed
 short-other = λ same. absurd (cc)
+
+none-rose : Rose 0 0 → ⊥
+none-rose rose = let more : 0 < 0 = rose (λ same. omega (arith, same)) in omega (arith, more)
+
+-- where no write can fail none did
+pub none-failed : {V : Type 0} (its : RunEnd) (before after : Option (List ℕ)) (turns : List (Turn V)) → IsPutAt its before after 0 0 turns
+    → its ≢ end.WriteFailed
+none-failed end.Whole before after turns put = λ same. absurd (cc)
+none-failed (end.DownByFault system) before after turns put = fault-other system
+none-failed (end.DownFull system size) before after turns put = full-other system size
+none-failed end.OutOfMemory before after turns put = short-other
+none-failed end.WriteFailed before after turns put = absurd (none-rose put.1.2.rose)

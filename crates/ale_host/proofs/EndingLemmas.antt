@@ -2,7 +2,7 @@
 use Rattle.std.proofs.Common.{◌≡◌, ◌≢◌, ℕ, Some, Result, Ok, Err, List, refl, sym, ap, subst, inl, inr}
 use Rattle.std.specs.Prelude.{IfErr, IfOk}
 use Rattle.ale_io.specs.Told.{Told}
-use Rattle.ale_host.specs.declared.words.Form.TheVariants.{Pass, Run}
+use Rattle.ale_host.specs.declared.words.Form.TheVariants.{Load, Pass, Run}
 use Rattle.ale_host.specs.declared.ending.Ending.{Ending}
 use Rattle.ale_host.specs.declared.ending.Ending.TheVariants as ending
 use Rattle.ale_host.specs.Inputs.{EndsBehindDocuments, EndsBehindModel, EndsRun, SaysDocuments, SaysScript, StopsAtDocuments, StopsAtScript}
@@ -11,6 +11,7 @@ use Rattle.ale_host.specs.declared.inputs.ModelFile.{ModelFile}
 use Rattle.ale_host.specs.declared.prepared.Prepared.{Prepared}
 use Rattle.ale_host.specs.Prepared.{EndsAs, IsBehindDocuments, IsBehindModel, IsRead, SaysModel}
 use Rattle.ale_host.specs.Words.{form_of, document_file, documents_file, model_file, script_file}
+use Rattle.ale_host.specs.Loading.{EndsLoad}
 use Rattle.ale_host.specs.Ending.{IsFile, EndsFile, EndsPass, Ends, IsQuiet, status_of}
 
 pub Ends-pass : (words : List (List ℕ)) (told : List ℕ → Told) (faults : Type 0) (end : Ending) → form_of words ≡ Some Pass
@@ -22,25 +23,31 @@ Ends-pass words told faults (ending.ScriptRefused fault) is_pass ends = inl (is_
 Ends-pass words told faults (ending.Unread name why) is_pass ends = inl (is_pass, ends)
 Ends-pass words told faults ending.OutOfMemory is_pass ends = tt
 Ends-pass words told faults ending.Usage is_pass ends = absurd ends.2
-Ends-pass words told faults ending.LoadNotBuilt is_pass ends = absurd ends.2
 
 -- a run of files whose names are these words ends so
 pub Ends-run : (words : List (List ℕ)) (told : List ℕ → Told) (faults : Type 0) (end : Ending) → form_of words ≡ Some Run
     → EndsRun told faults (model_file words) (documents_file words) (script_file words) end → Ends words told faults end
-Ends-run words told faults (ending.Passed documents) is_run ends = inr (is_run, ends)
-Ends-run words told faults (ending.ModelRefused fault) is_run ends = inr (is_run, ends)
-Ends-run words told faults (ending.Refused fault) is_run ends = inr (is_run, ends)
-Ends-run words told faults (ending.ScriptRefused fault) is_run ends = inr (is_run, ends)
-Ends-run words told faults (ending.Unread name why) is_run ends = inr (is_run, ends)
+Ends-run words told faults (ending.Passed documents) is_run ends = inr (inl (is_run, ends))
+Ends-run words told faults (ending.ModelRefused fault) is_run ends = inr (inl (is_run, ends))
+Ends-run words told faults (ending.Refused fault) is_run ends = inr (inl (is_run, ends))
+Ends-run words told faults (ending.ScriptRefused fault) is_run ends = inr (inl (is_run, ends))
+Ends-run words told faults (ending.Unread name why) is_run ends = inr (inl (is_run, ends))
 Ends-run words told faults ending.OutOfMemory is_run ends = tt
 Ends-run words told faults ending.Usage is_run ends = elim ends [
   | inl stops ↦ absurd stops
   | inr (lists, says, behind) ↦ elim behind [ inl stops ↦ absurd stops | inr (all, documents, last) ↦ absurd last ]
 ]
-Ends-run words told faults ending.LoadNotBuilt is_run ends = elim ends [
-  | inl stops ↦ absurd stops
-  | inr (lists, says, behind) ↦ elim behind [ inl stops ↦ absurd stops | inr (all, documents, last) ↦ absurd last ]
-]
+
+-- a load of so many masters ends so
+pub Ends-load : (words : List (List ℕ)) (told : List ℕ → Told) (faults : Type 0) (masters : ℕ) (end : Ending) → form_of words ≡ Some (Load masters)
+    → EndsLoad masters end → Ends words told faults end
+Ends-load words told faults masters (ending.Passed documents) is_load ends = absurd ends
+Ends-load words told faults masters (ending.ModelRefused fault) is_load ends = inr (inr (masters, is_load, ends))
+Ends-load words told faults masters (ending.Refused fault) is_load ends = inr (inr (masters, is_load, ends))
+Ends-load words told faults masters (ending.ScriptRefused fault) is_load ends = inr (inr (masters, is_load, ends))
+Ends-load words told faults masters (ending.Unread name why) is_load ends = absurd ends
+Ends-load words told faults masters ending.OutOfMemory is_load ends = tt
+Ends-load words told faults masters ending.Usage is_load ends = absurd ends
 
 -- a status other than those of a file that is not read, and of memory, comes with no fault of the files
 pub quiet_by_status : (end : Ending) (before after : ℕ) → IsQuiet end before after → status_of end ≢ 5 → status_of end ≢ 9 → after ≡ before
@@ -51,7 +58,6 @@ quiet_by_status (ending.ScriptRefused fault) before after quiet not_5 not_9 = qu
 quiet_by_status (ending.Unread name why) before after quiet not_5 not_9 = absurd (not_5 refl)
 quiet_by_status ending.OutOfMemory before after quiet not_5 not_9 = absurd (not_9 refl)
 quiet_by_status ending.Usage before after quiet not_5 not_9 = quiet
-quiet_by_status ending.LoadNotBuilt before after quiet not_5 not_9 = quiet
 
 -- what follows of the value of an Ok
 pub if_ok : {T E : Type 0} {P Q : T → Type 0} (r : Result T E) → IfOk r P → ((v : T) → P v → Q v) → IfOk r Q
@@ -123,17 +129,18 @@ behind-model before after file documents script prepared kept read = (
 pub is-read : (told : List ℕ → Told) (file : ModelFile) (model documents script : List ℕ) (prepared : Prepared) → SaysModel (told model) file
     → IsBehindModel told file documents script prepared → IsRead told model documents script prepared
 is-read told file model documents script prepared says read = (
-  record {
-    text = file.text;
-    model = file.model;
-    documents = read.0;
-    commands = read.2.0;
-    in_file = says.in_file;
-    says_model = says.says;
-    says_documents = read.1;
-    says_script = read.2.1;
-  },
-  read.2.2,
+  file.text,
+  (
+    file.model,
+    (
+      read.0,
+      (
+        read.2.0,
+        record { in_file = says.in_file; says_model = says.says; says_documents = read.1; says_script = read.2.1 },
+        read.2.2,
+      ),
+    ),
+  ),
 )
 
 -- an ending that is printed, or want of memory in its place, is one of these words

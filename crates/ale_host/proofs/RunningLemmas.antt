@@ -1,6 +1,7 @@
 -- A run from the systems that were opened on.
 
-use Rattle.std.proofs.Common.{◌≡◌, ℕ, suc, Option, None, Some, Ok, List, [], ◌∷◌, map, refl, ap, subst, ◌∙◌}
+use Rattle.std.proofs.Common.{◌≡◌, ℕ, suc, Option, None, Some, Ok, List, [], ◌∷◌, ◌++◌, map, inr, refl, ap, subst, ◌∙◌}
+use Rattle.std.specs.Arc.{arc_value}
 use Rattle.said_models.specs.Said.{said, of_answer}
 use Rattle.model_text.specs.Text.{answer_to}
 use Rattle.dist_model.specs.declared.lists.Lists.{Lists}
@@ -14,7 +15,11 @@ use Rattle.model_rules.specs.declared.model_rules.ModelRules.{ModelRules}
 use Rattle.landscape.specs.Opened.{HasOpened}
 use Rattle.runs.specs.Run.{down_from, first_down}
 use Rattle.runs.specs.declared.inputs.Inputs.{Inputs}
-use Rattle.ale_host.specs.Running.{Disk, RanFrom, RunsTo}
+use Rattle.idoc_file.specs.declared.raw_doc.RawDoc.{RawDoc}
+use Rattle.ale_io.specs.Told.{Told}
+use Rattle.ale_host.specs.declared.running.Report.{Report}
+use Rattle.ale_host.specs.declared.running.Report.TheVariants.{Commands, Counts}
+use Rattle.ale_host.specs.Running.{AskFor, Disk, Opened, RanFrom, RunsTo}
 
 -- a text that is answered by a model says it
 pub said-of : (text : List ℕ) (model : Lists) → answer_to text ≡ Ok model → said text ≡ Some model
@@ -32,22 +37,52 @@ opened-up many text set now opened = ap first_down opened.world ∙ all_up 1 (ge
 
 -- what a run has is what its files say
 pub runs-said : {V : Type 0} (disk : Disk V) (text text_said : List ℕ) (model model_said : Lists) (masters masters_said : List RawUnitDoc)
-    (commands commands_said : List Command) (before after : V) (clock : Type 0) (given given_after : List ℕ) (status : ℕ) (printed sure : List ℕ)
+    (commands commands_said : List Command) (before after : V) (report : Report) (clock : Type 0) (given given_after : List ℕ) (status : ℕ) (printed sure : List ℕ)
     → text ≡ text_said → model ≡ model_said → masters ≡ masters_said → commands ≡ commands_said
-    → RunsTo disk text model masters commands before after clock given given_after status printed sure
-    → RunsTo disk text_said model_said masters_said commands_said before after clock given given_after status printed sure
-runs-said disk text text_said model model_said masters masters_said commands commands_said before after clock given given_after status printed sure
+    → RunsTo disk text model masters commands before after report clock given given_after status printed sure
+    → RunsTo disk text_said model_said masters_said commands_said before after report clock given given_after status printed sure
+runs-said disk text text_said model model_said masters masters_said commands commands_said before after report clock given given_after status printed sure
     texts models all_masters all_commands runs =
-    subst (λ c. RunsTo disk text_said model_said masters_said c before after clock given given_after status printed sure) all_commands
-    (subst (λ m. RunsTo disk text_said model_said m commands before after clock given given_after status printed sure) all_masters
-    (subst (λ l. RunsTo disk text_said l masters commands before after clock given given_after status printed sure) models
-    (subst (λ t. RunsTo disk t model masters commands before after clock given given_after status printed sure) texts runs)))
+    subst (λ c. RunsTo disk text_said model_said masters_said c before after report clock given given_after status printed sure) all_commands
+    (subst (λ m. RunsTo disk text_said model_said m commands before after report clock given given_after status printed sure) all_masters
+    (subst (λ l. RunsTo disk text_said l masters commands before after report clock given given_after status printed sure) models
+    (subst (λ t. RunsTo disk t model masters commands before after report clock given given_after status printed sure) texts runs)))
 
 -- the same of what was carried out
-pub from-said : {V : Type 0} (disk : Disk V) (model model_said : Lists) (inputs : Inputs) (commands commands_said : List Command)
+pub from-said : {V : Type 0} (disk : Disk V) (report : Report) (model model_said : Lists) (inputs : Inputs) (commands commands_said : List Command)
     (begun : KeptOf ModelRules DocumentTables V) (after : V) (clock : Type 0) (given given_after : List ℕ) (status : ℕ) (printed sure : List ℕ)
-    → model ≡ model_said → commands ≡ commands_said → RanFrom disk model inputs commands begun after clock given given_after status printed sure
-    → RanFrom disk model_said inputs commands_said begun after clock given given_after status printed sure
-from-said disk model model_said inputs commands commands_said begun after clock given given_after status printed sure models all_commands from =
-    subst (λ c. RanFrom disk model_said inputs c begun after clock given given_after status printed sure) all_commands
-    (subst (λ l. RanFrom disk l inputs commands begun after clock given given_after status printed sure) models from)
+    → model ≡ model_said → commands ≡ commands_said → RanFrom disk report model inputs commands begun after clock given given_after status printed sure
+    → RanFrom disk report model_said inputs commands_said begun after clock given given_after status printed sure
+from-said disk report model model_said inputs commands commands_said begun after clock given given_after status printed sure models all_commands from =
+    subst (λ c. RanFrom disk report model_said inputs c begun after clock given given_after status printed sure) all_commands
+    (subst (λ l. RanFrom disk report l inputs commands begun after clock given given_after status printed sure) models from)
+
+-- what is carried out is by the model that its text says
+pub asks-said : (words : List (List ℕ)) (told : List ℕ → Told) (report : Report) (text : List ℕ) (model : Lists) (documents : List RawDoc)
+    (commands : List Command) → AskFor words told report text model documents commands → answer_to text ≡ Ok model
+asks-said words told Commands text model documents commands asks = asks.1.says_model
+asks-said words told Counts text model documents commands asks = ap answer_to asks.2 ∙ asks.3.says_model
+
+-- a run from the systems that were opened
+pub ran-from : {V : Type 0} (disk : Disk V) (text : List ℕ) (model : Lists) (masters : List RawUnitDoc) (commands commands_then : List Command)
+    (before after : V) (report report_then : Report) (clock : Type 0) (given given_then given_after : List ℕ) (status : ℕ) (printed sure : List ℕ)
+    (moment : ℕ)
+    (begun : KeptOf ModelRules DocumentTables V) (inputs : Inputs) → Opened disk text model masters commands before after moment begun
+    → arc_value inputs.model ≡ model → inputs.masters ≡ masters → (clock → given_then ≡ given ++ moment ∷ []) → commands_then ≡ commands
+    → report_then ≡ report → RanFrom disk report_then (arc_value inputs.model) inputs commands_then begun after clock given_then given_after status printed sure
+    → RunsTo disk text model masters commands before after report clock given given_after status printed sure
+ran-from disk text model masters commands commands_then before after report report_then clock given given_then given_after status printed sure moment begun inputs
+    opened names masters_are asked same reports from =
+    inr (record {
+      moment = moment;
+      begun = begun;
+      opened = opened;
+      inputs = inputs;
+      names = names;
+      masters_are = masters_are;
+      given_then = given_then;
+      asked = asked;
+      from = subst (λ its. RanFrom disk its model inputs commands begun after clock given_then given_after status printed sure) reports
+          (from-said disk report_then (arc_value inputs.model) model inputs commands_then commands begun after clock given_then given_after status printed sure
+          names same from);
+    })

@@ -1,7 +1,8 @@
 -- Words of a command line, by their count.
 use Rattle.std.specs.Prelude.{codes}
+use Rattle.std.specs.Option.{option_map}
 use Rattle.ale_base.specs.Text.{is_text}
-use Rattle.std.proofs.Common.{◌≡◌, ℕ, zero, suc, Bool, true, false, cond, ◌<◌, ◌≤◌, Some, None, List, [], ◌∷◌, length, map, get_or, refl, sym, ap, arith}
+use Rattle.std.proofs.Common.{◌≡◌, ℕ, zero, suc, Bool, true, false, cond, ◌<◌, ◌≤◌, Option, Some, None, List, [], ◌∷◌, length, map, get_or, refl, sym, ap, arith}
 use Rattle.ale_host.specs.declared.words.Form.TheVariants.{Load, Pass, Run}
 use Rattle.ale_host.specs.Words.{form_of, pass_form, document_file}
 
@@ -47,10 +48,11 @@ run-five f (a ∷ b ∷ []) is_run = absurd (no_pass (is_text (f a) (codes "pass
     no_pass : (b : Bool) → cond b (Some Pass) None ≡ Some Run → ⊥
     no_pass true h = cc
     no_pass false h = cc
-run-five f (a ∷ b ∷ c ∷ []) is_run = absurd (no_load _ is_run)
+run-five f (a ∷ b ∷ c ∷ []) is_run = absurd (no_load _ _ is_run)
   where
-    no_load : (b : Bool) → cond b (Some Load) None ≡ Some Run → ⊥
-    no_load true h = cc
-    no_load false h = cc
+    no_load : (b : Bool) (count : Option ℕ) → cond b (option_map Load count) None ≡ Some Run → ⊥
+    no_load true (Some n) h = cc
+    no_load true None h = cc
+    no_load false count h = cc
 run-five f (a ∷ b ∷ c ∷ d ∷ []) is_run = absurd (cc)
 run-five f (a ∷ b ∷ c ∷ d ∷ e ∷ more) is_run = omega arith

@@ -24,6 +24,7 @@ use Rattle.ale_base.specs.Lines.{lines_of}
 use Rattle.idoc_file.specs.DocumentFile.{AreDocuments, IsFirstBad}
 use Rattle.ale_host.specs.Inputs.{EndsRun, IsFileWithin, IsUnread}
 use Rattle.ale_host.specs.Words.{form_of, document_file, documents_file, model_file, script_file}
+use Rattle.ale_host.specs.Loading.{EndsLoad}
 use Rattle.ale_host.specs.PassText.{pass_text}
 
 -- as far as it is told, the document file has these bytes, within the limit
@@ -41,14 +42,14 @@ abbrev pub EndsPass : List ℕ → Told → Type 0 → Ending → Type 0
 EndsPass name told faults (ending.Unread its_name why) = IsUnread MOST_BYTES name told faults its_name why
 EndsPass name told faults end = (bytes : List ℕ) × IsFile told bytes × EndsFile bytes end
 
--- why a run of these words ends so: one that is no `run` whose files were all read
+-- why these words end so: they are no `run` whose files were all read, and no `load` whose texts were
 abbrev pub Ends : List (List ℕ) → (List ℕ → Told) → Type 0 → Ending → Type 0
 Ends words told faults ending.Usage = form_of words ≡ None
-Ends words told faults ending.LoadNotBuilt = form_of words ≡ Some Load
 Ends words told faults ending.OutOfMemory = ⊤
 Ends words told faults end =
     ((form_of words ≡ Some Pass) × EndsPass (document_file words) (told (document_file words)) faults end)
     ⊎ ((form_of words ≡ Some Run) × EndsRun told faults (model_file words) (documents_file words) (script_file words) end)
+    ⊎ ((masters : ℕ) × (form_of words ≡ Some (Load masters)) × EndsLoad masters end)
 
 -- the exit status where a document file has this fault: that of a limit, or that of a bad line. No file has want of memory
 -- for a fault
@@ -73,7 +74,6 @@ status_of (ending.Refused fault) = fault_status fault
 status_of (ending.ScriptRefused fault) = script_status fault
 status_of (ending.Unread name why) = 5
 status_of ending.OutOfMemory = 9
-status_of ending.LoadNotBuilt = 13
 
 -- why a file was not read, as it is printed
 abbrev pub shown_reason : NotRead → List ℕ
@@ -149,7 +149,6 @@ text_of (ending.Refused fault) = fault_text fault
 text_of (ending.ScriptRefused fault) = script_text fault
 text_of (ending.Unread name why) = codes "cannot read " ++ (name ++ (codes ": " ++ shown_reason why))
 text_of ending.OutOfMemory = codes "out of memory\n"
-text_of ending.LoadNotBuilt = codes "not built: load\n"
 
 -- there are as many documents as units at most
 abbrev pub IsPrintable : Ending → Type 0

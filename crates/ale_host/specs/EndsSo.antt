@@ -3,11 +3,13 @@ use Rattle.std.specs.Prelude.{◌≡◌, ◌⊎◌, ℕ, ◌≤◌, List, [], So
 use Rattle.std.specs.Io.KnownBytes.{Appends}
 use Rattle.ale_base.specs.Faults.{Rose}
 use Rattle.ale_io.specs.Told.{Told}
+use Rattle.idoc_file.specs.declared.raw_doc.RawDoc.{RawDoc}
+use Rattle.dist_model.specs.declared.lists.Lists.{Lists}
+use Rattle.script_text.specs.declared.command.Command.{Command}
 use Rattle.ale_host.specs.declared.ending.Ending.{Ending}
-use Rattle.ale_host.specs.declared.words.Form.TheVariants.{Run}
+use Rattle.ale_host.specs.declared.running.Report.{Report}
 use Rattle.ale_host.specs.Ending.{Ends, IsQuiet, status_of, text_of}
-use Rattle.ale_host.specs.Running.{Disk, RunsTo, Said, masters_of}
-use Rattle.ale_host.specs.Words.{form_of, documents_file, model_file, script_file}
+use Rattle.ale_host.specs.Running.{AskFor, Disk, RunsTo, masters_of}
 
 -- a write failed: a front of a text was put, and of that at least a front that is sure
 pub record IsFront (before after : Option (List ℕ)) (faults faults_after : ℕ) (printed sure : List ℕ) : Type 0 where
@@ -30,12 +32,16 @@ module _ {V : Type 0} (disk : Disk V) (words : List (List ℕ)) (told : List ℕ
     pub volumes : after ≡ before
     pub asked : given_after ≡ given
 
-  -- a run whose files were read
+  -- a run whose files were read, or a load
   pub record EndsAsRun : Type 0 where
-    pub asks : form_of words ≡ Some Run
+    pub report : Report
+    pub text : List ℕ
+    pub model : Lists
+    pub documents : List RawDoc
+    pub commands : List Command
+    pub asks : AskFor words told report text model documents commands
     pub quiet : files_after ≡ files
-    pub said : Said told (model_file words) (documents_file words) (script_file words)
-    pub runs : RunsTo disk said.text said.model (masters_of said.documents) said.commands before after clock given given_after status printed sure
+    pub runs : RunsTo disk text model (masters_of documents) commands before after report clock given given_after status printed sure
 
   -- what became of these words
   abbrev pub EndsSo : Type 0

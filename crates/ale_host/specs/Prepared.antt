@@ -12,9 +12,10 @@ use Rattle.ale_host.specs.declared.prepared.Prepared.{Prepared}
 use Rattle.ale_host.specs.Inputs.{IsFileWithin, SaysDocuments, SaysScript}
 use Rattle.ale_host.specs.declared.ending.Ending.{Ending}
 use Rattle.ale_host.specs.declared.ending.Ending.TheVariants as ending
-use Rattle.ale_host.specs.declared.words.Form.TheVariants.{Run}
-use Rattle.ale_host.specs.Words.{form_of, documents_file, model_file, script_file}
-use Rattle.ale_host.specs.Running.{Said, masters_of}
+use Rattle.load_texts.specs.declared.model.TheConstants.{LOAD_MODEL}
+use Rattle.ale_host.specs.declared.host.Order.{Order}
+use Rattle.ale_host.specs.Loading.{LoadSays}
+use Rattle.ale_host.specs.Running.{AskFor, Say, masters_of}
 
 -- a run has this from its files: a text and the model that it says, the documents, which are its masters, and the commands
 pub record IsPrepared (text : List ℕ) (model : Lists) (documents : List RawDoc) (commands : List Command) (prepared : Prepared) : Type 0 where
@@ -41,12 +42,21 @@ IsBehindModel told file documents script prepared =
 
 -- what a run has is what its files say
 abbrev pub IsRead : (List ℕ → Told) → List ℕ → List ℕ → List ℕ → Prepared → Type 0
-IsRead told model documents script prepared =
-    (said : Said told model documents script) × IsPrepared said.text said.model said.documents said.commands prepared
+IsRead told model_name documents_name script_name prepared =
+    (text : List ℕ) × ((model : Lists) × ((documents : List RawDoc) × ((commands : List Command)
+    × Say told model_name documents_name script_name text model documents commands × IsPrepared text model documents commands prepared)))
 
--- the words ask for a run, and this is what it has from its files
-abbrev pub IsRunOf : List (List ℕ) → (List ℕ → Told) → Prepared → Type 0
-IsRunOf words told prepared = (form_of words ≡ Some Run) × IsRead told (model_file words) (documents_file words) (script_file words) prepared
+-- what a load of so many masters has is what its texts say
+abbrev pub IsLoaded : ℕ → Prepared → Type 0
+IsLoaded masters prepared =
+    (model : Lists) × ((documents : List RawDoc) × ((commands : List Command)
+    × LoadSays masters model documents commands × IsPrepared LOAD_MODEL.now model documents commands prepared))
+
+-- the words ask for a run or a load, and this is what it has
+abbrev pub IsAsked : List (List ℕ) → (List ℕ → Told) → Order → Type 0
+IsAsked words told order =
+    (text : List ℕ) × ((model : Lists) × ((documents : List RawDoc) × ((commands : List Command)
+    × AskFor words told order.report text model documents commands × IsPrepared text model documents commands order.prepared)))
 
 -- an ending, or want of memory in its place
 abbrev pub EndsAs : Ending → Ending → Type 0

@@ -3,6 +3,7 @@
 use Rattle.std.specs.Prelude.{◌≡◌, ◌⊎◌, ⊤, ℕ, ◌<◌, List, [], ◌∷◌, ◌++◌, Some, Ok, length, map, codes}
 use Rattle.std.specs.Arc.{arc_value}
 use Rattle.ale_base.specs.Tid.{TidOf}
+use Rattle.ale_base.specs.declared.system_no.TheConstants.SystemNo.{MAX}
 use Rattle.ale_io.specs.Told.{Told}
 use Rattle.ale_volumes.specs.declared.volume.Volume.{Volume as OneVolume}
 use Rattle.idoc_file.specs.declared.raw_doc.RawDoc.{RawDoc}
@@ -21,6 +22,8 @@ use Rattle.kept_world.specs.OnVolumes.{AreOnVolumes}
 use Rattle.unit_landscape.specs.Kept.{IsLandscape}
 use Rattle.landscape.specs.declared.open_end.OpenWhy.{OpenWhy}
 use Rattle.landscape.specs.declared.open_end.OpenWhy.TheVariants as open_why
+use Rattle.landscape.specs.declared.counts.Counts.{Counts}
+use Rattle.landscape.specs.Counted.{counts_to}
 use Rattle.landscape.specs.Opened.{EndedByFault, HasOpened, LeavesOpening, NoneFailed, WhyEnded}
 use Rattle.report_text.specs.declared.faults.FaultLine.TheVariants as last
 use Rattle.report_text.specs.FaultLine.{fault_line}
@@ -30,18 +33,28 @@ use Rattle.runs.specs.declared.run_end.RunEnd.TheVariants as end
 use Rattle.runs.specs.declared.stage.Stage.{Stage}
 use Rattle.runs.specs.Run.{AreAsked, Run, Turn, text_of}
 use Rattle.wires.specs.Wires.{letters_left}
+use Rattle.load_texts.specs.declared.model.TheConstants.{LOAD_MODEL}
+use Rattle.ale_host.specs.declared.running.Report.{Report}
+use Rattle.ale_host.specs.declared.running.Report.TheVariants as report
+use Rattle.ale_host.specs.declared.words.Form.TheVariants.{Load, Run as RunForm}
 use Rattle.ale_host.specs.Inputs.{IsFileWithin, SaysDocuments, SaysScript}
+use Rattle.ale_host.specs.Loading.{LoadSays, load_line}
+use Rattle.ale_host.specs.Words.{form_of, documents_file, model_file, script_file}
 
--- what the files of a run say, as far as they are told: a model, with the text that says it, documents, and commands
-pub record Said (told : List ℕ → Told) (model_name documents_name script_name : List ℕ) : Type 0 where
-  pub text : List ℕ
-  pub model : Lists
-  pub documents : List RawDoc
-  pub commands : List Command
+-- the files of a run say this, as far as they are told: a model, with the text that says it, documents, and commands
+pub record Say (told : List ℕ → Told) (model_name documents_name script_name : List ℕ) (text : List ℕ) (model : Lists) (documents : List RawDoc)
+    (commands : List Command) : Type 0 where
   pub in_file : IsFileWithin text_limit.MAX_BYTES (told model_name) text
   pub says_model : answer_to text ≡ Ok model
   pub says_documents : SaysDocuments (told documents_name) documents
   pub says_script : SaysScript (told script_name) commands
+
+-- the words ask for this to be carried out, and for such a report: a run of what its files say, or a load
+abbrev pub AskFor : List (List ℕ) → (List ℕ → Told) → Report → List ℕ → Lists → List RawDoc → List Command → Type 0
+AskFor words told report.Commands text model documents commands =
+    (form_of words ≡ Some RunForm) × Say told (model_file words) (documents_file words) (script_file words) text model documents commands
+AskFor words told report.Counts text model documents commands =
+    (masters : ℕ) × (form_of words ≡ Some (Load masters)) × (text ≡ LOAD_MODEL.now) × LoadSays masters model documents commands
 
 -- the masters of a run: the documents of its document file
 abbrev pub masters_of : List RawDoc → List RawUnitDoc
@@ -90,10 +103,36 @@ abbrev pub EndsWith : Lists → RunEnd → ℕ → List ℕ → Type 0
 EndsWith model its status line =
     ((status ≡ status_at its) × IsLine model its line) ⊎ (MayBeShort its × (status ≡ 9) × (line ≡ short_line))
 
+-- the status of a load that did all that it asks for, and the line that reports these counts; or memory was wanting for the line
+abbrev pub IsCountLine : Counts → ℕ → List ℕ → Type 0
+IsCountLine counts status line = ((status ≡ 0) × (line ≡ load_line counts)) ⊎ ((status ≡ 9) × (line ≡ short_line))
+
+-- the same of a load, which reports these counts where it did all that it asks for; of its commands nothing is put, so no such put fails
+abbrev pub EndsCounting : Counts → Lists → RunEnd → ℕ → List ℕ → Type 0
+EndsCounting counts model end.Whole status line = IsCountLine counts status line
+EndsCounting counts model end.WriteFailed status line = ⊥
+EndsCounting counts model its status line = EndsWith model its status line
+
+-- The status of an ending and its line are these, by what is reported. Of a load that did all that it asks for the line is the report, for
+-- which memory may be wanting.
+abbrev pub EndsReporting : {V : Type 0} → Report → Stage V → Lists → RunEnd → ℕ → List ℕ → Type 0
+EndsReporting report.Commands left model its status line = EndsWith model its status line
+EndsReporting report.Counts left model its status line = EndsCounting (counts_to left.landscape.world MAX) model its status line
+
+-- the text of the turns, where it is reported
+abbrev pub reported : {V : Type 0} → Report → List (Turn V) → List ℕ
+reported report.Commands turns = text_of turns
+reported report.Counts turns = []
+
 -- what was put whole wherever a write failed: the text of each turn but the last, where that was not taken, and else of all
 abbrev pub IsSure : {V : Type 0} → RunEnd → List (Turn V) → List ℕ → Type 0
 IsSure {V} end.WriteFailed turns sure = (done : List (Turn V)) × ((last : Turn V) × (turns ≡ done ++ last ∷ []) × (sure ≡ text_of done))
 IsSure its turns sure = sure ≡ text_of turns
+
+-- the same by what is reported: of a load nothing is
+abbrev pub IsSureOf : {V : Type 0} → Report → RunEnd → List (Turn V) → List ℕ → Type 0
+IsSureOf report.Commands its turns sure = IsSure its turns sure
+IsSureOf report.Counts its turns sure = sure ≡ []
 
 -- ---- the run
 
@@ -106,10 +145,10 @@ pub record Disk (V : Type 0) : Type 1 where
   pub moment : V → ℕ
   pub images_since : V → ℕ → ℕ → List ℕ → Type 0
 
--- Commands were carried out from systems that had begun. The report is that of the turns; the volumes hold the logs that the last turn left,
--- and these are safe.
-pub record RanFrom {V : Type 0} (disk : Disk V) (model : Lists) (inputs : Inputs) (commands : List Command) (begun : KeptOf ModelRules DocumentTables V)
-    (after : V)
+-- Commands were carried out from systems that had begun. The report is that of the turns, or of a load that of the logs that it leaves;
+-- the volumes hold the logs that the last turn left, and these are safe.
+pub record RanFrom {V : Type 0} (disk : Disk V) (report : Report) (model : Lists) (inputs : Inputs) (commands : List Command)
+    (begun : KeptOf ModelRules DocumentTables V) (after : V)
     (clock : Type 0) (given given_after : List ℕ) (status : ℕ) (printed sure : List ℕ) : Type 0 where
   pub first : Stage V
   pub begins : first.landscape ≡ begun
@@ -119,9 +158,9 @@ pub record RanFrom {V : Type 0} (disk : Disk V) (model : Lists) (inputs : Inputs
   pub left : Stage V
   pub run : Run disk.faults inputs commands first left its_end turns
   pub line : List ℕ
-  pub ends : EndsWith model its_end status line
-  pub printed_is : printed ≡ text_of turns ++ line
-  pub sure_is : IsSure its_end turns sure
+  pub ends : EndsReporting report left model its_end status line
+  pub printed_is : printed ≡ reported report turns ++ line
+  pub sure_is : IsSureOf report its_end turns sure
   pub volumes : after ≡ left.landscape.vols
   pub safe : IsLandscape (λ (rules : ModelRules). model_meaning rules.systems) left.landscape.world
   pub on_volumes : AreOnVolumes disk.told disk.volume left.landscape.vols left.landscape.world.systems left.landscape.journals
@@ -144,7 +183,7 @@ module _ {V : Type 0} (disk : Disk V) (text : List ℕ) (model : Lists) (masters
     pub still : NoneFailed many disk.faults before begun.vols
     pub left : disk.told → LeavesOpening disk.volume many text (Some moment) before begun.vols disk.moment disk.images_since
 
-  module _ (clock : Type 0) (given given_after : List ℕ) (status : ℕ) (printed sure : List ℕ) where
+  module _ (report : Report) (clock : Type 0) (given given_after : List ℕ) (status : ℕ) (printed sure : List ℕ) where
     -- the systems were not opened, and no command was carried out
     pub record Unopened : Type 0 where
       pub moment : ℕ
@@ -165,7 +204,7 @@ module _ {V : Type 0} (disk : Disk V) (text : List ℕ) (model : Lists) (masters
       pub masters_are : inputs.masters ≡ masters
       pub given_then : List ℕ
       pub asked : clock → given_then ≡ given ++ moment ∷ []
-      pub from : RanFrom disk model inputs commands begun after clock given_then given_after status printed sure
+      pub from : RanFrom disk report model inputs commands begun after clock given_then given_after status printed sure
 
     -- what became of a run
     abbrev pub RunsTo : Type 0

@@ -1,7 +1,8 @@
 -- The words of a command line.
-use Rattle.std.specs.Prelude.{ℕ, List, [], ◌∷◌, length, get_or, Bool, false, not, ◌&&◌, ◌==◌, nat_le, codes, Option, Some, None, if◌then◌else◌}
+use Rattle.std.specs.Prelude.{ℕ, ◌≤◌, ⊤, List, [], ◌∷◌, length, get_or, Bool, false, not, ◌&&◌, ◌==◌, nat_le, codes, Option, Some, None, if◌then◌else◌}
 use Rattle.std.specs.Char.{is_ascii_digit}
 use Rattle.std.specs.List.{list_all}
+use Rattle.std.specs.Option.{option_map}
 use Rattle.ale_base.specs.Decimal.{decimal_value}
 use Rattle.ale_base.specs.Text.{is_text}
 use Rattle.ale_host.specs.declared.words.TheConstants.{MAX_MASTERS, MAX_WORKERS}
@@ -13,13 +14,18 @@ abbrev pub is_count : ℕ → List ℕ → Bool
 is_count most [] = false
 is_count most (b ∷ bs) = not (b == 48) && (nat_le (length (b ∷ bs)) 4 && (list_all is_ascii_digit (b ∷ bs) && nat_le (decimal_value (b ∷ bs)) most))
 
+-- the number that such digits spell
+abbrev pub count_in : ℕ → List ℕ → Option ℕ
+count_in most text = if is_count most text then Some (decimal_value text) else None
+
 -- `pass DOCS`
 abbrev pub pass_form : List ℕ → Option Form
 pass_form command = if is_text command (codes "pass") then Some Pass else None
 
 -- `load N WORKERS`, with N from 1 to 4,096 and 1 to 16 workers
 abbrev pub load_form : List ℕ → List ℕ → List ℕ → Option Form
-load_form command masters workers = if is_text command (codes "load") && (is_count MAX_MASTERS masters && is_count MAX_WORKERS workers) then Some Load else None
+load_form command masters workers =
+    if is_text command (codes "load") && is_count MAX_WORKERS workers then option_map Load (count_in MAX_MASTERS masters) else None
 
 -- `run MODEL DOCS SCRIPT WORKERS`, with 1 to 16 workers
 abbrev pub run_form : List ℕ → List ℕ → Option Form
@@ -46,3 +52,10 @@ documents_file words = get_or words 2 []
 
 abbrev pub script_file : List (List ℕ) → List ℕ
 script_file words = get_or words 3 []
+
+-- ---- what only private functions cite
+
+-- a load has at most 4,096 masters
+abbrev pub IsFew : Form → Type 0
+IsFew (Load masters) = masters ≤ MAX_MASTERS
+IsFew _ = ⊤

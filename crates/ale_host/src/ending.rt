@@ -40,8 +40,6 @@ pub enum Ending {
     Unread(Items<u8>, NotRead),
     /// Memory ran out.
     OutOfMemory,
-    /// The command `load` is not built yet.
-    LoadNotBuilt,
 }
 
 impl Ending {
@@ -58,7 +56,6 @@ impl Ending {
             Ending::ScriptRefused(fault) => script_status(*fault),
             Ending::Unread(..) => 5,
             Ending::OutOfMemory => 9,
-            Ending::LoadNotBuilt => 13,
         }
     }
 
@@ -75,7 +72,6 @@ impl Ending {
             Ending::ScriptRefused(fault) => script_text(alloc, *fault),
             Ending::Unread(name, why) => unread_text(alloc, name.as_slice(), *why),
             Ending::OutOfMemory => text_from(alloc, OUT_OF_MEMORY),
-            Ending::LoadNotBuilt => text_from(alloc, b"not built: load\n"),
         }
     }
 }

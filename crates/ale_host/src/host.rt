@@ -10,13 +10,14 @@ ghost use Rattle.ale_host.specs.declared.ending.Ending.{Ending};
 ghost use Rattle.ale_host.specs.Inputs.{EndsBehindDocuments, EndsBehindModel, EndsRun};
 ghost use Rattle.ale_host.specs.Ending.{Ends, EndsPass, EndsFile, IsPrintable, IsQuiet, status_of, text_of};
 ghost use Rattle.ale_host.specs.EndsSo.{EndsSo, IsFront};
-ghost use Rattle.ale_host.specs.Prepared.{EndsAs, IsBehindDocuments, IsBehindModel, IsRead, IsRunOf};
+ghost use Rattle.ale_host.specs.Prepared.{EndsAs, IsAsked, IsBehindDocuments, IsBehindModel, IsRead};
 
 use crate::document_file::read_document_file;
 use crate::ending::{Ending, NotRead, OUT_OF_MEMORY};
 use crate::inputs::{ModelFile, read_documents, read_model, read_script, refused};
+use crate::loading::read_load;
 use crate::prepared::{Prepared, prepare};
-use crate::running::run;
+use crate::running::{Report, run};
 use crate::words::{Form, form_of};
 use ale_base::{Items, OutOfMemory};
 use ale_io::{Clock, FileEnd, Files, Sink};
@@ -42,13 +43,14 @@ pub struct Ended<V> {
 /// a model is refused, 3 where a line of a document file is bad, 4 where a line of a script is no command, 5 where a file
 /// was not read, 6 where the sink did not take all of the text, 8 where a volume failed as it was opened, 9 where memory ran
 /// out, 10 where a line passes a limit of its file, 11 where a system is down by a fault of its volume and 12 where it is down
-/// because a record did not fit, and 13 where something is asked for that is not built yet: `load`, and a `run` on volumes
+/// because a record did not fit, and 13 where something is asked for that is not built yet: a `run` or a `load` on volumes
 /// that are not empty.
 ///
 /// The files of `run` are read in order, and the first one that is not read or is refused ends it. Then the clock is asked and
 /// the systems are opened over the volumes, system i on volume i - 1, with a Genesis each; and then the commands are carried
 /// out, each with the moment that the clock gives for it. The text of each command is put behind it. A system that goes down
-/// ends the run behind the command in which it did. With each status but 6 the text that was put is exactly that of the
+/// ends the run behind the command in which it did. A load is the same with the texts that it makes from its number, but for what is put:
+/// one line at its end, which tells how much the logs hold then. With each status but 6 the text that was put is exactly that of the
 /// ending, and with 6 it is a part of it that begins at its front, and that has at least the text of all commands but the last one that was
 /// carried out. The bytes of a document file have one ending.
 pub fn aleflow<F: Files, K: Sink, V: Volumes, C: Clock>(
@@ -81,7 +83,7 @@ pub fn aleflow<F: Files, K: Sink, V: Volumes, C: Clock>(
             let status = print(alloc, &ending, out);
             Ended { status, vols }
         }
-        Ok(prepared) => run(alloc, prepared, out, vols, clock),
+        Ok(Order { prepared, report }) => run(alloc, prepared, report, out, vols, clock),
     }
 }
 
@@ -128,10 +130,17 @@ pub(crate) fn put<K: Sink>(out: &mut K, status: u8, text: &[u8]) -> u8
     }
 }
 
-/// What these words ask for: a run whose files were read, or how else it ends.
-fn asked<F: Files>(alloc: Global, words: &[String], files: &mut F) -> Result<Prepared, Ending>
+/// What is to be carried out, and what is reported of it.
+#[derive(Drop)]
+struct Order {
+    prepared: Prepared,
+    report: Report,
+}
+
+/// What these words ask for: a run whose files were read, or a load; or how else it ends.
+fn asked<F: Files>(alloc: Global, words: &[String], files: &mut F) -> Result<Order, Ending>
     ensures ends { IfErr result (Ends (map string_bytes words.now) (F.told files.old) (Rose (F.faults files.old) (F.faults files.new))) }
-    ensures runs { IfOk result (IsRunOf (map string_bytes words.now) (F.told files.old)) }
+    ensures runs { IfOk result (IsAsked (map string_bytes words.now) (F.told files.old)) }
     ensures printable { IfErr result IsPrintable }
     ensures kept { (name : List ℕ) → F.told files.new name ≡ F.told files.old name }
     ensures counted { F.faults files.old ≤ F.faults files.new }
@@ -140,14 +149,23 @@ fn asked<F: Files>(alloc: Global, words: &[String], files: &mut F) -> Result<Pre
 {
     match form_of(words) {
         None => Err(Ending::Usage),
-        Some(Form::Run) => read_run(
-            alloc,
-            words[1].as_str(),
-            words[2].as_str(),
-            words[3].as_str(),
-            files,
-        ),
-        Some(Form::Load) => Err(Ending::LoadNotBuilt),
+        Some(Form::Run) => {
+            let model = words[1].as_str();
+            match read_run(alloc, model, words[2].as_str(), words[3].as_str(), files) {
+                Ok(prepared) => Ok(Order {
+                    prepared,
+                    report: Report::Commands,
+                }),
+                Err(ending) => Err(ending),
+            }
+        }
+        Some(Form::Load(masters)) => match read_load(alloc, masters) {
+            Ok(prepared) => Ok(Order {
+                prepared,
+                report: Report::Counts,
+            }),
+            Err(ending) => Err(ending),
+        },
         Some(Form::Pass) => match pass(alloc, words[1].as_str(), files) {
             Ok(ending) => Err(ending),
             Err(OutOfMemory) => Err(Ending::OutOfMemory),

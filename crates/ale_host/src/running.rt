@@ -12,26 +12,38 @@ ghost use Rattle.runs.specs.Run.{first_down};
 ghost use Rattle.runs.specs.steps.Put.{IsPart, IsPut};
 ghost use Rattle.ale_host.specs.Closing.{IsClosed};
 ghost use Rattle.ale_host.specs.EndsSo.{IsFront};
-ghost use Rattle.ale_host.specs.Running.{RanFrom, RunsTo, line_unopened, status_unopened};
+ghost use Rattle.ale_host.specs.declared.running.Report.TheVariants as report_of;
+ghost use Rattle.ale_host.specs.Running.{EndsCounting, IsCountLine, RanFrom, RunsTo, line_unopened, status_unopened};
 
 use crate::ending::OUT_OF_MEMORY;
 use crate::host::{Ended, WRITE_FAULT, put};
+use crate::loading::load_line;
 use crate::prepared::Prepared;
 use ale_base::{Items, OutOfMemory, SystemNo};
-use ale_io::{Clock, Sink};
+use ale_io::{Clock, Sink, SinkFailed};
 use ale_volumes::Volumes;
 use dist_model::Model;
-use landscape::{Landscape, OpenEnd, OpenWhy};
+use landscape::{Counts, Landscape, OpenEnd, OpenWhy};
 use report_text::{FaultLine, fault_line};
 use runs::{Inputs, Ran, RunEnd, Stage, run_script};
 use script_text::Command;
 use std::alloc::Global;
 use wires::Wires;
 
-/// Carries out a run: the clock is asked, the systems are opened over the volumes with that moment, and then the commands are carried out.
+/// What is reported of what was carried out.
+#[derive(Clone, Copy, Debug, PartialEq, Eq)]
+pub enum Report {
+    /// The text of each command, behind it.
+    Commands,
+    /// How much the logs hold at the end.
+    Counts,
+}
+
+/// Carries out a run or a load: the clock is asked, the systems are opened over the volumes with that moment, and then the commands are carried out.
 pub(crate) fn run<V: Volumes, K: Sink, C: Clock>(
     alloc: Global,
     prepared: Prepared,
+    report: Report,
     out: &mut K,
     vols: V,
     clock: &mut C,
@@ -41,11 +53,11 @@ pub(crate) fn run<V: Volumes, K: Sink, C: Clock>(
     requires names { arc_value prepared.inputs.model ≡ arc_value prepared.model }
     ensures ended { result.status ≢ 6 → (printed : List ℕ) × ((sure : List ℕ)
         × RunsTo (record { told = V.told; volume = V.volume; faults = V.faults; moment = V.moment; images_since = V.images_since })
-        prepared.text (arc_value prepared.model) prepared.inputs.masters prepared.commands vols result.vols (C.told clock.new) (C.given clock.old) (C.given clock.new) result.status printed sure
+        prepared.text (arc_value prepared.model) prepared.inputs.masters prepared.commands vols result.vols report (C.told clock.new) (C.given clock.old) (C.given clock.new) result.status printed sure
         × IsPut (K.contents out.old) (K.contents out.new) (K.faults out.old) (K.faults out.new) printed) }
     ensures write_fault { result.status ≡ 6 → (status : ℕ) × ((printed : List ℕ) × ((sure : List ℕ)
         × RunsTo (record { told = V.told; volume = V.volume; faults = V.faults; moment = V.moment; images_since = V.images_since })
-        prepared.text (arc_value prepared.model) prepared.inputs.masters prepared.commands vols result.vols (C.told clock.new) (C.given clock.old) (C.given clock.new) status printed sure
+        prepared.text (arc_value prepared.model) prepared.inputs.masters prepared.commands vols result.vols report (C.told clock.new) (C.given clock.old) (C.given clock.new) status printed sure
         × IsFront (K.contents out.old) (K.contents out.new) (K.faults out.old) (K.faults out.new) printed sure)) }
     ensures counted { K.faults out.old ≤ K.faults out.new }
 {
@@ -61,7 +73,13 @@ pub(crate) fn run<V: Volumes, K: Sink, C: Clock>(
             let status = put_unopened(why, out);
             Ended { status, vols }
         }
-        Ok(landscape) => run_opened(alloc, landscape, &inputs, commands.as_slice(), out, clock),
+        Ok(landscape) => {
+            let commands = commands.as_slice();
+            match report {
+                Report::Commands => run_opened(alloc, landscape, &inputs, commands, out, clock),
+                Report::Counts => load_opened(alloc, landscape, &inputs, commands, out, clock),
+            }
+        }
     }
 }
 
@@ -91,11 +109,11 @@ fn run_opened<V: Volumes, K: Sink, C: Clock>(
     requires up { first_down landscape.world ≡ None }
     ensures ended { result.status ≢ 6 → (printed : List ℕ) × ((sure : List ℕ)
         × RanFrom (record { told = V.told; volume = V.volume; faults = V.faults; moment = V.moment; images_since = V.images_since })
-        (arc_value inputs.now.model) inputs.now commands.now landscape result.vols (C.told clock.new) (C.given clock.old) (C.given clock.new) result.status printed sure
+        report_of.Commands (arc_value inputs.now.model) inputs.now commands.now landscape result.vols (C.told clock.new) (C.given clock.old) (C.given clock.new) result.status printed sure
         × IsPut (K.contents out.old) (K.contents out.new) (K.faults out.old) (K.faults out.new) printed) }
     ensures write_fault { result.status ≡ 6 → (status : ℕ) × ((printed : List ℕ) × ((sure : List ℕ)
         × RanFrom (record { told = V.told; volume = V.volume; faults = V.faults; moment = V.moment; images_since = V.images_since })
-        (arc_value inputs.now.model) inputs.now commands.now landscape result.vols (C.told clock.new) (C.given clock.old) (C.given clock.new) status printed sure
+        report_of.Commands (arc_value inputs.now.model) inputs.now commands.now landscape result.vols (C.told clock.new) (C.given clock.old) (C.given clock.new) status printed sure
         × IsFront (K.contents out.old) (K.contents out.new) (K.faults out.old) (K.faults out.new) printed sure)) }
     ensures told { C.told clock.new → C.told clock.old }
     ensures counted { K.faults out.old ≤ K.faults out.new }
@@ -115,6 +133,68 @@ fn run_opened<V: Volumes, K: Sink, C: Clock>(
     }
 }
 
+/// Takes the text of commands that is not printed.
+#[derive(Clone, Copy)]
+struct Unprinted;
+
+impl Sink for Unprinted {
+    ghost use Rattle.std.specs.Prelude.{◌≡◌, ◌≤◌, ℕ, List, None, IsErr, IsOk, OnErr, OnOk};
+    ghost use Rattle.std.specs.Io.KnownBytes.{Appends};
+    ghost use Rattle.ale_io.specs.Written.{AppendsFront};
+    ghost use Rattle.ale_io.specs.FaultCount.{IsCounted};
+
+    ghost contents = { λ sink. None };
+
+    ghost faults = { λ sink. 0 };
+
+    fn put(&mut self, bytes: &[u8]) -> Result<(), SinkFailed>
+        ensures ok { OnOk result (Appends None None bytes.now) }
+        ensures err { OnErr result (AppendsFront None None bytes.now) }
+        ensures faults { IsCounted (IsErr result) (IsOk result) 0 0 }
+    {
+        let _ = bytes;
+        Ok(())
+    }
+}
+
+/// Carries out commands whose text is not put, and puts how much the logs hold then, or another last line.
+fn load_opened<V: Volumes, K: Sink, C: Clock>(
+    alloc: Global,
+    landscape: Landscape<V>,
+    inputs: &Inputs,
+    commands: &[Command],
+    out: &mut K,
+    clock: &mut C,
+) -> Ended<V>
+    requires up { first_down landscape.world ≡ None }
+    ensures ended { result.status ≢ 6 → (printed : List ℕ) × ((sure : List ℕ)
+        × RanFrom (record { told = V.told; volume = V.volume; faults = V.faults; moment = V.moment; images_since = V.images_since })
+        report_of.Counts (arc_value inputs.now.model) inputs.now commands.now landscape result.vols (C.told clock.new) (C.given clock.old) (C.given clock.new) result.status printed sure
+        × IsPut (K.contents out.old) (K.contents out.new) (K.faults out.old) (K.faults out.new) printed) }
+    ensures write_fault { result.status ≡ 6 → (status : ℕ) × ((printed : List ℕ) × ((sure : List ℕ)
+        × RanFrom (record { told = V.told; volume = V.volume; faults = V.faults; moment = V.moment; images_since = V.images_since })
+        report_of.Counts (arc_value inputs.now.model) inputs.now commands.now landscape result.vols (C.told clock.new) (C.given clock.old) (C.given clock.new) status printed sure
+        × IsFront (K.contents out.old) (K.contents out.new) (K.faults out.old) (K.faults out.new) printed sure)) }
+    ensures told { C.told clock.new → C.told clock.old }
+    ensures counted { K.faults out.old ≤ K.faults out.new }
+{
+    let stage = Stage {
+        landscape,
+        wires: Wires::new(alloc),
+        full: 0,
+    };
+    let mut unprinted = Unprinted;
+    let Ran { stage, end } = run_script(alloc, stage, inputs, commands, &mut unprinted, clock);
+    let counts = stage.landscape.counts();
+    let status = close_load(alloc, &inputs.model, counts, end, out);
+    let Stage { landscape, .. } = stage;
+    let _ = landscape.world();
+    Ended {
+        status,
+        vols: landscape.into_volumes(),
+    }
+}
+
 /// Puts the last line of a run, and gives the status.
 fn close<K: Sink>(alloc: Global, model: &Model, end: RunEnd, out: &mut K) -> u8
     ensures closed { IsClosed model.now end result (K.contents out.old) (K.contents out.new) (K.faults out.old) (K.faults out.new) }
@@ -126,6 +206,36 @@ fn close<K: Sink>(alloc: Global, model: &Model, end: RunEnd, out: &mut K) -> u8
         RunEnd::OutOfMemory => put(out, 9, OUT_OF_MEMORY),
         RunEnd::DownByFault(system) => put_fault(alloc, model, system, out),
         RunEnd::DownFull(system, size) => put_full(alloc, model, system, size, out),
+    }
+}
+
+/// Puts how much the logs hold where a load did all that it asks for, or else its last line, and gives the status.
+fn close_load<K: Sink>(alloc: Global, model: &Model, counts: Counts, end: RunEnd, out: &mut K) -> u8
+    requires taken { end ≢ run_end.WriteFailed }
+    ensures ended { result ≢ 6 → (line : List ℕ) × EndsCounting counts model.now end result line
+        × IsPut (K.contents out.old) (K.contents out.new) (K.faults out.old) (K.faults out.new) line }
+    ensures write_fault { result ≡ 6 → (status : ℕ) × ((line : List ℕ) × EndsCounting counts model.now end status line
+        × IsPart (K.contents out.old) (K.contents out.new) (K.faults out.old) (K.faults out.new) line) }
+    ensures counted { K.faults out.old ≤ K.faults out.new }
+{
+    match end {
+        RunEnd::Whole => put_counts(alloc, counts, out),
+        RunEnd::DownByFault(_) | RunEnd::DownFull(..) | RunEnd::WriteFailed | RunEnd::OutOfMemory =>
+            close(alloc, model, end, out),
+    }
+}
+
+/// Puts the line of a load with these counts, and gives the status.
+fn put_counts<K: Sink>(alloc: Global, counts: Counts, out: &mut K) -> u8
+    ensures ended { result ≢ 6 → (line : List ℕ) × IsCountLine counts result line
+        × IsPut (K.contents out.old) (K.contents out.new) (K.faults out.old) (K.faults out.new) line }
+    ensures write_fault { result ≡ 6 → (status : ℕ) × ((line : List ℕ) × IsCountLine counts status line
+        × IsPart (K.contents out.old) (K.contents out.new) (K.faults out.old) (K.faults out.new) line) }
+    ensures counted { K.faults out.old ≤ K.faults out.new }
+{
+    match load_line(alloc, counts) {
+        Ok(text) => put(out, 0, text.as_slice()),
+        Err(_) => put(out, 9, OUT_OF_MEMORY),
     }
 }
 

@@ -1,8 +1,8 @@
 //! The forms of the words of a command line.
 
-ghost use Rattle.std.specs.Prelude.{◌≡◌, ◌<◌, ◌≤◌, map, string_bytes};
+ghost use Rattle.std.specs.Prelude.{◌≡◌, ◌<◌, ◌≤◌, map, string_bytes, IfSome};
 ghost use Rattle.ale_base.specs.Text.{is_text};
-ghost use Rattle.ale_host.specs.Words.{form_of, pass_form, load_form, run_form, is_count};
+ghost use Rattle.ale_host.specs.Words.{form_of, pass_form, load_form, run_form, count_in, is_count, IsFew};
 
 /// What the words of a command line ask for.
 #[derive(Clone, Copy, Debug, PartialEq, Eq)]
@@ -11,8 +11,8 @@ pub enum Form {
     Pass,
     /// `run MODEL DOCS SCRIPT WORKERS`
     Run,
-    /// `load N WORKERS`
-    Load,
+    /// `load N WORKERS`, with this number of masters
+    Load(u32),
 }
 
 /// The most masters of a load.
@@ -24,7 +24,8 @@ pub(crate) const MAX_WORKERS: u32 = 16;
 /// The form that the words have. None where they have none of the three.
 #[tactic(auto, using(crate::proofs::WordsLemmas::four_words))]
 pub fn form_of(words: &[String]) -> Option<Form>
-    ensures { result ≡ form_of (map string_bytes words.now) }
+    ensures form { result ≡ form_of (map string_bytes words.now) }
+    ensures few { IfSome result IsFew }
 {
     match words {
         [command, _] => pass_form(command),
@@ -35,22 +36,28 @@ pub fn form_of(words: &[String]) -> Option<Form>
 }
 
 fn pass_form(command: &String) -> Option<Form>
-    ensures { result ≡ pass_form (string_bytes command.now) }
+    ensures form { result ≡ pass_form (string_bytes command.now) }
+    ensures few { IfSome result IsFew }
 {
     is_text(command, b"pass").then_some(Form::Pass)
 }
 
 fn load_form(command: &String, masters: &String, workers: &String) -> Option<Form>
-    ensures { result ≡ load_form (string_bytes command.now) (string_bytes masters.now) (string_bytes workers.now) }
+    ensures form { result ≡ load_form (string_bytes command.now) (string_bytes masters.now) (string_bytes workers.now) }
+    ensures few { IfSome result IsFew }
 {
-    let is_load = is_text(command, b"load")
-        && is_count(masters.as_bytes(), MAX_MASTERS)
-        && is_count(workers.as_bytes(), MAX_WORKERS);
-    is_load.then_some(Form::Load)
+    if !is_text(command, b"load") || !is_count(workers.as_bytes(), MAX_WORKERS) {
+        return None;
+    }
+    match count_in(masters.as_bytes(), MAX_MASTERS) {
+        Some(masters) => Some(Form::Load(masters)),
+        None => None,
+    }
 }
 
 fn run_form(command: &String, workers: &String) -> Option<Form>
-    ensures { result ≡ run_form (string_bytes command.now) (string_bytes workers.now) }
+    ensures form { result ≡ run_form (string_bytes command.now) (string_bytes workers.now) }
+    ensures few { IfSome result IsFew }
 {
     let is_run = is_text(command, b"run") && is_count(workers.as_bytes(), MAX_WORKERS);
     is_run.then_some(Form::Run)
@@ -66,15 +73,23 @@ fn is_text(word: &String, other: &[u8]) -> bool
 fn is_count(text: &[u8], most: u32) -> bool
     ensures { result ≡ is_count most text.now }
 {
+    count_in(text, most).is_some()
+}
+
+/// The number that the text says as a decimal from 1 to `most`, without sign or leading zero. None exactly where it is none.
+fn count_in(text: &[u8], most: u32) -> Option<u32>
+    ensures count { result ≡ count_in most text.now }
+    ensures few { IfSome result (λ number. number ≤ most) }
+{
     if text.is_empty() || text.len() > 4 || text[0] == b'0' {
-        return false;
+        return None;
     }
     let mut number: u32 = 0;
     for digit in text {
         if !digit.is_ascii_digit() {
-            return false;
+            return None;
         }
         number = number * 10 + u32::from(*digit - b'0');
     }
-    number <= most
+    (number <= most).then_some(number)
 }

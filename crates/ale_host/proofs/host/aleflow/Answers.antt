@@ -7,13 +7,16 @@ use Rattle.ale_host.specs.Ending.{status_of, text_of}
 use Rattle.ale_host.specs.Running.{masters_of}
 use Rattle.ale_host.proofs.EndingLemmas.{ends-as, quiet-as, quiet-early}
 use Rattle.ale_host.proofs.OneEnding.{one_ending}
-use Rattle.ale_host.proofs.RunningLemmas.{runs-said, said-of}
+use Rattle.ale_host.proofs.RunningLemmas.{asks-said, runs-said, said-of}
 use Rattle.ale_host.proofs.host.aleflow.Goals as goal
 
 pub run-requires-clause-said : goal.run-requires-clause-said
 run-requires-clause-said g c =
-    let read = c.in-Ok.ensures.runs in
-    ap said read.1.1.text_is ∙ said-of read.1.0.text read.1.0.model read.1.0.says_model ∙ ap (λ (model : Lists). Some model) (sym read.1.1.model_is)
+    let order = c.in-Ok.ensures.runs in
+    ap said order.1.1.1.2.text_is
+    ∙ said-of order.0 order.1.0
+    (asks-said (map string_bytes c.args.words.now) (g.F.Files.told c.args.files.now) c.in-Ok.field-0.report order.0 order.1.0 order.1.1.0 order.1.1.1.0 order.1.1.1.1)
+    ∙ ap (λ (model : Lists). Some model) (sym order.1.1.1.2.model_is)
 
 pub returns-in-Err-clause-ended : goal.returns-in-Err-clause-ended
 returns-in-Err-clause-ended g c = λ not_6.
@@ -72,15 +75,20 @@ returns-in-Err-clause-files_quiet g c = λ not_5 not_6 not_9.
 
 pub returns-in-Ok-clause-ended : goal.returns-in-Ok-clause-ended
 returns-in-Ok-clause-ended g c = λ not_6.
-    let read = c.in-Ok.ensures.runs in
+    let order = c.in-Ok.ensures.runs in
+    let is = order.1.1.1.2 in
     let ran = c.run.ensures.ended not_6 in (
       ran.0,
       (
         ran.1.0,
         inr (record {
-          asks = read.0;
+          report = c.in-Ok.field-0.report;
+          text = order.0;
+          model = order.1.0;
+          documents = order.1.1.0;
+          commands = order.1.1.1.0;
+          asks = order.1.1.1.1;
           quiet = c.in-Ok.ensures.still;
-          said = read.1.0;
           runs = runs-said (record {
             told = g.V.Volumes.told;
             volume = g.V.Volumes.volume;
@@ -88,10 +96,10 @@ returns-in-Ok-clause-ended g c = λ not_6.
             moment = g.V.Volumes.moment;
             images_since = g.V.Volumes.images_since;
           })
-              c.in-Ok.prepared.text read.1.0.text (arc_value c.in-Ok.prepared.model) read.1.0.model c.in-Ok.prepared.inputs.masters
-              (masters_of read.1.0.documents) c.in-Ok.prepared.commands read.1.0.commands c.args.vols c.run.result.vols (g.C.Clock.told c.run.new.clock)
-              (g.C.Clock.given c.args.clock.now) (g.C.Clock.given c.run.new.clock) c.run.result.status ran.0 ran.1.0
-              read.1.1.text_is read.1.1.model_is read.1.1.masters_are read.1.1.commands_are ran.1.1;
+              c.in-Ok.field-0.prepared.text order.0 (arc_value c.in-Ok.field-0.prepared.model) order.1.0 c.in-Ok.field-0.prepared.inputs.masters
+              (masters_of order.1.1.0) c.in-Ok.field-0.prepared.commands order.1.1.1.0 c.args.vols c.run.result.vols c.in-Ok.field-0.report
+              (g.C.Clock.told c.run.new.clock) (g.C.Clock.given c.args.clock.now) (g.C.Clock.given c.run.new.clock) c.run.result.status ran.0 ran.1.0
+              is.text_is is.model_is is.masters_are is.commands_are ran.1.1;
         }),
         ran.1.2.appends,
         ran.1.2.quiet,
@@ -100,7 +108,8 @@ returns-in-Ok-clause-ended g c = λ not_6.
 
 pub returns-in-Ok-clause-write_fault : goal.returns-in-Ok-clause-write_fault
 returns-in-Ok-clause-write_fault g c = λ is_6.
-    let read = c.in-Ok.ensures.runs in
+    let order = c.in-Ok.ensures.runs in
+    let is = order.1.1.1.2 in
     let ran = c.run.ensures.write_fault is_6 in (
       ran.0,
       (
@@ -108,9 +117,13 @@ returns-in-Ok-clause-write_fault g c = λ is_6.
         (
           ran.1.1.0,
           inr (record {
-            asks = read.0;
+            report = c.in-Ok.field-0.report;
+            text = order.0;
+            model = order.1.0;
+            documents = order.1.1.0;
+            commands = order.1.1.1.0;
+            asks = order.1.1.1.1;
             quiet = c.in-Ok.ensures.still;
-            said = read.1.0;
             runs = runs-said (record {
               told = g.V.Volumes.told;
               volume = g.V.Volumes.volume;
@@ -118,10 +131,10 @@ returns-in-Ok-clause-write_fault g c = λ is_6.
               moment = g.V.Volumes.moment;
               images_since = g.V.Volumes.images_since;
             })
-                c.in-Ok.prepared.text read.1.0.text (arc_value c.in-Ok.prepared.model) read.1.0.model c.in-Ok.prepared.inputs.masters
-                (masters_of read.1.0.documents) c.in-Ok.prepared.commands read.1.0.commands c.args.vols c.run.result.vols (g.C.Clock.told c.run.new.clock)
-                (g.C.Clock.given c.args.clock.now) (g.C.Clock.given c.run.new.clock) ran.0 ran.1.0 ran.1.1.0
-                read.1.1.text_is read.1.1.model_is read.1.1.masters_are read.1.1.commands_are ran.1.1.1;
+                c.in-Ok.field-0.prepared.text order.0 (arc_value c.in-Ok.field-0.prepared.model) order.1.0 c.in-Ok.field-0.prepared.inputs.masters
+                (masters_of order.1.1.0) c.in-Ok.field-0.prepared.commands order.1.1.1.0 c.args.vols c.run.result.vols c.in-Ok.field-0.report
+                (g.C.Clock.told c.run.new.clock) (g.C.Clock.given c.args.clock.now) (g.C.Clock.given c.run.new.clock) ran.0 ran.1.0 ran.1.1.0
+                is.text_is is.model_is is.masters_are is.commands_are ran.1.1.1;
           }),
           ran.1.1.2,
         ),

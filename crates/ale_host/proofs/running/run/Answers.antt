@@ -1,7 +1,8 @@
 use Rattle.std.specs.Arc.{arc_value}
-use Rattle.std.proofs.Common.{[], Some, length, zero-le, inl, inr, refl}
-use Rattle.ale_host.specs.Running.{status_unopened, line_unopened}
-use Rattle.ale_host.proofs.RunningLemmas.{from-said, opened-up}
+use Rattle.std.proofs.Common.{[], Some, length, zero-le, inl, refl, sym}
+use Rattle.ale_host.specs.declared.running.Report.TheVariants.{Commands, Counts}
+use Rattle.ale_host.specs.Running.{Disk, status_unopened, line_unopened}
+use Rattle.ale_host.proofs.RunningLemmas.{opened-up, ran-from}
 use Rattle.ale_host.proofs.running.run.Goals as goal
 
 pub returns-in-Err-clause-ended : goal.returns-in-Err-clause-ended
@@ -50,64 +51,104 @@ run_opened-requires g c = record {
   up = opened-up (length (arc_value c.args.prepared.model).systems) c.args.prepared.text (Some c.now-moment.result) c.in-Ok.landscape c.in-Ok.ensures.opened;
 }
 
-pub returns-clause-ended : goal.returns-clause-ended
-returns-clause-ended g c = λ not_6.
+pub returns-in-Commands-clause-ended : goal.returns-in-Commands-clause-ended
+returns-in-Commands-clause-ended g c = λ not_6.
+    let disk : Disk g.row.V.Denot = record {
+      told = g.V.Volumes.told;
+      volume = g.V.Volumes.volume;
+      faults = g.V.Volumes.faults;
+      moment = g.V.Volumes.moment;
+      images_since = g.V.Volumes.images_since;
+    } in
     let ran = c.run_opened.ensures.ended not_6 in (
       ran.0,
       (
         ran.1.0,
-        inr (record {
-          moment = c.now-moment.result;
-          begun = c.in-Ok.landscape;
-          opened = record { world = c.in-Ok.ensures.opened; empty = c.in-Ok.ensures.why; still = c.in-Ok.ensures.faults; left = c.in-Ok.ensures.volumes };
-          inputs = c.args.prepared.inputs;
-          names = c.requires.names;
-          masters_are = refl;
-          given_then = g.C.Clock.given c.now-moment.new.self;
-          asked = λ tells. c.now-moment.ensures.given (c.run_opened.ensures.told tells);
-          from = from-said (record {
-            told = g.V.Volumes.told;
-            volume = g.V.Volumes.volume;
-            faults = g.V.Volumes.faults;
-            moment = g.V.Volumes.moment;
-            images_since = g.V.Volumes.images_since;
-          })
-              (arc_value c.args.prepared.inputs.model) (arc_value c.args.prepared.model) c.args.prepared.inputs c.as_slice.result.now c.args.prepared.commands
-              c.in-Ok.landscape c.run_opened.result.vols (g.C.Clock.told c.run_opened.new.clock) (g.C.Clock.given c.now-moment.new.self)
-              (g.C.Clock.given c.run_opened.new.clock) c.run_opened.result.status ran.0 ran.1.0 c.requires.names c.as_slice.ensures ran.1.1;
-        }),
+        ran-from disk c.args.prepared.text (arc_value c.args.prepared.model) c.args.prepared.inputs.masters c.args.prepared.commands
+            c.as_slice-commands.result.now c.args.vols c.run_opened.result.vols c.args.report Commands (g.C.Clock.told c.run_opened.new.clock) (g.C.Clock.given c.args.clock.now)
+            (g.C.Clock.given c.now-moment.new.self) (g.C.Clock.given c.run_opened.new.clock) c.run_opened.result.status ran.0 ran.1.0
+            c.now-moment.result c.in-Ok.landscape c.args.prepared.inputs
+            (record { world = c.in-Ok.ensures.opened; empty = c.in-Ok.ensures.why; still = c.in-Ok.ensures.faults; left = c.in-Ok.ensures.volumes })
+            c.requires.names refl (λ tells. c.now-moment.ensures.given (c.run_opened.ensures.told tells)) c.as_slice-commands.ensures (sym c.in-Commands.is) ran.1.1,
         ran.1.2,
       ),
     )
 
-pub returns-clause-write_fault : goal.returns-clause-write_fault
-returns-clause-write_fault g c = λ is_6.
+pub returns-in-Commands-clause-write_fault : goal.returns-in-Commands-clause-write_fault
+returns-in-Commands-clause-write_fault g c = λ is_6.
+    let disk : Disk g.row.V.Denot = record {
+      told = g.V.Volumes.told;
+      volume = g.V.Volumes.volume;
+      faults = g.V.Volumes.faults;
+      moment = g.V.Volumes.moment;
+      images_since = g.V.Volumes.images_since;
+    } in
     let ran = c.run_opened.ensures.write_fault is_6 in (
       ran.0,
       (
         ran.1.0,
         (
           ran.1.1.0,
-          inr (record {
-            moment = c.now-moment.result;
-            begun = c.in-Ok.landscape;
-            opened = record { world = c.in-Ok.ensures.opened; empty = c.in-Ok.ensures.why; still = c.in-Ok.ensures.faults; left = c.in-Ok.ensures.volumes };
-            inputs = c.args.prepared.inputs;
-            names = c.requires.names;
-            masters_are = refl;
-            given_then = g.C.Clock.given c.now-moment.new.self;
-            asked = λ tells. c.now-moment.ensures.given (c.run_opened.ensures.told tells);
-            from = from-said (record {
-              told = g.V.Volumes.told;
-              volume = g.V.Volumes.volume;
-              faults = g.V.Volumes.faults;
-              moment = g.V.Volumes.moment;
-              images_since = g.V.Volumes.images_since;
-            })
-                (arc_value c.args.prepared.inputs.model) (arc_value c.args.prepared.model) c.args.prepared.inputs c.as_slice.result.now c.args.prepared.commands
-                c.in-Ok.landscape c.run_opened.result.vols (g.C.Clock.told c.run_opened.new.clock) (g.C.Clock.given c.now-moment.new.self)
-                (g.C.Clock.given c.run_opened.new.clock) ran.0 ran.1.0 ran.1.1.0 c.requires.names c.as_slice.ensures ran.1.1.1;
-          }),
+          ran-from disk c.args.prepared.text (arc_value c.args.prepared.model) c.args.prepared.inputs.masters c.args.prepared.commands
+              c.as_slice-commands.result.now c.args.vols c.run_opened.result.vols c.args.report Commands (g.C.Clock.told c.run_opened.new.clock) (g.C.Clock.given c.args.clock.now)
+              (g.C.Clock.given c.now-moment.new.self) (g.C.Clock.given c.run_opened.new.clock) ran.0 ran.1.0 ran.1.1.0
+              c.now-moment.result c.in-Ok.landscape c.args.prepared.inputs
+              (record { world = c.in-Ok.ensures.opened; empty = c.in-Ok.ensures.why; still = c.in-Ok.ensures.faults; left = c.in-Ok.ensures.volumes })
+              c.requires.names refl (λ tells. c.now-moment.ensures.given (c.run_opened.ensures.told tells)) c.as_slice-commands.ensures (sym c.in-Commands.is) ran.1.1.1,
+          ran.1.1.2,
+        ),
+      ),
+    )
+
+pub load_opened-requires : goal.load_opened-requires
+load_opened-requires g c = record {
+  up = opened-up (length (arc_value c.args.prepared.model).systems) c.args.prepared.text (Some c.now-moment.result) c.in-Ok.landscape c.in-Ok.ensures.opened;
+}
+
+pub returns-clause-ended : goal.returns-clause-ended
+returns-clause-ended g c = λ not_6.
+    let disk : Disk g.row.V.Denot = record {
+      told = g.V.Volumes.told;
+      volume = g.V.Volumes.volume;
+      faults = g.V.Volumes.faults;
+      moment = g.V.Volumes.moment;
+      images_since = g.V.Volumes.images_since;
+    } in
+    let ran = c.load_opened.ensures.ended not_6 in (
+      ran.0,
+      (
+        ran.1.0,
+        ran-from disk c.args.prepared.text (arc_value c.args.prepared.model) c.args.prepared.inputs.masters c.args.prepared.commands
+            c.as_slice-commands.result.now c.args.vols c.load_opened.result.vols c.args.report Counts (g.C.Clock.told c.load_opened.new.clock) (g.C.Clock.given c.args.clock.now)
+            (g.C.Clock.given c.now-moment.new.self) (g.C.Clock.given c.load_opened.new.clock) c.load_opened.result.status ran.0 ran.1.0
+            c.now-moment.result c.in-Ok.landscape c.args.prepared.inputs
+            (record { world = c.in-Ok.ensures.opened; empty = c.in-Ok.ensures.why; still = c.in-Ok.ensures.faults; left = c.in-Ok.ensures.volumes })
+            c.requires.names refl (λ tells. c.now-moment.ensures.given (c.load_opened.ensures.told tells)) c.as_slice-commands.ensures (sym c.in-Counts.is) ran.1.1,
+        ran.1.2,
+      ),
+    )
+
+pub returns-clause-write_fault : goal.returns-clause-write_fault
+returns-clause-write_fault g c = λ is_6.
+    let disk : Disk g.row.V.Denot = record {
+      told = g.V.Volumes.told;
+      volume = g.V.Volumes.volume;
+      faults = g.V.Volumes.faults;
+      moment = g.V.Volumes.moment;
+      images_since = g.V.Volumes.images_since;
+    } in
+    let ran = c.load_opened.ensures.write_fault is_6 in (
+      ran.0,
+      (
+        ran.1.0,
+        (
+          ran.1.1.0,
+          ran-from disk c.args.prepared.text (arc_value c.args.prepared.model) c.args.prepared.inputs.masters c.args.prepared.commands
+              c.as_slice-commands.result.now c.args.vols c.load_opened.result.vols c.args.report Counts (g.C.Clock.told c.load_opened.new.clock) (g.C.Clock.given c.args.clock.now)
+              (g.C.Clock.given c.now-moment.new.self) (g.C.Clock.given c.load_opened.new.clock) ran.0 ran.1.0 ran.1.1.0
+              c.now-moment.result c.in-Ok.landscape c.args.prepared.inputs
+              (record { world = c.in-Ok.ensures.opened; empty = c.in-Ok.ensures.why; still = c.in-Ok.ensures.faults; left = c.in-Ok.ensures.volumes })
+              c.requires.names refl (λ tells. c.now-moment.ensures.given (c.load_opened.ensures.told tells)) c.as_slice-commands.ensures (sym c.in-Counts.is) ran.1.1.1,
           ran.1.1.2,
         ),
       ),

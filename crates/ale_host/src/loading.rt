@@ -1,0 +1,147 @@
+//! What a load has from its texts, and the line that it reports.
+
+ghost use Rattle.std.specs.Prelude.{◌≡◌, ◌++◌, ◌+◌, ◌≤◌, ℕ, length, Ok, IfErr, IfOk, OnOk};
+ghost use Rattle.std.specs.Fmt.{decimal};
+ghost use Rattle.ale_base.specs.Lines.{lines_of};
+ghost use Rattle.idoc_file.specs.DocumentFile.{AreDocuments};
+ghost use Rattle.idoc_file.specs.Reading.{Stands};
+ghost use Rattle.model_text.specs.Text.{answer_to};
+ghost use Rattle.script_text.specs.Script.{script_of};
+ghost use Rattle.load_texts.specs.declared.model.TheConstants.{LOAD_MODEL};
+ghost use Rattle.load_texts.specs.Load.{documents, script};
+ghost use Rattle.ale_host.specs.Ending.{IsPrintable};
+ghost use Rattle.ale_host.specs.Loading.{EndsLoad, load_line};
+ghost use Rattle.ale_host.specs.Prepared.{IsLoaded};
+
+use crate::ending::Ending;
+use crate::inputs::{ModelFile, refused};
+use crate::pass_text::put;
+use crate::prepared::{Prepared, prepare};
+use crate::words::MAX_MASTERS;
+use ale_base::{Items, OutOfMemory};
+use idoc_file::{RawDoc, Reader};
+use landscape::Counts;
+use load_texts::{LOAD_MODEL, load_documents, load_script};
+use model_text::ModelFault;
+use script_text::{Command, ScriptFault};
+use std::alloc::Global;
+
+/// What a load of so many masters has from its texts, or how it ends at one of them.
+pub(crate) fn read_load(alloc: Global, masters: u32) -> Result<Prepared, Ending>
+    requires { masters ≤ MAX_MASTERS }
+    ensures says { IfOk result (IsLoaded masters) }
+    ensures ends { IfErr result (EndsLoad masters) }
+    ensures printable { IfErr result IsPrintable }
+{
+    match said_model(alloc) {
+        Ok(said) => read_behind_model(alloc, masters, said),
+        Err(ending) => Err(ending),
+    }
+}
+
+/// The same, where the model was read.
+fn read_behind_model(alloc: Global, masters: u32, said: ModelFile) -> Result<Prepared, Ending>
+    requires masters { masters ≤ MAX_MASTERS }
+    requires text { said.text ≡ LOAD_MODEL.now }
+    requires says { answer_to LOAD_MODEL.now ≡ Ok said.model }
+    ensures says { IfOk result (IsLoaded masters) }
+    ensures ends { IfErr result (EndsLoad masters) }
+    ensures printable { IfErr result IsPrintable }
+{
+    let documents = said_documents(alloc, masters)?;
+    let commands = said_commands(alloc, masters)?;
+    match prepare(alloc, said, documents, commands) {
+        Ok(prepared) => Ok(prepared),
+        Err(OutOfMemory) => Err(Ending::OutOfMemory),
+    }
+}
+
+/// The model of a load.
+fn said_model(alloc: Global) -> Result<ModelFile, Ending>
+    ensures text { IfOk result (λ file. file.text ≡ LOAD_MODEL.now) }
+    ensures says { IfOk result (λ file. answer_to LOAD_MODEL.now ≡ Ok file.model) }
+    ensures ends { (masters : ℕ) → IfErr result (EndsLoad masters) }
+    ensures printable { IfErr result IsPrintable }
+{
+    match model_text::read(alloc, LOAD_MODEL) {
+        Ok(model) => match Items::from_slice(alloc, LOAD_MODEL) {
+            Ok(text) => Ok(ModelFile { text, model }),
+            Err(OutOfMemory) => Err(Ending::OutOfMemory),
+        },
+        Err(ModelFault::OutOfMemory) => Err(Ending::OutOfMemory),
+        Err(fault) => Err(Ending::ModelRefused(fault)),
+    }
+}
+
+/// The documents of a load.
+fn said_documents(alloc: Global, masters: u32) -> Result<Items<RawDoc>, Ending>
+    requires { masters ≤ MAX_MASTERS }
+    ensures says { IfOk result (AreDocuments (lines_of (documents masters))) }
+    ensures ends { IfErr result (EndsLoad masters) }
+    ensures printable { IfErr result IsPrintable }
+{
+    match fed(alloc, masters) {
+        Ok(reader) => match reader.end() {
+            Ok(documents) => Ok(documents),
+            Err(fault) => match refused(fault) {
+                Ok(ending) => Err(ending),
+                Err(OutOfMemory) => Err(Ending::OutOfMemory),
+            },
+        },
+        Err(OutOfMemory) => Err(Ending::OutOfMemory),
+    }
+}
+
+/// A reader that was fed the documents of a load.
+fn fed(alloc: Global, masters: u32) -> Result<Reader, OutOfMemory>
+    requires { masters ≤ MAX_MASTERS }
+    ensures { IfOk result (λ reader. Stands reader (documents masters)) }
+{
+    let text = load_documents(alloc, masters)?;
+    let mut reader = Reader::new(alloc);
+    reader.feed(text.as_slice())?;
+    Ok(reader)
+}
+
+/// The commands of a load.
+fn said_commands(alloc: Global, masters: u32) -> Result<Items<Command>, Ending>
+    ensures says { IfOk result (λ commands. script_of (script masters) ≡ Ok commands) }
+    ensures ends { IfErr result (EndsLoad masters) }
+    ensures printable { IfErr result IsPrintable }
+{
+    match load_script(alloc, masters) {
+        Ok(text) => match script_text::read(alloc, text.as_slice()) {
+            Ok(commands) => Ok(commands),
+            Err(ScriptFault::OutOfMemory) => Err(Ending::OutOfMemory),
+            Err(fault) => Err(Ending::ScriptRefused(fault)),
+        },
+        Err(OutOfMemory) => Err(Ending::OutOfMemory),
+    }
+}
+
+/// The line of a load with these counts.
+pub(crate) fn load_line(alloc: Global, counts: Counts) -> Result<Vec<u8>, OutOfMemory>
+    ensures { IfOk result (λ text. text.items ≡ load_line counts) }
+{
+    let mut text = Vec::new(alloc);
+    put_counted(alloc, &mut text, b"masters ", counts.masters)?;
+    put_counted(alloc, &mut text, b" units ", counts.units)?;
+    put_counted(alloc, &mut text, b" received ", counts.received)?;
+    put_counted(alloc, &mut text, b" executed ", counts.executed)?;
+    put_counted(alloc, &mut text, b" ended ", counts.ended)?;
+    put(&mut text, b"\n")?;
+    Ok(text)
+}
+
+/// Appends a word and a number.
+fn put_counted(
+    alloc: Global,
+    text: &mut Vec<u8>,
+    word: &[u8],
+    number: u64,
+) -> Result<(), OutOfMemory>
+    ensures { OnOk result (text.new.items ≡ text.old.items ++ (word.now ++ decimal number)) }
+{
+    put(text, word)?;
+    put(text, number.to_string(alloc)?.as_bytes())
+}
