@@ -1,34 +1,47 @@
 -- Works until none is left.
-use Rattle.std.specs.Prelude.{Result, Ok, Err, IsErr, OnOk}
+use Rattle.std.specs.Prelude.{slice_index_or, Result, Ok, Err, IsErr, OnOk}
 use Rattle.std.specs.Result.{is_ok}
-use Rattle.std.proofs.Common.{◌≡◌, ◌+◌, ◌≤◌, ℕ, true, false, not, ◌&&◌, cond, Option, Some, None, List, [], ◌∷◌, ◌++◌, inl, inr, refl, sym, ap, subst, ◌∙◌, append_assoc, arith, Bool}
-use Rattle.std.proofs.lemmas.Bool.{cases_Bool, cases_lt}
-use Rattle.ale_base.specs.Tid.{TidOf, is_tid}
+use Rattle.std.proofs.Common.{◌≡◌, ◌+◌, ◌≤◌, ◌<◌, ℕ, take, true, false, not, ◌&&◌, ◌||◌, ◌⊎◌, cond, length, Option, Some, None, List, [], ◌∷◌, ◌++◌, inl, inr, refl, sym, ap, subst, ◌∙◌, append_assoc, arith, Bool}
+use Rattle.std.specs.List.{list_any}
+use Rattle.std.proofs.Math.Bool.{or-true}
+use Rattle.std.proofs.lemmas.Bool.{and_from, and_parts, both_ways, cases_Bool, cases_lt, or_parts}
+use Rattle.std.proofs.lemmas.List.{take_more}
+use Rattle.std.proofs.lemmas.List.Folds.{list_any-append}
+use Rattle.std.proofs.lemmas.Option.{same_Some}
+use Rattle.ale_base.specs.Tid.{IsTid, TidOf, is_tid}
 use Rattle.ale_base.specs.declared.out_of_memory.OutOfMemory.{OutOfMemory}
 use Rattle.unit_core.specs.declared.ale_unit.AleUnit.{AleUnit}
-use Rattle.unit_core.specs.Filters.{received}
-use Rattle.unit_core.specs.Queues.{unit_named}
-use Rattle.unit_core.proofs.TidLemmas.{is_tid-true}
+use Rattle.unit_core.specs.Filters.{done_in, ended_in, received}
+use Rattle.unit_core.specs.Queues.{is_listed, unit_named}
+use Rattle.unit_core.proofs.TidLemmas.{is_tid-from, is_tid-true, unit_named-Contains}
+use Rattle.system_tables.specs.OfLog.{is_unconfirmed}
+use Rattle.trfc_protocol.specs.Meaning.{Meaning}
+use Rattle.trfc_protocol.proofs.ForCallers.{done_unit}
+use Rattle.trfc_protocol.proofs.SafeLemmas.{committed_unit-is, numbered, sound_now}
 use Rattle.trfc_protocol.specs.declared.held.HeldKind.TheVariants.{Out, In}
 use Rattle.trfc_protocol.specs.declared.world.World.{World}
-use Rattle.trfc_protocol.specs.Legal.{is_free_inbound, is_free_outbound}
+use Rattle.trfc_protocol.specs.Legal.{IsUnitAt, is_free_inbound, is_free_outbound}
 use Rattle.trfc_protocol.specs.Offered.{is_offered_inbound, is_offered_outbound, is_stopped_inbound, is_stopped_outbound, may_move}
 use Rattle.trfc_protocol.specs.Worlds.{committed_by, committed_unit, is_claimed, is_up, log_of}
 use Rattle.trfc_protocol.proofs.WorldLemmas.{is_up-known, state_of-least, state_of-most}
 use Rattle.kept_world.specs.Kept.{KeptOf}
 use Rattle.unit_landscape.specs.Kept.{IsLandscape}
+use Rattle.landscape.specs.Shown.{AreUnconfirmedAt}
 use Rattle.document_tables.specs.declared.document_tables.DocumentTables.{DocumentTables}
 use Rattle.model_rules.specs.declared.model_rules.ModelRules.{ModelRules}
 use Rattle.wires.specs.declared.letter.Letter.{Letter}
 use Rattle.wires.specs.Wires.{letters_left, next_letter, rest_letters}
 use Rattle.unit_works.specs.Acts.{Act, GrewBy, HaveActed, confirm, execute, ship}
-use Rattle.unit_works.specs.Drained.{DrainedAs, Found, FoundAs, HasWorked, IsIdle, WorkedSo}
+use Rattle.unit_works.specs.Drained.{DrainedAs, Found, FoundAs, HasWorked, IsIdle}
 use Rattle.unit_works.specs.Events.{is_confirmation, is_execution, is_shipping, is_work}
 use Rattle.unit_works.specs.Trips.{confirmation, forgot, is_due}
 use Rattle.unit_works.specs.steps.Confirming.{IsDueOf}
 use Rattle.unit_works.specs.Worked.{HasTaken, HaveEnded, HaveTaken, Lines, NothingIn, NothingOut, Worked}
 use Rattle.unit_works.specs.Works.{ExecutedAs, ShippedAs}
-use Rattle.unit_works.specs.steps.Rounds.{NothingAt, NothingTo, joined}
+use Rattle.unit_works.specs.steps.Rounds.{HasVisited, IsTo, NothingAt, NothingTo, RoundsAs, VisitedSo, is_on, joined}
+use Rattle.unit_works.proofs.GrowthLemmas.{none-first, none-second}
+use Rattle.unit_works.proofs.LossLemmas.{due-or-on, lost-or-due}
+use Rattle.unit_works.proofs.TripLemmas.{due-parts}
 use Rattle.unit_works.proofs.WorkedLemmas.{confirmation-works, ended-on, ended-same, execution-works, is_lawful, meaning, on, shipping-works, still, wider}
 
 -- ---- letters
@@ -63,6 +76,78 @@ taken-on before between after first second tid =
     let one = first tid in
     let two = second tid in
     (one.0 ++ two.0, one.1 ∙ ap (λ rest. one.0 ++ rest) two.1 ∙ sym (append_assoc one.0 two.0 (letters_left after tid)))
+
+-- ---- units that are due
+
+module _ (world : World ModelRules) (is : IsLandscape meaning world) (unit : AleUnit) where
+  -- a unit that is due was committed
+  due-committed : is_due world unit ≡ true → (sent : AleUnit) × (committed_unit (meaning world.rules) world unit.tid ≡ Some sent)
+  due-committed due =
+      let parts = due-parts world unit due in
+      let done = (and_parts (is_listed unit.tid (done_in (log_of world unit.tid.system))) (not (is_listed unit.tid (ended_in (log_of world unit.tid.system))))
+      parts.2).0 in
+      let was = done_unit (meaning world.rules) (is_lawful world.rules) world is.safe unit.tid.system unit.tid done in (
+        was.0,
+        subst (λ t. unit_named t (committed_by (meaning world.rules) world unit.tid.system) ≡ Some was.0) was.1
+            (unit_named-Contains (committed_by (meaning world.rules) world unit.tid.system) was.0
+            (numbered (meaning world.rules) (is_lawful world.rules) world is.safe unit.tid.system) was.2),
+      )
+
+  -- the numbers of its id are in their ranges
+  committed-range : committed_unit (meaning world.rules) world unit.tid ≡ Some unit → is_up world unit.tid.system ≡ true → IsTid unit.tid
+  committed-range named up =
+      let rules : Meaning = meaning world.rules in
+      let system = unit.tid.system in
+      let records = log_of world system in
+      let legal = (sound_now rules (is_lawful world.rules) world is.safe).legal system in
+      let has = (committed_unit-is rules (is_lawful world.rules) world is.safe unit.tid unit named).0 in
+      let at = subst (IsUnitAt rules.systems system has.0) has.2 ((is_lawful world.rules).numbered system records legal has.0 unit has.1) in
+      let number : unit.tid.unit ≡ has.0 + 1 = ap (λ (t : TidOf). t.unit) at.tid in
+      let within = has.1 in
+      let most : length (rules.committed system records) ≤ 65536 = (is_lawful world.rules).most system records legal in
+      let known = is_up-known world system up in
+      let least_system = state_of-least world.systems system known.0 known.1 in
+      let most_system = state_of-most world.systems system known.0 known.1 in
+      let systems = is.safe.systems in
+      let few = (is_lawful world.rules).systems_most in
+      record { system_least = least_system; system_most = omega arith; unit_least = omega arith; unit_most = omega arith }
+
+  -- it is among those that are found unconfirmed at its system
+  pub due-found : (system : ℕ) (tids : List TidOf) → AreUnconfirmedAt world system tids → unit.tid.system ≡ system
+      → committed_unit (meaning world.rules) world unit.tid ≡ Some unit → is_due world unit ≡ true → is_listed unit.tid tids ≡ true
+  due-found system tids are here named due =
+      let parts = due-parts world unit due in
+      are unit.tid (committed-range named parts.0)
+      ∙ ap (λ s. is_up world s && is_unconfirmed unit.tid (log_of world s)) (sym here)
+      ∙ and_from (is_up world unit.tid.system) (is_unconfirmed unit.tid (log_of world unit.tid.system)) parts.0 parts.2
+
+-- the ids so far, and one more
+pub listed-more : (tids : List TidOf) (tid other : TidOf) → is_listed other (tids ++ tid ∷ []) ≡ true → (is_listed other tids ≡ true) ⊎ (other ≡ tid)
+listed-more tids tid other listed = elim (cases_Bool (is_tid tid other)) [
+  | inl same ↦ inr (sym (is_tid-true tid other same))
+  | inr differs ↦
+      let split : (is_listed other tids || (is_tid tid other || false)) ≡ true = sym (list_any-append (λ one. is_tid one other) tids (tid ∷ [])) ∙ listed in
+      let same : (is_listed other tids || (is_tid tid other || false)) ≡ is_listed other tids =
+      ap (λ b. is_listed other tids || (b || false)) differs ∙ sym (or-none (is_listed other tids)) in
+      inl (sym same ∙ split)
+]
+  where
+    or-none : (b : Bool) → b ≡ (b || false)
+    or-none true = refl
+    or-none false = refl
+
+pub listed-next : (tids : List TidOf) (place : ℕ) (tid other : TidOf) → place < length tids → tid ≡ slice_index_or tids place tid
+    → is_listed other (take (place + 1) tids) ≡ true → (is_listed other (take place tids) ≡ true) ⊎ (other ≡ tid)
+listed-next tids place tid other within is listed =
+    listed-more (take place tids) tid other
+    (ap (is_listed other) (sym (take_more tids place tid within ∙ ap (λ t. take place tids ++ t ∷ []) (sym is))) ∙ listed)
+
+-- the first systems, and one more
+pub within-more : (number system : ℕ) (tid : TidOf) → system ≡ number + 1 → IsTo (number + 1) tid → IsTo number tid ⊎ (tid.system ≡ system)
+within-more number system tid next within = elim (cases_lt number tid.system) [
+  | inl last ↦ let most = within.1 in inr (omega arith)
+  | inr less ↦ inl (within.0, less)
+]
 
 module _ {V : Type 0} (faults : V → ℕ → ℕ) where
   -- ---- acts
@@ -141,62 +226,150 @@ module _ {V : Type 0} (faults : V → ℕ → ℕ) where
     found-short most nothing (Ok found) short went = absurd (cc)
     found-short most nothing (Err why) short went = went
 
-    pub so-short : {T : Type 0} (n : ℕ) (result : Result T OutOfMemory) → IsErr result → Worked faults before after is_work false
-        → WorkedSo faults before lines after lines_after n result
-    so-short n (Ok done) short went = absurd (cc)
-    so-short n (Err why) short went = went
+    pub visited-short : {T : Type 0} (These : TidOf → Type 0) (result : Result T OutOfMemory) → IsErr result → Worked faults before after is_work false
+        → VisitedSo faults before lines after lines_after These result
+    visited-short These (Ok done) short went = absurd (cc)
+    visited-short These (Err why) short went = went
 
-    pub drained-short : (result : Result ℕ OutOfMemory) → IsErr result → Worked faults before after is_work false
-        → DrainedAs faults before lines after lines_after result
-    drained-short (Ok n) short went = absurd (cc)
-    drained-short (Err why) short went = went
+    pub rounds-short : (result : Result ℕ OutOfMemory) → IsErr result → Worked faults before after is_work false
+        → RoundsAs faults before lines after lines_after result
+    rounds-short (Ok n) short went = absurd (cc)
+    rounds-short (Err why) short went = went
+
+    -- no unit was due
+    pub visited-none : (These : TidOf → Type 0) → after ≡ before → lines_after ≡ lines
+        → ((unit : AleUnit) → These unit.tid → committed_unit (meaning before.world.rules) before.world unit.tid ≡ Some unit
+        → is_due before.world unit ≡ true → ⊥)
+        → HasVisited faults before lines after lines_after These
+    visited-none These same same_lines not_due = record {
+      worked = worked-same before after lines lines_after same same_lines;
+      visited = λ none unit these named due. absurd (not_due unit these named due);
+    }
+
+    -- those that are among these were visited too
+    pub visited-among : (These Those : TidOf → Type 0)
+        → ((unit : AleUnit) → Those unit.tid → committed_unit (meaning before.world.rules) before.world unit.tid ≡ Some unit
+        → is_due before.world unit ≡ true → These unit.tid)
+        → HasVisited faults before lines after lines_after These → HasVisited faults before lines after lines_after Those
+    visited-among These Those among did = record {
+      worked = did.worked;
+      visited = λ none unit those named due. did.visited none unit (among unit those named due) named due;
+    }
+
+    pub visited-so : {T : Type 0} (These Those : TidOf → Type 0) (result : Result T OutOfMemory)
+        → ((unit : AleUnit) → Those unit.tid → committed_unit (meaning before.world.rules) before.world unit.tid ≡ Some unit
+        → is_due before.world unit ≡ true → These unit.tid)
+        → VisitedSo faults before lines after lines_after These result → VisitedSo faults before lines after lines_after Those result
+    visited-so These Those (Ok done) among did = visited-among These Those among did
+    visited-so These Those (Err why) among did = did
 
   -- a unit that took a letter was confirmed, or was not
-  pub so-confirmed : {T : Type 0} (before after : KeptOf ModelRules DocumentTables V) (lines lines_after : Lines) (result : Result T OutOfMemory)
+  pub visited-confirmed : {T : Type 0} (before after : KeptOf ModelRules DocumentTables V) (lines lines_after : Lines) (result : Result T OutOfMemory)
       → Worked faults before after is_confirmation (is_ok result) → OnOk result (HaveEnded faults before after 0) → HaveTaken lines lines_after
       → (tid : TidOf) (letter : Letter) → letter ≡ next_letter (letters_left lines tid) → HasTaken tid lines lines_after
       → IsDueOf (meaning before.world.rules) before.world tid
       → ((unit : AleUnit) → committed_unit (meaning before.world.rules) before.world tid ≡ Some unit → is_due before.world unit ≡ true
       → OnOk result (GrewBy before after (confirmation letter (forgot before.world unit) unit)))
-      → WorkedSo faults before lines after lines_after 0 result
-  so-confirmed before after lines lines_after (Ok done) went ended taken tid letter next takes is grew = record {
-    went = wider faults is_confirmation is_work true before after confirmation-works went;
-    taken = taken;
-    ended = ended;
-    acts = confirm tid letter ∷ [];
-    did = (
-      after,
-      lines_after,
-      record {
-        unit = is.unit;
-        committed = is.committed;
-        due = is.due;
-        next = next;
-        taken = takes;
-        went = went;
-        grew = grew is.unit is.committed is.due;
-      },
-      (refl, refl),
-    );
+      → VisitedSo faults before lines after lines_after (λ (other : TidOf). other ≡ tid) result
+  visited-confirmed before after lines lines_after (Ok done) went ended taken tid letter next takes is grew = record {
+    worked = record {
+      went = wider faults is_confirmation is_work true before after confirmation-works went;
+      taken = taken;
+      ended = ended;
+      acts = confirm tid letter ∷ [];
+      did = (
+        after,
+        lines_after,
+        record {
+          unit = is.unit;
+          committed = is.committed;
+          due = is.due;
+          next = next;
+          taken = takes;
+          went = went;
+          grew = grew is.unit is.committed is.due;
+        },
+        (refl, refl),
+      );
+    };
+    visited = λ none unit its named due. ap (λ b. b || false) (is_tid-from tid unit.tid (sym its));
   }
-  so-confirmed before after lines lines_after (Err why) went ended taken tid letter next takes is grew = wider faults is_confirmation is_work false before after confirmation-works went
+  visited-confirmed before after lines lines_after (Err why) went ended taken tid letter next takes is grew = wider faults is_confirmation is_work false before
+      after confirmation-works went
 
-  -- works, and then a drain
+  -- units were visited, and then others
+  pub visited-on : (before between after : KeptOf ModelRules DocumentTables V) (lines lines_between lines_after : Lines) (These Those All : TidOf → Type 0)
+      → ((tid : TidOf) → All tid → These tid ⊎ Those tid)
+      → HasVisited faults before lines between lines_between These → HasVisited faults between lines_between after lines_after Those
+      → HasVisited faults before lines after lines_after All
+  unfolding worked-on
+  visited-on before between after lines lines_between lines_after These Those All covers first second = record {
+    worked = worked-on before between after lines lines_between lines_after 0 0 first.worked second.worked;
+    visited = λ none unit all named due.
+        let one = first.worked in
+        let two = second.worked in
+        let none_first = none-first meaning faults is_work true before between after two.went none in
+        let none_second = none-second meaning faults is_work true before between after one.went none in
+        list_any-append (is_on unit.tid) one.acts two.acts
+        ∙ elim (covers unit.tid all) [
+          | inl these ↦ ap (λ b. b || list_any (is_on unit.tid) two.acts) (first.visited none_first unit these named due)
+          | inr those ↦ elim (due-or-on faults one.acts before between lines lines_between one.did none_first unit due) [
+            | inl still_due ↦
+                let went = one.went in
+                ap (λ b. list_any (is_on unit.tid) one.acts || b)
+                (second.visited none_second unit those (went.committed unit.tid unit named) still_due)
+                ∙ or-true (list_any (is_on unit.tid) one.acts)
+            | inr on_it ↦ ap (λ b. b || list_any (is_on unit.tid) two.acts) on_it
+          ]
+        ];
+  }
+
+  -- units were visited, and then works were done until none is left
   pub drained-on : (before between after : KeptOf ModelRules DocumentTables V) (lines lines_between lines_after : Lines) (result : Result ℕ OutOfMemory)
-      → HasWorked faults before lines between lines_between 0 → DrainedAs faults between lines_between after lines_after result
+      → IsLandscape meaning before.world
+      → HasVisited faults before lines between lines_between (IsTo 16) → RoundsAs faults between lines_between after lines_after result
       → DrainedAs faults before lines after lines_after result
-  drained-on before between after lines lines_between lines_after (Ok n) first second = (
-    let same : 0 + n ≡ n = omega arith in
-        subst (HasWorked faults before lines after lines_after) same (worked-on before between after lines lines_between lines_after 0 n first second.0),
-    second.1,
-  )
-  drained-on before between after lines lines_between lines_after (Err why) first second = on faults is_work false before between after first.went second
+  unfolding worked-on
+  drained-on before between after lines lines_between lines_after (Ok n) is first second =
+      let one = first.worked in
+      let two = second.0 in
+      let both = worked-on before between after lines lines_between lines_after 0 n one two in
+      let same : 0 + n ≡ n = omega arith in (
+        record {
+          went = both.went;
+          taken = both.taken;
+          ended = subst (HaveEnded faults before after) same both.ended;
+          acts = one.acts ++ two.acts;
+          did = both.did;
+        },
+        second.1,
+        λ none unit named due. elim (lost-or-due faults (one.acts ++ two.acts) before after lines lines_after both.did none unit due) [
+          | inr lost ↦ lost
+          | inl was ↦
+              let sent = due-committed before.world is unit was.0 in
+              let went = both.went in
+              let equal : sent.0 ≡ unit = same_Some sent.0 unit (sym (went.committed unit.tid sent.0 sent.1) ∙ named) in
+              let found : committed_unit (meaning before.world.rules) before.world unit.tid ≡ Some unit = sent.1 ∙ ap Some equal in
+              let up = due-parts before.world unit was.0 in
+              let known = is_up-known before.world unit.tid.system up.0 in
+              let least = state_of-least before.world.systems unit.tid.system known.0 known.1 in
+              let most = state_of-most before.world.systems unit.tid.system known.0 known.1 in
+              let systems = is.safe.systems in
+              let few = (is_lawful before.world.rules).systems_most in
+              let visited = first.visited (none-first meaning faults is_work true before between after two.went none) unit (least, omega arith) found was.0 in
+              let parts = or_parts (list_any (is_on unit.tid) one.acts) (list_any (is_on unit.tid) two.acts)
+              (sym (list_any-append (is_on unit.tid) one.acts two.acts) ∙ was.1) in
+              absurd (both_ways (list_any (is_on unit.tid) one.acts) parts.0 visited)
+        ],
+      )
+  drained-on before between after lines lines_between lines_after (Err why) is first second =
+      let one = first.worked in on faults is_work false before between after one.went second
 
   -- works, and then nothing more is found
-  pub drained-idle : (before between after : KeptOf ModelRules DocumentTables V) (lines lines_between lines_after : Lines) (n : ℕ)
+  pub rounds-idle : (before between after : KeptOf ModelRules DocumentTables V) (lines lines_between lines_after : Lines) (n : ℕ)
       → HasWorked faults before lines between lines_between n → Found faults between lines_between after lines_after 32 (IsIdle between.world) None
-      → DrainedAs faults before lines after lines_after (Ok n)
-  drained-idle before between after lines lines_between lines_after n worked none = (
+      → RoundsAs faults before lines after lines_after (Ok n)
+  rounds-idle before between after lines lines_between lines_after n worked none = (
     subst (λ (k : KeptOf ModelRules DocumentTables V). HasWorked faults before lines k lines_after n) (sym none.0)
         (subst (λ l. HasWorked faults before lines between l n) (sym none.1) worked),
     subst (λ (k : KeptOf ModelRules DocumentTables V). IsIdle k.world) (sym none.0) none.2,

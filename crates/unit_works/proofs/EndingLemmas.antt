@@ -285,7 +285,8 @@ module _ {R A V : Type 0} (meaning : R → Meaning) (lawful : (r : R) → IsLawf
         let appends = execute-appends rules (lawful before.world.rules) before.world is.safe held (in-found before.world claim held holds) kind
         (ap (is_offered_function rules before.world) holds.its ∙ offered) in
         let writes = executed-record rules before.world claim held holds (log.Execute held.tid) appends in
-        let offers = if-met (offers_received_now rules before.world held.system held.tid) held.system (log.Execute held.tid) (at held.system (log.Execute held.tid))
+        let offers = if-met (offers_received_now rules before.world held.system held.tid) held.system (log.Execute held.tid)
+        (at held.system (log.Execute held.tid))
         (sym (of-claim held holds In kind (record_of_work rules before.world)) ∙ writes) in
         subst (HaveGrown before.world after.world) (worked-in held kind true offers)
         (happened-grown meaning lawful faults before after is (event.Finish claim.number) refl (Some (at held.system (log.Execute held.tid))) writes did)
@@ -321,7 +322,8 @@ module _ {R A V : Type 0} (meaning : R → Meaning) (lawful : (r : R) → IsLawf
           subst (λ k. IsRun k claim.tid finished.Failed) (sym kind) tt,
         )
     failed-grew held holds Direct kind offered did =
-        let none = sym (of-claim held holds Direct kind (record_of_failure (meaning before.world.rules) before.world)) ∙ failed-writes held holds offered in absurd
+        let none = sym (of-claim held holds Direct kind (record_of_failure (meaning before.world.rules) before.world)) ∙ failed-writes held holds
+        offered in absurd
         (cc)
     failed-grew held holds Out kind offered did = let none = sym holds.kind ∙ ap (λ k. is_kind k Out) kind in absurd (cc)
 

@@ -1,5 +1,5 @@
 -- What is appended where no system fell: of two works each, and of one event.
-use Rattle.std.proofs.Common.{◌≡◌, ℕ, Bool, true, false, Option, inl, inr, sym, subst}
+use Rattle.std.proofs.Common.{◌≡◌, ℕ, Bool, true, Option, inl, inr, sym, subst}
 use Rattle.std.proofs.lemmas.Bool.{both_ways, cases_Bool}
 use Rattle.trfc_protocol.specs.declared.event.Event.{Event}
 use Rattle.trfc_protocol.specs.declared.world.World.{World}

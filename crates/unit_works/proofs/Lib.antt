@@ -28,5 +28,7 @@ pub mod ConfirmingLemmas
 pub mod TripLemmas
 -- works one after the other
 pub mod WorkedLemmas
+-- a confirmation that is due after acts was due before them, or was lost
+pub mod LossLemmas
 -- works until none is left
 pub mod DrainedLemmas

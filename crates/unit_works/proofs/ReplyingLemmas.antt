@@ -1,6 +1,6 @@
 -- A shipment is replied to: nothing has ended, and its claim is gone.
 use Rattle.std.specs.Prelude.{Result, Ok, Err, filter}
-use Rattle.std.proofs.Common.{◌≡◌, ◌==◌, ◌+◌, ◌&&◌, ℕ, not, Bool, true, false, cond, Option, Some, None, List, [], ◌∷◌, inl, inr, refl, sym, ap, subst, ◌∙◌, arith}
+use Rattle.std.proofs.Common.{◌≡◌, ◌==◌, ◌+◌, ◌&&◌, ℕ, not, Bool, true, false, cond, Option, Some, None, List, [], inl, inr, refl, sym, ap, subst, ◌∙◌, arith}
 use Rattle.std.proofs.lemmas.Bool.{both_ways, cond_both}
 use Rattle.ale_base.specs.Tid.{TidOf, is_tid}
 use Rattle.ale_base.specs.declared.mark.Mark.TheVariants.{Cpicerr, Sysfail}

@@ -1,8 +1,8 @@
 -- What is appended as a unit is delivered, shipped whole and confirmed, where no system fell.
-use Rattle.std.specs.Prelude.{⊤, Contains, filter}
+use Rattle.std.specs.Prelude.{Contains, filter}
 use Rattle.std.specs.List.{filter_map}
 use Rattle.std.specs.Option.{option_map_or}
-use Rattle.std.proofs.Common.{◌≡◌, ◌==◌, ◌&&◌, ℕ, not, Bool, true, false, cond, Option, Some, None, List, [], ◌∷◌, ◌++◌, inl, inr, refl, sym, ap, subst, ◌∙◌}
+use Rattle.std.proofs.Common.{◌≡◌, ◌==◌, ◌&&◌, ℕ, not, Bool, true, false, cond, Option, Some, None, List, [], ◌++◌, inl, inr, refl, sym, ap, subst, ◌∙◌}
 use Rattle.std.proofs.lemmas.Bool.{and_from, and_parts, both_ways, cases_Bool, false_from_ne_true, not-true}
 use Rattle.std.proofs.lemmas.List.Elements.{All-contains}
 use Rattle.ale_base.specs.Tid.{TidOf, is_tid}
@@ -19,7 +19,6 @@ use Rattle.trfc_protocol.specs.declared.answer.Answer.{Answer}
 use Rattle.trfc_protocol.specs.declared.answer.Answer.TheVariants as answer
 use Rattle.trfc_protocol.specs.declared.event.CoreAnswer.{CoreAnswer}
 use Rattle.trfc_protocol.specs.declared.event.CoreAnswer.TheVariants as core
-use Rattle.trfc_protocol.specs.declared.event.Event.{Event}
 use Rattle.trfc_protocol.specs.declared.event.Event.TheVariants as event
 use Rattle.trfc_protocol.specs.declared.event.ReplyTo.TheVariants.{Claim}
 use Rattle.trfc_protocol.specs.declared.held.Held.{Held}
@@ -46,7 +45,7 @@ use Rattle.unit_landscape.specs.Calls.{is_refused, reply_event, stands_out, was_
 use Rattle.wires.specs.declared.letter.Letter.{Letter}
 use Rattle.wires.specs.declared.letter.Letter.TheVariants.{Whole, LostRequest, LostReply, Twice, LostConfirmation}
 use Rattle.unit_works.specs.Events.{arrives_under, is_answered_under, is_confirmed_under, told_of}
-use Rattle.unit_works.specs.Trips.{HaveGrown, NoneFell, back_of, closing, confirmation, forgot, is_done, is_due, learnt_under, noted_of, one_at, records_at, shipment, taken_in}
+use Rattle.unit_works.specs.Trips.{HaveGrown, NoneFell, back_of, closing, confirmation, forgot, is_done, is_due, learnt_under, noted_of, one_at, shipment, taken_in}
 use Rattle.unit_works.specs.steps.Arriving.{ClaimsAre, HasAnswered, HasArrived, HasDelivered, Says, Tells, accepted, back_under, event_of, run_held, run_of}
 use Rattle.unit_works.specs.steps.Confirming.{sent_to}
 use Rattle.unit_works.specs.steps.Ending.{HasFinished, IsRun, run_at}

@@ -1,8 +1,7 @@
 -- Acts, and lists of them: a unit is shipped whole under a letter, executed by its receiver, or confirmed under a letter.
-use Rattle.std.specs.Prelude.{◌≡◌, ◌&&◌, ℕ, true, List, [], ◌∷◌, Some}
-use Rattle.ale_base.specs.Tid.{TidOf}
+use Rattle.std.specs.Prelude.{◌≡◌, ℕ, false, Bool, true, List, [], ◌∷◌, Some}
+use Rattle.ale_base.specs.Tid.{TidOf, is_tid}
 use Rattle.unit_core.specs.declared.ale_unit.AleUnit.{AleUnit}
-use Rattle.unit_core.specs.declared.records.Record.{Record}
 use Rattle.trfc_protocol.specs.Worlds.{committed_unit}
 use Rattle.trfc_protocol.specs.Offered.{answer_to, offers_received_now}
 use Rattle.trfc_protocol.specs.RecordOf.{Writing}
@@ -11,6 +10,7 @@ use Rattle.document_tables.specs.declared.document_tables.DocumentTables.{Docume
 use Rattle.model_rules.specs.declared.model_rules.ModelRules.{ModelRules}
 use Rattle.model_rules.specs.Meaning.{model_meaning}
 use Rattle.wires.specs.declared.letter.Letter.{Letter}
+use Rattle.wires.specs.declared.letter.Letter.TheVariants.{LostConfirmation}
 use Rattle.wires.specs.Wires.{letters_left, next_letter}
 use Rattle.unit_works.specs.Events.{is_confirmation, is_execution, is_shipping}
 use Rattle.unit_works.specs.Trips.{HaveGrown, NoneFell, shipment, execution, confirmation, may_ship, may_execute, is_due, forgot}
@@ -53,6 +53,12 @@ pub data Act : Type 0 where
   ship : TidOf → Letter → Act
   execute : ℕ → TidOf → Act
   confirm : TidOf → Letter → Act
+
+-- an act on the unit of an id loses its confirmation
+abbrev pub loses : TidOf → Act → Bool
+loses tid (ship other LostConfirmation) = is_tid other tid
+loses tid (confirm other LostConfirmation) = is_tid other tid
+loses tid _ = false
 
 module _ {V : Type 0} (faults : V → ℕ → ℕ) where
   -- an act was done

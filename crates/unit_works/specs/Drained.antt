@@ -1,8 +1,11 @@
 -- A drain: works are done until none is left.
 use Rattle.std.specs.Prelude.{◌≡◌, ◌≤◌, ℕ, false, Option, Some, None, List, Result, Ok, Err, true}
+use Rattle.std.specs.List.{list_any}
 use Rattle.ale_base.specs.Tid.{TidOf}
 use Rattle.ale_base.specs.declared.out_of_memory.OutOfMemory.{OutOfMemory}
+use Rattle.unit_core.specs.declared.ale_unit.AleUnit.{AleUnit}
 use Rattle.trfc_protocol.specs.declared.world.World.{World}
+use Rattle.trfc_protocol.specs.Worlds.{committed_unit}
 use Rattle.trfc_protocol.specs.Offered.{is_offered_outbound, is_offered_inbound}
 use Rattle.kept_world.specs.Kept.{KeptOf}
 use Rattle.document_tables.specs.declared.document_tables.DocumentTables.{DocumentTables}
@@ -10,7 +13,8 @@ use Rattle.model_rules.specs.declared.model_rules.ModelRules.{ModelRules}
 use Rattle.model_rules.specs.Meaning.{model_meaning}
 use Rattle.unit_works.specs.Events.{is_work}
 use Rattle.unit_works.specs.Worked.{HaveEnded, HaveTaken, Lines, Worked}
-use Rattle.unit_works.specs.Acts.{Act, HaveActed}
+use Rattle.unit_works.specs.Acts.{Act, HaveActed, loses}
+use Rattle.unit_works.specs.Trips.{NoneFell, is_due}
 
 -- no unit is offered at any system in either direction
 pub record IsIdle (world : World ModelRules) : Type 0 where
@@ -27,18 +31,19 @@ module _ {V : Type 0} (faults : V → ℕ → ℕ) (before : KeptOf ModelRules D
     pub acts : List Act
     pub did : HaveActed faults before lines acts after lines_after
 
-  -- Works were done until no unit is offered at any system in either direction, and so many runs and executions ended. Where memory is
-  -- wanting, works were done.
+  -- Unless a system fell, each unit whose confirmation is due at the end lost it in one of these acts.
+  abbrev pub AreLost : List Act → Type 0
+  AreLost acts = NoneFell before.world after.world → (unit : AleUnit)
+      → committed_unit (model_meaning after.world.rules.systems) after.world unit.tid ≡ Some unit → is_due after.world unit ≡ true
+      → list_any (loses unit.tid) acts ≡ true
+
+  -- Works were done until no unit is offered at any system in either direction, and so many runs and executions ended; unless a system
+  -- fell, no confirmation is due but those that were lost. Where memory is wanting, works were done.
   abbrev pub DrainedAs : Result ℕ OutOfMemory → Type 0
-  DrainedAs (Ok n) = HasWorked n × IsIdle after.world
+  DrainedAs (Ok n) = (worked : HasWorked n) × IsIdle after.world × AreLost worked.acts
   DrainedAs (Err short) = Worked faults before after is_work false
 
   -- ---- what only private functions cite
-
-  -- works were done, and so many runs and executions ended; where memory is wanting, works were done
-  abbrev pub WorkedSo : {T : Type 0} → ℕ → Result T OutOfMemory → Type 0
-  WorkedSo n (Ok done) = HasWorked n
-  WorkedSo n (Err short) = Worked faults before after is_work false
 
   -- Works were found, and at most so many runs and executions ended. Where none was found, nothing has changed, and this holds.
   abbrev pub Found : ℕ → Type 0 → Option ℕ → Type 0

@@ -1,5 +1,5 @@
 -- What acts append to the logs: a unit is shipped under a letter, executed at its receiver, or confirmed under a letter.
-use Rattle.std.specs.Prelude.{◌≡◌, ℕ, Bool, true, false, not, ◌==◌, ◌&&◌, Option, Some, None, List, [], ◌∷◌, ◌++◌, map, filter, if◌then◌else◌}
+use Rattle.std.specs.Prelude.{◌≡◌, ℕ, Bool, true, false, ◌==◌, ◌&&◌, Option, Some, None, List, [], ◌∷◌, ◌++◌, map, filter, if◌then◌else◌}
 use Rattle.ale_base.specs.Tid.{TidOf}
 use Rattle.ale_base.specs.declared.mark.Mark.TheVariants.{Cpicerr, Sysfail}
 use Rattle.unit_core.specs.declared.ale_unit.AleUnit.{AleUnit}
@@ -16,7 +16,7 @@ use Rattle.trfc_protocol.specs.declared.event.CoreAnswer.TheVariants as reply
 use Rattle.trfc_protocol.specs.Meaning.{Meaning}
 use Rattle.trfc_protocol.specs.Worlds.{is_up, log_of, committed_by, committed_unit}
 use Rattle.trfc_protocol.specs.Legal.{is_free_outbound, is_free_inbound}
-use Rattle.trfc_protocol.specs.Offered.{answer_to, is_stopped_outbound, is_stopped_inbound, may_move}
+use Rattle.trfc_protocol.specs.Offered.{is_stopped_outbound, is_stopped_inbound, may_move}
 use Rattle.trfc_protocol.specs.RecordOf.{Writing}
 use Rattle.wires.specs.declared.letter.Letter.{Letter}
 use Rattle.unit_works.specs.Events.{arrives_under, is_answered_under, is_confirmed_under, is_sent_under}

@@ -53,8 +53,10 @@ pub(crate) fn deliver<V: Volumes>(
     ensures went { Worked V.faults landscape.old landscape.new (is_delivery letter) (is_ok result) }
     ensures answered { IfOk result (λ answered. IsAnswered landscape.old.world landscape.new.world answered.finished) }
     ensures claims { OnOk result (AreOrGone landscape.new.world.claims landscape.old.world.claims) }
-    ensures grew { IfOk result (λ answered. NoneFell landscape.old.world landscape.new.world → (unit : AleUnit) → committed_unit (model_meaning landscape.old.world.rules.systems) landscape.old.world claim.now.tid ≡ Some unit
-        → HasDelivered (model_meaning landscape.new.world.rules.systems) landscape.old.world landscape.new.world claim.now unit letter (answer_to (model_meaning landscape.old.world.rules.systems) landscape.old.world unit) answered.given) }
+    ensures grew { IfOk result (λ answered. NoneFell landscape.old.world landscape.new.world → (unit : AleUnit)
+        → committed_unit (model_meaning landscape.old.world.rules.systems) landscape.old.world claim.now.tid ≡ Some unit
+        → HasDelivered (model_meaning landscape.new.world.rules.systems) landscape.old.world landscape.new.world claim.now unit letter
+        (answer_to (model_meaning landscape.old.world.rules.systems) landscape.old.world unit) answered.given) }
 {
     let _ = landscape.world();
     if !arrives_under(letter) {
@@ -76,10 +78,13 @@ fn answer_of<V: Volumes>(
 ) -> Result<Answered, OutOfMemory>
     ensures went { Worked V.faults landscape.old landscape.new is_end (is_ok result) }
     ensures answered { IfOk result (λ answered. IsAnswered landscape.old.world landscape.new.world answered.finished) }
-    ensures claims { (others : List Held) → ClaimsLeft landscape.old.world.claims others arrival → OnOk result (AreOrGone landscape.new.world.claims others) }
-    ensures grew { (unit : AleUnit) (given : Answer) (others : List Held) → committed_unit (model_meaning landscape.old.world.rules.systems) landscape.old.world unit.tid ≡ Some unit → Tells given unit arrival
+    ensures claims { (others : List Held) → ClaimsLeft landscape.old.world.claims others arrival
+        → OnOk result (AreOrGone landscape.new.world.claims others) }
+    ensures grew { (unit : AleUnit) (given : Answer) (others : List Held)
+        → committed_unit (model_meaning landscape.old.world.rules.systems) landscape.old.world unit.tid ≡ Some unit → Tells given unit arrival
         → ClaimsAre landscape.old.world.claims others arrival
-        → IfOk result (λ answered. NoneFell landscape.old.world landscape.new.world → HasAnswered landscape.old.world landscape.new.world unit given others answered.given) }
+        → IfOk result (λ answered. NoneFell landscape.old.world landscape.new.world
+        → HasAnswered landscape.old.world landscape.new.world unit given others answered.given) }
 {
     match arrival {
         Arrival::New(receipt) => Ok(at_once(Reply::Done(receipt))),
@@ -127,7 +132,8 @@ pub(crate) fn reply<V: Volumes>(
 ) -> Result<(), OutOfMemory>
     ensures went { Worked V.faults landscape.old landscape.new (is_reply given) (is_ok result) }
     ensures finished { OnOk result (finished_in landscape.new.world ≡ finished_in landscape.old.world) }
-    ensures claims { (others : List Held) → AreWithOut landscape.old.world.claims others claim → OnOk result (AreOrGone landscape.new.world.claims others) }
+    ensures claims { (others : List Held) → AreWithOut landscape.old.world.claims others claim
+        → OnOk result (AreOrGone landscape.new.world.claims others) }
     ensures grew { (learnt : Option CoreAnswer) → stands_out landscape.old.world claim ≡ true
         → reply_event (model_meaning landscape.old.world.rules.systems) landscape.old.world claim given ≡ event_of learnt claim.number
         → OnOk result (GrewBy landscape.old landscape.new (noted_of learnt claim.tid)) }

@@ -34,7 +34,8 @@ pub(crate) fn arrive_under<V: Volumes>(
     ensures went { Worked V.faults landscape.old landscape.new is_arrival (is_ok result) }
     ensures finished { OnOk result (finished_in landscape.new.world ≡ finished_in landscape.old.world) }
     ensures claims { IfOk result (ClaimsLeft landscape.new.world.claims landscape.old.world.claims) }
-    ensures grew { IfOk result (λ given. NoneFell landscape.old.world landscape.new.world → (unit : UnitOf) → committed_unit (model_meaning landscape.old.world.rules.systems) landscape.old.world claim.now.tid ≡ Some unit
+    ensures grew { IfOk result (λ given. NoneFell landscape.old.world landscape.new.world → (unit : UnitOf)
+        → committed_unit (model_meaning landscape.old.world.rules.systems) landscape.old.world claim.now.tid ≡ Some unit
         → HasArrived (model_meaning landscape.old.world.rules.systems) landscape.old.world landscape.new.world unit given) }
 {
     let unit = unit_of(landscape, claim)?;
@@ -47,7 +48,8 @@ pub(crate) fn arrive_under<V: Volumes>(
 /// A copy of the unit of a claim.
 fn unit_of<V: Volumes>(landscape: &Landscape<V>, claim: &OutClaim) -> Result<AleUnit, OutOfMemory>
     requires stands { stands_out landscape.now.world claim.now ≡ true }
-    ensures { IfOk result (λ unit. committed_unit (model_meaning landscape.now.world.rules.systems) landscape.now.world claim.now.tid ≡ Some unit) }
+    ensures { IfOk result (λ unit.
+        committed_unit (model_meaning landscape.now.world.rules.systems) landscape.now.world claim.now.tid ≡ Some unit) }
 {
     let _ = landscape.world();
     match landscape.unit(claim.tid()) {
@@ -92,7 +94,8 @@ fn arrive_again<V: Volumes>(
     ensures went { Worked V.faults landscape.old landscape.new is_arrival (is_ok result) }
     ensures finished { OnOk result (finished_in landscape.new.world ≡ finished_in landscape.old.world) }
     ensures claims { OnOk result (AreOrGone landscape.new.world.claims landscape.old.world.claims) }
-    ensures grew { OnOk result (NoneFell landscape.old.world landscape.new.world → HaveGrown landscape.old.world landscape.new.world [] × (landscape.new.world.claims ≡ landscape.old.world.claims)) }
+    ensures grew { OnOk result (NoneFell landscape.old.world landscape.new.world
+        → HaveGrown landscape.old.world landscape.new.world [] × (landscape.new.world.claims ≡ landscape.old.world.claims)) }
     ensures arrived { OnOk result (is_twice letter ≡ true → stands_out landscape.old.world claim.now ≡ true
         → (given : ArrivalOf) × Arrived (model_meaning landscape.old.world.rules.systems) V.faults landscape.old landscape.new unit.now given) }
 {

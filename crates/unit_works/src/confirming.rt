@@ -2,6 +2,7 @@
 
 ghost use Rattle.std.specs.Prelude.{◌≡◌, ◌&&◌, Some, [], true, false, IfOk, OnOk, if◌then◌else◌};
 ghost use Rattle.std.specs.Result.{is_ok};
+ghost use Rattle.ale_base.specs.Tid.{TidOf};
 ghost use Rattle.unit_core.specs.declared.ale_unit.AleUnit.{AleUnit};
 ghost use Rattle.unit_core.specs.declared.records.Record.TheVariants.{Ended};
 ghost use Rattle.unit_core.specs.Filters.{done_in, ended_in};
@@ -13,10 +14,10 @@ ghost use Rattle.model_rules.specs.Meaning.{model_meaning};
 ghost use Rattle.unit_works.specs.Acts.{GrewBy};
 ghost use Rattle.unit_works.specs.Events.{is_confirmation, is_confirmed_under, is_confirming, is_sent_under};
 ghost use Rattle.unit_works.specs.Finished.{finished_in};
-ghost use Rattle.unit_works.specs.Drained.{WorkedSo};
 ghost use Rattle.unit_works.specs.Trips.{NoneFell, confirmation, forgot, is_due, one_at};
 ghost use Rattle.unit_works.specs.Worked.{HaveEnded, Worked};
 ghost use Rattle.unit_works.specs.steps.Confirming.{Forgets, HasSent, IsDueOf};
+ghost use Rattle.unit_works.specs.steps.Rounds.{VisitedSo};
 ghost use Rattle.wires.specs.declared.letter.Letter.TheVariants.{Whole};
 ghost use Rattle.wires.specs.Wires.{letters_left, next_letter};
 
@@ -37,7 +38,8 @@ pub fn confirm<V: Volumes>(landscape: &mut Landscape<V>, tid: Tid) -> Result<(),
     ensures ended { OnOk result (HaveEnded V.faults landscape.old landscape.new 0) }
     ensures same { (is_up landscape.old.world tid.system && is_unconfirmed tid (log_of landscape.old.world tid.system)) ≡ false
         → landscape.new ≡ landscape.old }
-    ensures due { (unit : AleUnit) → committed_unit (model_meaning landscape.old.world.rules.systems) landscape.old.world tid ≡ Some unit → is_due landscape.old.world unit ≡ true
+    ensures due { (unit : AleUnit) → committed_unit (model_meaning landscape.old.world.rules.systems) landscape.old.world tid ≡ Some unit
+        → is_due landscape.old.world unit ≡ true
         → OnOk result (GrewBy landscape.old landscape.new (confirmation Whole (forgot landscape.old.world unit) unit)) }
 {
     let mut falls = Falls::new(landscape);
@@ -54,7 +56,8 @@ fn confirm_noted<V: Volumes>(
     ensures ended { OnOk result (HaveEnded V.faults landscape.old landscape.new 0) }
     ensures same { (is_up landscape.old.world tid.system && is_unconfirmed tid (log_of landscape.old.world tid.system)) ≡ false
         → landscape.new ≡ landscape.old }
-    ensures due { (unit : AleUnit) → committed_unit (model_meaning landscape.old.world.rules.systems) landscape.old.world tid ≡ Some unit → is_due landscape.old.world unit ≡ true
+    ensures due { (unit : AleUnit) → committed_unit (model_meaning landscape.old.world.rules.systems) landscape.old.world tid ≡ Some unit
+        → is_due landscape.old.world unit ≡ true
         → OnOk result (GrewBy landscape.old landscape.new (confirmation Whole (forgot landscape.old.world unit) unit)) }
 {
     let _ = landscape.world();
@@ -73,7 +76,8 @@ fn confirm_done<V: Volumes>(
     requires done { is_listed tid (done_in (log_of landscape.old.world tid.system)) ≡ true }
     ensures went { Worked V.faults landscape.old landscape.new is_confirmation (is_ok result) }
     ensures ended { OnOk result (HaveEnded V.faults landscape.old landscape.new 0) }
-    ensures due { (unit : AleUnit) → committed_unit (model_meaning landscape.old.world.rules.systems) landscape.old.world tid ≡ Some unit → is_due landscape.old.world unit ≡ true
+    ensures due { (unit : AleUnit) → committed_unit (model_meaning landscape.old.world.rules.systems) landscape.old.world tid ≡ Some unit
+        → is_due landscape.old.world unit ≡ true
         → OnOk result (GrewBy landscape.old landscape.new (confirmation Whole (forgot landscape.old.world unit) unit)) }
 {
     let confirmed = send(landscape, tid)?;
@@ -93,8 +97,10 @@ fn send<V: Volumes>(landscape: &mut Landscape<V>, tid: Tid) -> Result<Confirmed,
     requires done { is_listed tid (done_in (log_of landscape.old.world tid.system)) ≡ true }
     ensures went { Worked V.faults landscape.old landscape.new is_confirmation (is_ok result) }
     ensures ended { OnOk result (HaveEnded V.faults landscape.old landscape.new 0) }
-    ensures sent { (unit : AleUnit) → committed_unit (model_meaning landscape.old.world.rules.systems) landscape.old.world tid ≡ Some unit → is_up landscape.old.world unit.receiver ≡ true
-        → IfOk result (λ given. NoneFell landscape.old.world landscape.new.world → HasSent landscape.old.world landscape.new.world tid unit given) }
+    ensures sent { (unit : AleUnit) → committed_unit (model_meaning landscape.old.world.rules.systems) landscape.old.world tid ≡ Some unit
+        → is_up landscape.old.world unit.receiver ≡ true
+        → IfOk result (λ given. NoneFell landscape.old.world landscape.new.world
+        → HasSent landscape.old.world landscape.new.world tid unit given) }
     ensures forgets { IfOk result (Forgets (model_meaning landscape.new.world.rules.systems) landscape.new.world tid) }
 {
     let _ = landscape.world();
@@ -124,8 +130,10 @@ pub(crate) fn confirm_under<V: Volumes>(
     ensures ended { OnOk result (HaveEnded V.faults landscape.old landscape.new 0) }
     ensures same { (is_up landscape.old.world tid.system && is_unconfirmed tid (log_of landscape.old.world tid.system)) ≡ false
         → landscape.new ≡ landscape.old }
-    ensures due { (unit : AleUnit) → committed_unit (model_meaning landscape.old.world.rules.systems) landscape.old.world tid ≡ Some unit → is_due landscape.old.world unit ≡ true
-        → OnOk result (GrewBy landscape.old landscape.new (if is_confirmed_under letter then confirmation Whole (forgot landscape.old.world unit) unit else [])) }
+    ensures due { (unit : AleUnit) → committed_unit (model_meaning landscape.old.world.rules.systems) landscape.old.world tid ≡ Some unit
+        → is_due landscape.old.world unit ≡ true
+        → OnOk result (GrewBy landscape.old landscape.new
+        (if is_confirmed_under letter then confirmation Whole (forgot landscape.old.world unit) unit else [])) }
 {
     if !is_confirmed_under(letter) {
         return Ok(());
@@ -140,7 +148,7 @@ pub(crate) fn confirm_each<V: Volumes>(
     falls: &mut Falls,
     tids: &[Tid],
 ) -> Result<(), OutOfMemory>
-    ensures { WorkedSo V.faults landscape.old wires.old landscape.new wires.new 0 result }
+    ensures { VisitedSo V.faults landscape.old wires.old landscape.new wires.new (λ (other : TidOf). is_listed other tids.now ≡ true) result }
 {
     for tid in tids {
         confirm_due(landscape, wires, falls, *tid)?;
@@ -156,7 +164,7 @@ fn confirm_due<V: Volumes>(
     falls: &mut Falls,
     tid: Tid,
 ) -> Result<(), OutOfMemory>
-    ensures worked { WorkedSo V.faults landscape.old wires.old landscape.new wires.new 0 result }
+    ensures worked { VisitedSo V.faults landscape.old wires.old landscape.new wires.new (λ (other : TidOf). other ≡ tid) result }
     ensures lost { is_sent_under (next_letter (letters_left wires.old tid)) ≡ false → landscape.new ≡ landscape.old }
 {
     if !is_due(landscape, tid) {
@@ -170,6 +178,9 @@ fn confirm_due<V: Volumes>(
 fn is_due<V: Volumes>(landscape: &Landscape<V>, tid: Tid) -> bool
     ensures sender { result ≡ true → (is_up landscape.now.world tid.system && is_unconfirmed tid (log_of landscape.now.world tid.system)) ≡ true }
     ensures due { result ≡ true → IsDueOf (model_meaning landscape.now.world.rules.systems) landscape.now.world tid }
+    ensures other { result ≡ false → (unit : AleUnit)
+        → committed_unit (model_meaning landscape.now.world.rules.systems) landscape.now.world tid ≡ Some unit
+        → is_due landscape.now.world unit ≡ true → ⊥ }
 {
     let _ = landscape.world();
     match landscape.unit(tid) {
@@ -188,7 +199,8 @@ fn confirm_sent<V: Volumes>(
     ensures went { Worked V.faults landscape.old landscape.new is_confirmation (is_ok result) }
     ensures ended { OnOk result (HaveEnded V.faults landscape.old landscape.new 0) }
     ensures lost { is_sent_under letter ≡ false → landscape.new ≡ landscape.old }
-    ensures due { (unit : AleUnit) → committed_unit (model_meaning landscape.old.world.rules.systems) landscape.old.world tid ≡ Some unit → is_due landscape.old.world unit ≡ true
+    ensures due { (unit : AleUnit) → committed_unit (model_meaning landscape.old.world.rules.systems) landscape.old.world tid ≡ Some unit
+        → is_due landscape.old.world unit ≡ true
         → OnOk result (GrewBy landscape.old landscape.new (confirmation letter (forgot landscape.old.world unit) unit)) }
 {
     if !is_sent_under(letter) {

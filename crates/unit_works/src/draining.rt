@@ -1,7 +1,9 @@
 //! A drain: works are done until none is left.
 
 ghost use Rattle.std.specs.Prelude.{◌≡◌};
-ghost use Rattle.unit_works.specs.Drained.{DrainedAs, WorkedSo};
+ghost use Rattle.ale_base.specs.Tid.{TidOf};
+ghost use Rattle.unit_works.specs.Drained.{DrainedAs};
+ghost use Rattle.unit_works.specs.steps.Rounds.{IsTo, RoundsAs, VisitedSo};
 
 use crate::confirming::confirm_each;
 use crate::falls::Falls;
@@ -33,9 +35,11 @@ pub struct Drained<V: Volumes> {
 /// Works until nothing is left to do. At first each unit that is done and not ended, with both its systems up, takes a letter, and is
 /// confirmed unless its confirmation is lost. Then the first unit that is offered at each system is shipped under its next letter, and the
 /// first is executed, round by round, until a whole round finds none. So a drain is a list of such acts, one after the other, and nothing
-/// else: where no system falls in an act, the logs grow in it by exactly its records.
+/// else: where no system falls in an act, the logs grow in it by exactly its records. Where none falls in the whole drain, no confirmation
+/// is due at its end but those that a letter lost in it.
 ///
-/// `OutOfMemory` comes where a request for memory was refused, and after more rounds than there can be. The works before it were done.
+/// `OutOfMemory` comes where a request for memory was refused. It would also come after more rounds than a drain can have. The works before it
+/// were done.
 pub fn drain<V: Volumes>(alloc: Global, landscape: Landscape<V>, wires: Wires) -> Drained<V>
     ensures { DrainedAs V.faults landscape wires result.landscape result.wires result.end }
 {
@@ -61,6 +65,7 @@ fn drain_all<V: Volumes>(
 ) -> Result<u64, OutOfMemory>
     ensures { DrainedAs V.faults landscape.old wires.old landscape.new wires.new result }
 {
+    let _ = landscape.world();
     confirm_all(landscape, wires, falls)?;
     go_rounds(alloc, landscape, wires, falls)
 }
@@ -71,16 +76,29 @@ fn confirm_all<V: Volumes>(
     wires: &mut Wires,
     falls: &mut Falls,
 ) -> Result<(), OutOfMemory>
-    ensures { WorkedSo V.faults landscape.old wires.old landscape.new wires.new 0 result }
+    ensures { VisitedSo V.faults landscape.old wires.old landscape.new wires.new (IsTo 16) result }
 {
     for number in 0..SystemNo::MAX {
         let Some(system) = SystemNo::of(number + 1) else {
             unreachable!()
         };
-        let tids = landscape.unconfirmed(system)?;
-        confirm_each(landscape, wires, falls, tids.as_slice())?;
+        confirm_at(landscape, wires, falls, system)?;
     }
     Ok(())
+}
+
+/// Confirms the units of a system that are done and not ended, each under its next letter.
+fn confirm_at<V: Volumes>(
+    landscape: &mut Landscape<V>,
+    wires: &mut Wires,
+    falls: &mut Falls,
+    system: SystemNo,
+) -> Result<(), OutOfMemory>
+    ensures { VisitedSo V.faults landscape.old wires.old landscape.new wires.new (λ (other : TidOf). other.system ≡ system) result }
+{
+    let _ = landscape.world();
+    let tids = landscape.unconfirmed(system)?;
+    confirm_each(landscape, wires, falls, tids.as_slice())
 }
 
 /// Goes round all systems until a whole round finds nothing. How many runs and executions ended.
@@ -90,7 +108,7 @@ fn go_rounds<V: Volumes>(
     wires: &mut Wires,
     falls: &mut Falls,
 ) -> Result<u64, OutOfMemory>
-    ensures { DrainedAs V.faults landscape.old wires.old landscape.new wires.new result }
+    ensures { RoundsAs V.faults landscape.old wires.old landscape.new wires.new result }
 {
     let mut finished = 0;
     for _round in 0..MOST_ROUNDS {

@@ -35,7 +35,8 @@ pub(crate) fn finish<V: Volumes>(
     ensures claims { (others : List Held) → AreWith landscape.old.world.claims others claim
         → IfOk result (λ given. AreOrGone landscape.new.world.claims others) }
     ensures grew { (held : Held) → HoldsIn landscape.old.world claim held
-        → IfOk result (λ given. NoneFell landscape.old.world landscape.new.world → HasFinished (model_meaning landscape.old.world.rules.systems) landscape.old.world landscape.new.world claim held given) }
+        → IfOk result (λ given. NoneFell landscape.old.world landscape.new.world
+        → HasFinished (model_meaning landscape.old.world.rules.systems) landscape.old.world landscape.new.world claim held given) }
 {
     let tid = claim.tid();
     let finished = finish_prepared(alloc, landscape, claim)?;
@@ -54,7 +55,8 @@ fn finish_prepared<V: Volumes>(
     ensures claims { (others : List Held) → AreWith landscape.old.world.claims others claim
         → IfOk result (λ given. AreOrGone landscape.new.world.claims others) }
     ensures grew { (held : Held) → HoldsIn landscape.old.world claim held
-        → IfOk result (λ given. NoneFell landscape.old.world landscape.new.world → HasFinished (model_meaning landscape.old.world.rules.systems) landscape.old.world landscape.new.world claim held given) }
+        → IfOk result (λ given. NoneFell landscape.old.world landscape.new.world
+        → HasFinished (model_meaning landscape.old.world.rules.systems) landscape.old.world landscape.new.world claim held given) }
 {
     match prepared_for(alloc, landscape, claim.tid())? {
         None => Ok(not_finished(landscape, claim)),
@@ -86,7 +88,8 @@ fn finish_with<V: Volumes>(
     ensures claims { (others : List Held) → AreWith landscape.old.world.claims others claim
         → IfOk result (λ given. AreOrGone landscape.new.world.claims others) }
     ensures grew { (held : Held) → HoldsIn landscape.old.world claim held
-        → IfOk result (λ given. NoneFell landscape.old.world landscape.new.world → HasFinished (model_meaning landscape.old.world.rules.systems) landscape.old.world landscape.new.world claim held given) }
+        → IfOk result (λ given. NoneFell landscape.old.world landscape.new.world
+        → HasFinished (model_meaning landscape.old.world.rules.systems) landscape.old.world landscape.new.world claim held given) }
 {
     let _ = landscape.world();
     match landscape.finish(claim, prepared) {

@@ -93,7 +93,8 @@ fn ship<V: Volumes>(
     ensures claims { (others : List Held) → AreWithOut landscape.old.world.claims others claim
         → OnOk result (AreOrGone landscape.new.world.claims others) }
     ensures grew { (unit : AleUnit) → committed_unit (model_meaning landscape.old.world.rules.systems) landscape.old.world claim.tid ≡ Some unit
-        → OnOk result (GrewBy landscape.old landscape.new (shipment letter (answer_to (model_meaning landscape.old.world.rules.systems) landscape.old.world unit) unit)) }
+        → OnOk result (GrewBy landscape.old landscape.new
+        (shipment letter (answer_to (model_meaning landscape.old.world.rules.systems) landscape.old.world unit) unit)) }
 {
     let _ = landscape.world();
     let tid = claim.tid();

@@ -1,8 +1,20 @@
 -- Rounds of all systems.
-use Rattle.std.specs.Prelude.{◌≤◌, ◌+◌, ℕ, Option, Some, None}
+use Rattle.std.specs.Prelude.{◌≡◌, ◌≤◌, ◌+◌, ℕ, Bool, true, false, Option, Some, None, Result, Ok, Err}
+use Rattle.std.specs.List.{list_any}
+use Rattle.ale_base.specs.Tid.{TidOf, is_tid}
+use Rattle.ale_base.specs.declared.out_of_memory.OutOfMemory.{OutOfMemory}
+use Rattle.unit_core.specs.declared.ale_unit.AleUnit.{AleUnit}
+use Rattle.trfc_protocol.specs.Worlds.{committed_unit}
+use Rattle.kept_world.specs.Kept.{KeptOf}
+use Rattle.document_tables.specs.declared.document_tables.DocumentTables.{DocumentTables}
+use Rattle.model_rules.specs.Meaning.{model_meaning}
+use Rattle.unit_works.specs.Acts.{Act, confirm, execute, ship}
+use Rattle.unit_works.specs.Drained.{HasWorked, IsIdle}
+use Rattle.unit_works.specs.Events.{is_work}
+use Rattle.unit_works.specs.Trips.{NoneFell, is_due}
 use Rattle.trfc_protocol.specs.declared.world.World.{World}
 use Rattle.model_rules.specs.declared.model_rules.ModelRules.{ModelRules}
-use Rattle.unit_works.specs.Worked.{NothingIn, NothingOut}
+use Rattle.unit_works.specs.Worked.{Lines, NothingIn, NothingOut, Worked}
 
 -- nothing is offered at a system
 abbrev pub NothingAt : World ModelRules → ℕ → Type 0
@@ -17,3 +29,32 @@ abbrev pub joined : Option ℕ → Option ℕ → Option ℕ
 joined None there = there
 joined (Some n) None = Some n
 joined (Some n) (Some m) = Some (n + m)
+
+-- an act ships or confirms the unit of an id
+abbrev pub is_on : TidOf → Act → Bool
+is_on tid (ship other letter) = is_tid other tid
+is_on tid (confirm other letter) = is_tid other tid
+is_on tid (execute system other) = false
+
+-- an id is of one of the first systems
+abbrev pub IsTo : ℕ → TidOf → Type 0
+IsTo number tid = (1 ≤ tid.system) × (tid.system ≤ number)
+
+module _ {V : Type 0} (faults : V → ℕ → ℕ) (before : KeptOf ModelRules DocumentTables V) (lines : Lines) (after : KeptOf ModelRules DocumentTables V)
+    (lines_after : Lines) where
+  -- works were done, and no run or execution ended; unless a system fell, each unit of these ids whose confirmation was due was visited
+  pub record HasVisited (These : TidOf → Type 0) : Type 0 where
+    pub worked : HasWorked faults before lines after lines_after 0
+    pub visited : NoneFell before.world after.world → (unit : AleUnit) → These unit.tid
+        → committed_unit (model_meaning before.world.rules.systems) before.world unit.tid ≡ Some unit → is_due before.world unit ≡ true
+        → list_any (is_on unit.tid) worked.acts ≡ true
+
+  -- the same of a call; where memory is wanting, works were done
+  abbrev pub VisitedSo : {T : Type 0} → (TidOf → Type 0) → Result T OutOfMemory → Type 0
+  VisitedSo These (Ok done) = HasVisited These
+  VisitedSo These (Err short) = Worked faults before after is_work false
+
+  -- works were done until no unit is offered at any system in either direction; where memory is wanting, works were done
+  abbrev pub RoundsAs : Result ℕ OutOfMemory → Type 0
+  RoundsAs (Ok n) = HasWorked faults before lines after lines_after n × IsIdle after.world
+  RoundsAs (Err short) = Worked faults before after is_work false

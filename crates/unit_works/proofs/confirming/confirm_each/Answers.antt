@@ -1,21 +1,37 @@
-use Rattle.std.proofs.Common.{false, refl}
+use Rattle.std.proofs.Common.{◌≡◌, ◌+◌, ◌∙◌, ap, false, true, refl, take}
+use Rattle.std.proofs.lemmas.List.{take_all}
+use Rattle.ale_base.specs.Tid.{TidOf}
+use Rattle.unit_core.specs.Queues.{is_listed}
 use Rattle.unit_works.specs.Events.{is_work}
-use Rattle.unit_works.proofs.DrainedLemmas.{so-short, worked-on, worked-same}
+use Rattle.unit_works.proofs.DrainedLemmas.{listed-next, visited-among, visited-none, visited-on, visited-short}
 use Rattle.unit_works.proofs.WorkedLemmas.{on}
 use Rattle.unit_works.proofs.confirming.confirm_each.Goals as goal
 
 pub returns-in_err-confirm_due : goal.returns-in_err-confirm_due
 returns-in_err-confirm_due g c =
-    so-short g.V.Volumes.faults c.args.landscape.now c.confirm_due.new.landscape c.args.wires.now c.confirm_due.new.wires 0 c.from_residual.result
-    c.from_residual.ensures.0
-    (on g.V.Volumes.faults is_work false c.args.landscape.now c.loop-tid.landscape c.confirm_due.new.landscape (c.loop-tid.invariant).went
+    let worked = (c.loop-tid.invariant).worked in
+    visited-short g.V.Volumes.faults c.args.landscape.now c.confirm_due.new.landscape c.args.wires.now c.confirm_due.new.wires
+    (λ (other : TidOf). is_listed other c.args.tids.now ≡ true) c.from_residual.result c.from_residual.ensures.0
+    (on g.V.Volumes.faults is_work false c.args.landscape.now c.loop-tid.landscape c.confirm_due.new.landscape worked.went
     c.in_err-confirm_due.ensures.worked)
+
+pub loop-tid-init : goal.loop-tid-init
+loop-tid-init g c =
+    visited-none g.V.Volumes.faults c.args.landscape.now c.args.landscape.now c.args.wires.now c.args.wires.now
+    (λ (other : TidOf). is_listed other (take 0 c.args.tids.now) ≡ true) refl refl (λ unit none named due. cc)
 
 pub loop-tid-preserved : goal.loop-tid-preserved
 loop-tid-preserved g c =
-    worked-on g.V.Volumes.faults c.args.landscape.now c.loop-tid.landscape c.confirm_due.new.landscape c.args.wires.now c.loop-tid.wires
-    c.confirm_due.new.wires 0 0
-    c.loop-tid.invariant c.in_ok-confirm_due.ensures.worked
+    let at = c.loop-tid.tid-index in
+    visited-on g.V.Volumes.faults c.args.landscape.now c.loop-tid.landscape c.confirm_due.new.landscape c.args.wires.now c.loop-tid.wires
+    c.confirm_due.new.wires (λ (other : TidOf). is_listed other (take at c.args.tids.now) ≡ true) (λ (other : TidOf). other ≡ c.tid-item.result)
+    (λ (other : TidOf). is_listed other (take (at + 1) c.args.tids.now) ≡ true)
+    (λ other listed. listed-next c.args.tids.now at c.tid-item.result other c.loop-tid-test.true c.tid-item.is listed) c.loop-tid.invariant
+    c.in_ok-confirm_due.ensures.worked
 
-pub loop-tid-init : goal.loop-tid-init
-loop-tid-init g c = worked-same g.V.Volumes.faults c.args.landscape.now c.args.landscape.now c.args.wires.now c.args.wires.now refl refl
+pub returns : goal.returns
+returns g c =
+    visited-among g.V.Volumes.faults c.args.landscape.now c.loop-tid.landscape c.args.wires.now c.loop-tid.wires
+    (λ (other : TidOf). is_listed other (take c.loop-tid.tid-index c.args.tids.now) ≡ true) (λ (other : TidOf). is_listed other c.args.tids.now ≡ true)
+    (λ unit listed named due.
+    ap (is_listed unit.tid) (take_all c.loop-tid.tid-index c.args.tids.now c.loop-tid-test.false) ∙ listed) c.loop-tid.invariant

@@ -1,5 +1,10 @@
-use Rattle.unit_works.specs.Drained.{HasWorked}
+use Rattle.std.proofs.Common.{◌≡◌, take, true}
+use Rattle.ale_base.specs.Tid.{TidOf}
+use Rattle.unit_core.specs.Queues.{is_listed}
+use Rattle.unit_works.specs.steps.Rounds.{HasVisited}
 use Rattle.unit_works.proofs.confirming.confirm_each.Given as goal
 
+-- the ids so far were visited
 abbrev pub invariant-loop-tid : goal.invariant-loop-tid
-invariant-loop-tid g l = HasWorked g.V.Volumes.faults l.fn.landscape l.fn.wires l.landscape l.wires 0
+invariant-loop-tid g l =
+    HasVisited g.V.Volumes.faults l.fn.landscape l.fn.wires l.landscape l.wires (λ (other : TidOf). is_listed other (take l.tid-index l.tids) ≡ true)

@@ -2,7 +2,7 @@ use Rattle.std.specs.Option.{option_copied}
 use Rattle.std.proofs.Common.{◌≡◌, Some, sym, ap, ◌∙◌}
 use Rattle.trfc_protocol.specs.Worlds.{committed_unit}
 use Rattle.trfc_protocol.proofs.SafeLemmas.{committed_unit-is}
-use Rattle.unit_works.proofs.TripLemmas.{due-of}
+use Rattle.unit_works.proofs.TripLemmas.{due-not, due-of}
 use Rattle.unit_works.proofs.WorkedLemmas.{is_lawful, meaning}
 use Rattle.unit_works.proofs.confirming.is_due.Goals as goal
 
@@ -18,3 +18,10 @@ returns-then-is_up-clause-due g c = λ unconfirmed.
           c.world.ensures.safe.safe c.args.tid c.in-Some.unit.now named).1
           (sym c.is_up.ensures ∙ c.if-is_up.true) (sym c.is_unconfirmed.ensures ∙ unconfirmed);
     }
+
+pub returns-then-is_up-clause-other : goal.returns-then-is_up-clause-other
+returns-then-is_up-clause-other g c = λ none unit named due.
+    due-not c.args.landscape.now.world c.args.tid unit
+    (committed_unit-is (meaning c.args.landscape.now.world.rules) (is_lawful c.args.landscape.now.world.rules) c.args.landscape.now.world
+    c.world.ensures.safe.safe c.args.tid unit named).1
+    due (sym c.is_unconfirmed.ensures ∙ none)

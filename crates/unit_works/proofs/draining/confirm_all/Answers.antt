@@ -1,27 +1,30 @@
-use Rattle.std.proofs.Common.{false, refl}
+use Rattle.std.proofs.Common.{◌≡◌, ◌+◌, false, refl, arith}
+use Rattle.ale_base.specs.Tid.{TidOf}
 use Rattle.unit_works.specs.Events.{is_work}
-use Rattle.unit_works.proofs.DrainedLemmas.{so-short, worked-on, worked-same}
-use Rattle.unit_works.proofs.WorkedLemmas.{on, part}
+use Rattle.unit_works.specs.steps.Rounds.{IsTo}
+use Rattle.unit_works.proofs.DrainedLemmas.{visited-among, visited-none, visited-on, visited-short, within-more}
+use Rattle.unit_works.proofs.WorkedLemmas.{on}
 use Rattle.unit_works.proofs.draining.confirm_all.Goals as goal
 
-pub returns-in_err-confirm_each : goal.returns-in_err-confirm_each
-returns-in_err-confirm_each g c =
-    so-short g.V.Volumes.faults c.args.landscape.now c.confirm_each.new.landscape c.args.wires.now c.confirm_each.new.wires 0
-    c.from_residual-in_err-confirm_each.result c.from_residual-in_err-confirm_each.ensures.0
-    (on g.V.Volumes.faults is_work false c.args.landscape.now c.loop-number.landscape c.confirm_each.new.landscape (c.loop-number.invariant).went
-    c.in_err-confirm_each.ensures)
+pub returns-in_err-confirm_at : goal.returns-in_err-confirm_at
+returns-in_err-confirm_at g c =
+    let worked = (c.loop-number.invariant).worked in
+    visited-short g.V.Volumes.faults c.args.landscape.now c.confirm_at.new.landscape c.args.wires.now c.confirm_at.new.wires (IsTo 16)
+    c.from_residual.result c.from_residual.ensures.0
+    (on g.V.Volumes.faults is_work false c.args.landscape.now c.loop-number.landscape c.confirm_at.new.landscape worked.went c.in_err-confirm_at.ensures)
 
 pub loop-number-preserved : goal.loop-number-preserved
 loop-number-preserved g c =
-    worked-on g.V.Volumes.faults c.args.landscape.now c.loop-number.landscape c.confirm_each.new.landscape c.args.wires.now c.loop-number.wires
-    c.confirm_each.new.wires 0 0
-    c.loop-number.invariant c.in_ok-confirm_each.ensures
+    visited-on g.V.Volumes.faults c.args.landscape.now c.loop-number.landscape c.confirm_at.new.landscape c.args.wires.now c.loop-number.wires
+    c.confirm_at.new.wires (IsTo c.loop-number.number) (λ (other : TidOf). other.system ≡ c.in-Some.system) (IsTo (c.loop-number.number + 1))
+    (λ tid within. within-more c.loop-number.number c.in-Some.system tid c.in-Some.ensures.found within) c.loop-number.invariant c.in_ok-confirm_at.ensures
 
 pub loop-number-init : goal.loop-number-init
-loop-number-init g c = worked-same g.V.Volumes.faults c.args.landscape.now c.args.landscape.now c.args.wires.now c.args.wires.now refl refl
+loop-number-init g c =
+    visited-none g.V.Volumes.faults c.args.landscape.now c.args.landscape.now c.args.wires.now c.args.wires.now (IsTo 0) refl refl
+    (λ unit within named due. let least = within.0 in let most = within.1 in absurd (omega arith))
 
-pub returns-in_err-tids : goal.returns-in_err-tids
-returns-in_err-tids g c =
-    so-short g.V.Volumes.faults c.args.landscape.now c.loop-number.landscape c.args.wires.now c.loop-number.wires 0 c.from_residual.result
-    c.from_residual.ensures.0
-    (part g.V.Volumes.faults is_work c.args.landscape.now c.loop-number.landscape (c.loop-number.invariant).went)
+pub returns : goal.returns
+returns g c =
+    visited-among g.V.Volumes.faults c.args.landscape.now c.loop-number.landscape c.args.wires.now c.loop-number.wires (IsTo c.loop-number.number) (IsTo 16)
+    (λ unit within named due. let most = within.1 in let end = c.loop-number-test.false in (within.0, omega arith)) c.loop-number.invariant

@@ -1,5 +1,6 @@
-use Rattle.unit_works.specs.Drained.{HasWorked}
+use Rattle.unit_works.specs.steps.Rounds.{HasVisited, IsTo}
 use Rattle.unit_works.proofs.draining.confirm_all.Given as goal
 
+-- the units of the systems so far were visited
 abbrev pub invariant-loop-number : goal.invariant-loop-number
-invariant-loop-number g l = HasWorked g.V.Volumes.faults l.fn.landscape l.fn.wires l.landscape l.wires 0
+invariant-loop-number g l = HasVisited g.V.Volumes.faults l.fn.landscape l.fn.wires l.landscape l.wires (IsTo l.number)

@@ -1,20 +1,20 @@
 use Rattle.std.proofs.Common.{false, arith, subst, refl}
 use Rattle.unit_works.specs.Drained.{Found, IsIdle}
 use Rattle.unit_works.specs.Events.{is_work}
-use Rattle.unit_works.proofs.DrainedLemmas.{drained-idle, drained-short, worked-on, worked-same}
+use Rattle.unit_works.proofs.DrainedLemmas.{rounds-idle, rounds-short, worked-on, worked-same}
 use Rattle.unit_works.proofs.WorkedLemmas.{on, part}
 use Rattle.unit_works.proofs.draining.go_rounds.Goals as goal
 
 pub returns-in_err-go_round : goal.returns-in_err-go_round
 returns-in_err-go_round g c =
-    drained-short g.V.Volumes.faults c.args.landscape.now c.go_round.new.landscape c.args.wires.now c.go_round.new.wires c.from_residual.result
+    rounds-short g.V.Volumes.faults c.args.landscape.now c.go_round.new.landscape c.args.wires.now c.go_round.new.wires c.from_residual.result
     c.from_residual.ensures.0
     (on g.V.Volumes.faults is_work false c.args.landscape.now c.loop-round.landscape c.go_round.new.landscape (c.loop-round.invariant.0).went
     c.in_err-go_round.ensures)
 
 pub returns-in-None : goal.returns-in-None
 returns-in-None g c =
-    drained-idle g.V.Volumes.faults c.args.landscape.now c.loop-round.landscape c.go_round.new.landscape c.args.wires.now c.loop-round.wires
+    rounds-idle g.V.Volumes.faults c.args.landscape.now c.loop-round.landscape c.go_round.new.landscape c.args.wires.now c.loop-round.wires
     c.go_round.new.wires c.loop-round.finished
     c.loop-round.invariant.0
     (subst (Found g.V.Volumes.faults c.loop-round.landscape c.loop-round.wires c.go_round.new.landscape c.go_round.new.wires 32
