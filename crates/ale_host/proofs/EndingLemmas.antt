@@ -2,7 +2,7 @@
 use Rattle.std.proofs.Common.{◌≡◌, ◌≢◌, ℕ, Some, Result, Ok, Err, List, refl, sym, ap, subst, inl, inr}
 use Rattle.std.specs.Prelude.{IfErr, IfOk}
 use Rattle.ale_io.specs.Told.{Told}
-use Rattle.ale_host.specs.declared.words.Form.TheVariants.{Load, Pass, Run}
+use Rattle.ale_host.specs.declared.words.Form.TheVariants.{Pass, Run}
 use Rattle.ale_host.specs.declared.ending.Ending.{Ending}
 use Rattle.ale_host.specs.declared.ending.Ending.TheVariants as ending
 use Rattle.ale_host.specs.Inputs.{EndsBehindDocuments, EndsBehindModel, EndsRun, SaysDocuments, SaysScript, StopsAtDocuments, StopsAtScript}
@@ -11,7 +11,6 @@ use Rattle.ale_host.specs.declared.inputs.ModelFile.{ModelFile}
 use Rattle.ale_host.specs.declared.prepared.Prepared.{Prepared}
 use Rattle.ale_host.specs.Prepared.{EndsAs, IsBehindDocuments, IsBehindModel, IsRead, SaysModel}
 use Rattle.ale_host.specs.Words.{form_of, document_file, documents_file, model_file, script_file}
-use Rattle.ale_host.specs.Loading.{EndsLoad}
 use Rattle.ale_host.specs.Ending.{IsFile, EndsFile, EndsPass, Ends, IsQuiet, status_of}
 
 pub Ends-pass : (words : List (List ℕ)) (told : List ℕ → Told) (faults : Type 0) (end : Ending) → form_of words ≡ Some Pass
@@ -37,17 +36,6 @@ Ends-run words told faults ending.Usage is_run ends = elim ends [
   | inl stops ↦ absurd stops
   | inr (lists, says, behind) ↦ elim behind [ inl stops ↦ absurd stops | inr (all, documents, last) ↦ absurd last ]
 ]
-
--- a load of so many masters ends so
-pub Ends-load : (words : List (List ℕ)) (told : List ℕ → Told) (faults : Type 0) (masters : ℕ) (end : Ending) → form_of words ≡ Some (Load masters)
-    → EndsLoad masters end → Ends words told faults end
-Ends-load words told faults masters (ending.Passed documents) is_load ends = absurd ends
-Ends-load words told faults masters (ending.ModelRefused fault) is_load ends = inr (inr (masters, is_load, ends))
-Ends-load words told faults masters (ending.Refused fault) is_load ends = inr (inr (masters, is_load, ends))
-Ends-load words told faults masters (ending.ScriptRefused fault) is_load ends = inr (inr (masters, is_load, ends))
-Ends-load words told faults masters (ending.Unread name why) is_load ends = absurd ends
-Ends-load words told faults masters ending.OutOfMemory is_load ends = tt
-Ends-load words told faults masters ending.Usage is_load ends = absurd ends
 
 -- a status other than those of a file that is not read, and of memory, comes with no fault of the files
 pub quiet_by_status : (end : Ending) (before after : ℕ) → IsQuiet end before after → status_of end ≢ 5 → status_of end ≢ 9 → after ≡ before
