@@ -17,7 +17,7 @@ use idoc_tree::{Doc, flatten};
 use object_store::Objects;
 use segment_defs::Definitions;
 use std::alloc::Global;
-use unit_core::RawUnitDoc;
+use unit_core::{RawUnitDoc, Shared};
 
 /// The documents of one gathering of a message type of the model: the masters of the objects of which a pointer of it waits, in
 /// byte order of their kinds and keys, as the objects are now. An object that is not there gives none. Nothing is cleared.
@@ -41,7 +41,16 @@ pub fn gathered(
             docs.push(doc)?;
         }
     }
-    Ok(docs)
+    Ok(trimmed(docs))
+}
+
+/// The documents, in a list with no room for more: a log keeps them.
+fn trimmed(docs: Items<RawUnitDoc>) -> Items<RawUnitDoc>
+    ensures { result ≡ docs }
+{
+    let mut docs = docs.into_vec();
+    docs.shrink_to_fit();
+    Items::from_vec(docs)
 }
 
 /// The master of an object as a Commit carries it. None where the object is not there.
@@ -72,9 +81,11 @@ fn carried(alloc: Global, definitions: &Definitions, doc: &Doc) -> Result<RawUni
     requires nodes { AllNodes (IsNode definitions.now) (forest_of doc.now.forest.items) }
     ensures { IfOk result (λ document. document ≡ carried definitions.now (document_of doc.now)) }
 {
-    let segments = flatten(alloc, definitions, doc)?;
+    let mut segments = flatten(alloc, definitions, doc)?;
+    // A log keeps the document, so its list gives back the room that it does not use.
+    segments.shrink_to_fit();
     Ok(RawUnitDoc {
-        control: doc.control.clone()?,
+        control: Shared::new(alloc, doc.control.clone()?)?,
         segments: Items::from_vec(segments),
     })
 }

@@ -29,7 +29,7 @@ pub fn check_master(alloc: Global, model: &Model, doc: &RawUnitDoc) -> Result<()
     // It is read as a master.
     ensures read { OnOk result (is_some (master_of model.now doc.now) ≡ true) }
 {
-    match model.message(doc.control.get(ControlField::Mestyp)) {
+    match model.message(doc.text(ControlField::Mestyp)) {
         None => Err(MasterFault::Unknown),
         Some(message) => check_as(alloc, model.as_lists(), doc, message),
     }

@@ -105,9 +105,13 @@ fn judge(alloc: Global, model: &Model, master: &RawUnitDoc) -> Result<(), Refusa
 fn commit_of(alloc: Global, master: &RawUnitDoc) -> Result<Record, OutOfMemory>
     ensures { IfOk result (λ next. next ≡ Commit None (master.now ∷ [])) }
 {
-    let mut docs = Items::new(alloc);
+    // The log keeps the list, so it gets the room for one.
+    let mut docs = Vec::with_capacity(alloc, 1)?;
     docs.push(master.clone()?)?;
-    Ok(Record::Commit { origin: None, docs })
+    Ok(Record::Commit {
+        origin: None,
+        docs: Items::from_vec(docs),
+    })
 }
 
 /// A record that makes units of a system, where there is room for them.

@@ -2,7 +2,7 @@
 
 use crate::rules::NO_MODEL;
 use crate::{changing, objects_text, pointing, receiving};
-use ale_base::Items;
+use ale_base::{Items, OutOfMemory};
 use case_form::{Item, LineEnd, meaning_of};
 use change_pointers::Pointers;
 use dist_model::Model;
@@ -12,7 +12,7 @@ use model_text::{ModelFault, read};
 use object_store::Objects;
 use std::alloc::Global;
 use std::mem::replace;
-use unit_core::RawUnitDoc;
+use unit_core::{RawUnitDoc, Shared};
 
 /// What came of an item.
 #[derive(Debug, Drop)]
@@ -78,18 +78,19 @@ const WORDS: [(&'static [u8], About); 14] = [
 
 impl Bench {
     /// No model, and no objects.
-    pub(crate) fn new(alloc: Global) -> Bench {
-        Bench {
+    pub(crate) fn new(alloc: Global) -> Result<Bench, OutOfMemory> {
+        let control = Shared::new(alloc, Control::blank())?;
+        Ok(Bench {
             model: None,
             objects: Objects::new(alloc),
             pointers: Pointers::new(alloc),
             required: Items::new(alloc),
             document: RawUnitDoc {
-                control: Control::blank(),
+                control,
                 segments: Items::new(alloc),
             },
             tables: ApplicationTables::new(alloc),
-        }
+        })
     }
 
     /// Does what an item asks for.

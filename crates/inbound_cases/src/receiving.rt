@@ -9,7 +9,7 @@ use dist_model::Model;
 use idoc_record::{Control, ControlField, Data, RecordFault, read_data};
 use inbound_post::{ApplicationTables, prepare};
 use std::alloc::{AllocError, Global};
-use unit_core::{AleUnit, RawUnitDoc};
+use unit_core::{AleUnit, RawUnitDoc, Shared};
 
 /// `document MESTYP`: a document of this message type; each line of the block is `NAME DATA`, a data record of it.
 pub(crate) fn document(alloc: Global, item: &Item) -> Result<RawUnitDoc, LineEnd> {
@@ -22,6 +22,7 @@ pub(crate) fn document(alloc: Global, item: &Item) -> Result<RawUnitDoc, LineEnd
     for line in &item.block {
         segments.push(record_of(alloc, line.text.as_slice())?)?;
     }
+    let control = Shared::new(alloc, control)?;
     Ok(RawUnitDoc { control, segments })
 }
 

@@ -18,7 +18,7 @@ impl Suite for Inbound {
 /// The steps of a case file: one for each item that finds a text.
 fn steps_of(alloc: Global, file: &str, bytes: &[u8]) -> Result<Items<Step>, CaseFault> {
     let items = read_items(alloc, file, bytes)?;
-    let mut bench = Bench::new(alloc);
+    let mut bench = Bench::new(alloc)?;
     let steps = steps_on(alloc, &mut bench, items.as_slice());
     drop(bench);
     steps

@@ -41,7 +41,7 @@ fn posting_from(
 ) -> Result<DocPosting, OutOfMemory>
     ensures { IfOk result (λ becomes. becomes ≡ posting_from model.now receiver sender doc.now) }
 {
-    match model.inbound(receiver, sender, doc.control.get(ControlField::Mestyp)) {
+    match model.inbound(receiver, sender, doc.text(ControlField::Mestyp)) {
         None => Ok(DocPosting::Errors),
         Some(profile) => match posting(alloc, model, doc)? {
             None => Ok(DocPosting::Errors),

@@ -15,7 +15,7 @@ ghost use Rattle.inbound_post.specs.Reading.{is_no_data, key_text, posted_fields
 use ale_base::{FieldValue, Items, OutOfMemory};
 use change_pointers::name_at;
 use dist_model::{Kind, Lists, Message, MessageNo, Model, PostingMode, all_fields};
-use idoc_record::ControlField;
+use idoc_record::{Control, ControlField};
 use idoc_tree::{Node, SyntaxFault, build};
 use object_store::Posting;
 use segment_defs::{Field, IdocType, Version};
@@ -32,7 +32,7 @@ pub fn posting(
 ) -> Result<Option<Posting>, OutOfMemory>
     ensures { IfOk result (λ made. made ≡ posting model.now doc.now) }
 {
-    match model.message(doc.control.get(ControlField::Mestyp)) {
+    match model.message(doc.text(ControlField::Mestyp)) {
         None => Ok(None),
         Some(message) => posting_as(alloc, model.as_lists(), doc, message),
     }
@@ -71,7 +71,7 @@ fn posting_made(
     ensures { IfOk result (λ made. made ≡ option_and_then (posting_made model.now message.now)
         (root_built (built model.now.definitions ty.now.segments doc.now.segments))) }
 {
-    let control = doc.control.clone()?;
+    let control = Control::clone(&doc.control)?;
     match build(
         alloc,
         &model.definitions,

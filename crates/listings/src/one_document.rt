@@ -16,7 +16,7 @@ use crate::ShownDocument;
 use crate::places::{MOST_NUMBERED, places_under};
 use ale_base::{DocNum, Items, OutOfMemory};
 use document_tables::DocumentTables;
-use idoc_record::{Data, Place};
+use idoc_record::{Control, Data, Place};
 use outbound_build::OutDocument;
 use outbound_log::OutboundTables;
 use status_log::SegmentLine;
@@ -75,7 +75,7 @@ fn shown_under(
     }
     let places = places_under(alloc, tables, document)?;
     let lines = placed_lines(alloc, places.as_slice(), document.segments.as_slice())?;
-    let control = document.control.clone()?;
+    let control = Control::clone(&document.control)?;
     Ok(ShownDocument { control, lines })
 }
 

@@ -51,7 +51,7 @@ fn places_by(
     ensures each { IfOk result (λ places. length places ≡ length document.now.segments) }
     ensures digits { IfOk result (λ places. AllByRecursion HasDigits places) }
 {
-    match model.message(document.control.get(ControlField::Mestyp)) {
+    match model.message(document.text(ControlField::Mestyp)) {
         None => root_places(alloc, document.segments.as_slice()),
         Some(message) => places_as(alloc, model.as_lists(), document, message),
     }

@@ -23,7 +23,7 @@ use dist_model::{Lists, Model, Outbound, RowNo};
 use idoc_tree::{Doc, flatten};
 use segment_defs::Definitions;
 use std::alloc::Global;
-use unit_core::RawUnitDoc;
+use unit_core::{RawUnitDoc, Shared};
 
 /// What a record adds, while its units have no numbers yet.
 #[derive(Debug, Drop)]
@@ -183,16 +183,16 @@ fn single(
 ) -> Result<Parcel, OutOfMemory>
     ensures { IfOk result (λ parcel. parcel ≡ parcel_of profile.now queues (number ∷ []) (document.now ∷ [])) }
 {
-    let mut numbers = Items::new(alloc);
+    let mut numbers = Vec::with_capacity(alloc, 1)?;
     numbers.push(number)?;
-    let mut docs = Items::new(alloc);
+    let mut docs = Vec::with_capacity(alloc, 1)?;
     docs.push(document.clone()?)?;
     Ok(Parcel {
         receiver: profile.receiver,
         function: profile.function,
         queues,
-        numbers,
-        docs,
+        numbers: Items::from_vec(numbers),
+        docs: Items::from_vec(docs),
     })
 }
 
@@ -221,9 +221,11 @@ fn carried(alloc: Global, definitions: &Definitions, doc: &Doc) -> Result<RawUni
     requires nodes { AllNodes (IsNode definitions.now) (forest_of doc.now.forest.items) }
     ensures { IfOk result (λ document. document ≡ carried definitions.now (document_of doc.now)) }
 {
-    let segments = flatten(alloc, definitions, doc)?;
+    let mut segments = flatten(alloc, definitions, doc)?;
+    // The document is kept, so its list gives back the room that it does not use.
+    segments.shrink_to_fit();
     Ok(RawUnitDoc {
-        control: doc.control.clone()?,
+        control: Shared::new(alloc, doc.control.clone()?)?,
         segments: Items::from_vec(segments),
     })
 }

@@ -35,7 +35,7 @@ pub(crate) fn master_of(
     ensures read { IfOk result (λ found. option_map master_in found ≡ master_of model.now doc.now) }
     ensures kept { IfOk result (λ found. IfSome found (IsRead model.now)) }
 {
-    match model.message(doc.control.get(ControlField::Mestyp)) {
+    match model.message(doc.text(ControlField::Mestyp)) {
         None => Ok(None),
         Some(message) => read_as(alloc, model.as_lists(), doc, message),
     }
@@ -57,7 +57,7 @@ fn read_as(
     if !may_be_of(&doc.control, ty.name.as_slice()) {
         return Ok(None);
     }
-    let control = doc.control.clone()?;
+    let control = Control::clone(&doc.control)?;
     match build(
         alloc,
         &lists.definitions,

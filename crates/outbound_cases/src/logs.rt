@@ -9,7 +9,7 @@ use dist_model::Model;
 use idoc_record::{Control, ControlField};
 use model_text::{ModelFault, read};
 use std::alloc::Global;
-use unit_core::{RawUnitDoc, Record};
+use unit_core::{RawUnitDoc, Record, Shared};
 
 /// The text of a model, by its name.
 #[derive(Drop)]
@@ -62,6 +62,7 @@ pub(crate) fn master(alloc: Global, item: &Item) -> Result<NamedMaster, LineEnd>
     }
     let mut control = Control::blank();
     control.set(ControlField::Mestyp, mestyp);
+    let control = Shared::new(alloc, control)?;
     let segments = Items::from_vec(records(alloc, item)?);
     Ok(NamedMaster {
         name: Items::from_slice(alloc, name)?,

@@ -16,7 +16,7 @@ use crate::unread::Unread;
 use ale_base::{FieldValue, Fixed, Items, OutOfMemory};
 use idoc_record::{Control, Data, write_control};
 use std::alloc::Global;
-use unit_core::RawUnitDoc;
+use unit_core::{RawUnitDoc, Shared};
 
 impl Listed for Data {
     ghost use Rattle.std.specs.Prelude.{⊤};
@@ -58,7 +58,7 @@ impl Listed for RawUnitDoc {
 
     #[tactic(auto, unfolding(crate::specs::Fields::document))]
     fn take(alloc: Global, from: &mut Unread<'_>) -> Result<RawUnitDoc, FieldFault> {
-        let control = from.control()?;
+        let control = Shared::new(alloc, from.control()?)?;
         let segments = from.segments(alloc)?;
         Ok(RawUnitDoc { control, segments })
     }

@@ -11,6 +11,7 @@ mod marks;
 mod queue;
 mod raw_unit_doc;
 mod records;
+mod shared;
 
 pub use ale_unit::AleUnit;
 pub use filters::{done_in, ended_in, executed, forgotten_in, received, taken_by};
@@ -20,3 +21,4 @@ pub use queue::{
 };
 pub use raw_unit_doc::RawUnitDoc;
 pub use records::Record;
+pub use shared::Shared;
