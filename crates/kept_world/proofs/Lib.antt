@@ -2,6 +2,8 @@
 
 -- the volumes hold the logs: one more record, a system that falls
 pub mod OnVolumesLemmas
+-- the lengths that are kept of systems that fell
+pub mod OverrunsLemmas
 -- the tables are in step with the logs: a record that is noted, a system that falls behind it
 pub mod BehindLemmas
 -- what the tables answer, said by the logs and the claims

@@ -21,7 +21,7 @@ use Rattle.system_journals.proofs.OrderLemmas.{AreInOrder-same}
 use Rattle.kept_world.specs.OnVolumes.{AreOnVolumes}
 
 -- a claim that goes leaves the systems
-named_systems : {R : Type 0} (world : World R) (claim : Option ℕ) → (without_named world claim).systems ≡ world.systems
+pub named_systems : {R : Type 0} (world : World R) (claim : Option ℕ) → (without_named world claim).systems ≡ world.systems
 named_systems world None = refl
 named_systems world (Some number) = refl
 

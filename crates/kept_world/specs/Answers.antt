@@ -42,7 +42,8 @@ IsAnsweredBy rules world system way tid (Ok made) = may_go_at rules world system
 IsAnsweredBy rules world system way tid (Err (NotOffered why)) = may_go_at rules world system way tid ≡ false
 IsAnsweredBy rules world system way tid (Err OutOfMemory) = may_go_at rules world system way tid ≡ true
 
--- the journals and the volumes are as before
+-- the journals and the volumes are as before, and so is what is kept of how systems fell
 pub record KeepsVolumes {R A V : Type 0} (before after : KeptOf R A V) : Type 0 where
   pub journals : after.journals ≡ before.journals
   pub vols : after.vols ≡ before.vols
+  pub overruns : after.overruns ≡ before.overruns

@@ -17,13 +17,15 @@ use trfc_protocol::{Rules, World};
 use unit_core::{AleUnit, Record};
 use world_tables::{ClaimEnd, WorldTables};
 
-/// A world, the tables of its systems, their journals, and the volumes.
+/// A world, the tables of its systems, their journals, and the volumes; and how long those would have been that a record did not fit on.
 #[derive(Drop)]
 pub struct KeptWorld<R: Rules, A: Application, V: Volumes> {
     alloc: Global,
     both: WorldTables<R, A>,
     journals: SystemJournals,
     vols: V,
+    // For each system, how long its volume would have been with the record that did not fit as it last fell.
+    overruns: [Option<u64>; 16],
 }
 
 impl<R: Rules, A: Application, V: Volumes> Model for KeptWorld<R, A, V> {
@@ -36,6 +38,7 @@ impl<R: Rules, A: Application, V: Volumes> Model for KeptWorld<R, A, V> {
       tables = kept.both.tables;
       journals = kept.journals;
       vols = kept.vols;
+      overruns = kept.overruns;
     } };
 
     ghost invariant = { λ kept. IsKept R.meaning A.stands V.told V.volume (record {
@@ -43,6 +46,7 @@ impl<R: Rules, A: Application, V: Volumes> Model for KeptWorld<R, A, V> {
       tables = kept.both.tables;
       journals = kept.journals;
       vols = kept.vols;
+      overruns = kept.overruns;
     }) };
 }
 
@@ -63,10 +67,11 @@ impl<R: Rules, A: Application, V: Volumes> KeptWorld<R, A, V> {
     ghost use Rattle.system_journals.specs.Changes.{with_moment};
     ghost use Rattle.world_tables.specs.Answers.{IsAnswered};
     ghost use Rattle.kept_world.specs.Answers.{IsAnsweredBy, KeepsVolumes};
-    ghost use Rattle.kept_world.specs.Kept.{IsKept, kept_of};
+    ghost use Rattle.kept_world.specs.Kept.{IsKept, kept_of, overrun_at};
+    ghost use Rattle.kept_world.specs.Overruns.{with_overrun};
     ghost use Rattle.kept_world.specs.Appending.{AppendedAs, FullAs, JournalsAs, UnchangedAs, IsToAppend};
 
-    /// A world that is kept, of one whose tables are in step with it and whose volumes hold its logs.
+    /// A world that is kept, of one whose tables are in step with it and whose volumes hold its logs. No length is kept yet.
     pub fn new(
         alloc: Global,
         both: WorldTables<R, A>,
@@ -81,6 +86,7 @@ impl<R: Rules, A: Application, V: Volumes> KeptWorld<R, A, V> {
             both,
             journals,
             vols,
+            overruns: [None; 16],
         }
     }
 
@@ -111,6 +117,7 @@ impl<R: Rules, A: Application, V: Volumes> KeptWorld<R, A, V> {
         ensures did { AppendedAs self.old.world self.new.world system next claim result }
         ensures journals { JournalsAs (system - 1) self.old.journals self.new.journals result }
         ensures unchanged { UnchangedAs self.old self.new result }
+        ensures overruns { self.new.overruns ≡ self.old.overruns }
 
         // When the volume is too small, and how long it would be; unless memory ran out.
         ensures full { FullAs (system - 1) self.old.journals next result }
@@ -167,6 +174,14 @@ impl<R: Rules, A: Application, V: Volumes> KeptWorld<R, A, V> {
         self.journals.set_moment(moment);
     }
 
+    /// How long the volume of a system would have been with the record that did not fit as the system last fell. None where it fell
+    /// otherwise, or has not fallen.
+    pub fn overrun(&self, system: SystemNo) -> Option<u64>
+        ensures { result ≡ overrun_at self.now system }
+    {
+        self.overruns[system.get() as usize - 1]
+    }
+
     /// Claims the unit of an id, which waits in the queues of a direction at a system that is up, and gives the number of the claim.
     /// After an `Err` nothing has changed.
     pub fn claim(&mut self, system: SystemNo, way: Way, tid: Tid) -> Result<u64, ClaimEnd>
@@ -211,13 +226,17 @@ impl<R: Rules, A: Application, V: Volumes> KeptWorld<R, A, V> {
         self.both.revoke(self.alloc);
     }
 
-    /// A system that is up falls, and all claims are gone. Nothing is called on its volume. It takes no memory.
-    pub fn fall(&mut self, system: SystemNo)
+    /// A system that is up falls, and all claims are gone. Nothing is called on its volume. Where it falls by a record that did not
+    /// fit, `size` is how long the volume would have been with it. It takes no memory.
+    pub fn fall(&mut self, system: SystemNo, size: Option<u64>)
         requires up { is_up self.old.world system ≡ true }
         requires apart { AreApart self.old.world.claims }
         ensures world { self.new.world ≡ with_fall self.old.world system None }
-        ensures volumes { KeepsVolumes self.old self.new }
+        ensures journals { self.new.journals ≡ self.old.journals }
+        ensures vols { self.new.vols ≡ self.old.vols }
+        ensures overruns { self.new.overruns ≡ with_overrun self.old.overruns system size }
     {
         self.both.fall(self.alloc, system, None);
+        self.overruns[system.get() as usize - 1] = size;
     }
 }

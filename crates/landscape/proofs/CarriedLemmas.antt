@@ -173,7 +173,7 @@ module _ {V : Type 0} (faults : V → ℕ → ℕ) (before after : KeptOf ModelR
       → CarriedAs faults before after system event asked P (Err why)
   refused P kind asked refusal.OutOfMemory is same = inl
       (subst (λ (k : KeptOf ModelRules DocumentTables V). Stays (meaning before.world.rules) faults before k) (sym same)
-      (record { world = refl; tables = refl; journals = refl; no_faults = λ place. refl }))
+      (record { world = refl; tables = refl; journals = refl; no_faults = λ place. refl; overruns = refl }))
   refused P kind asked refusal.Volume is same = absurd is
   refused P kind asked (refusal.N10 size) is same = absurd is
   refused P kind asked why is same = (is, same)

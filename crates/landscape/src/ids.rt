@@ -1,20 +1,23 @@
 //! The ids of units, by the numbers as which a table keeps them.
 
 ghost use Rattle.std.specs.Prelude.{◌≡◌, ◌++◌, ◌∷◌, [], Some, None, map, filter, IfOk, OnOk, if◌then◌else◌};
-ghost use Rattle.ale_base.specs.Tid.{has_range};
+ghost use Rattle.std.specs.List.{IsDistinct};
+ghost use Rattle.ale_base.specs.Tid.{has_range, is_tid};
 ghost use Rattle.tid_table.specs.Numbers.{tid_of};
 
 use ale_base::{Items, OutOfMemory, SystemNo, Tid};
 use std::alloc::Global;
 use std::collections::BTreeSet;
 
-/// The ids of these numbers, of system and unit, in order. What is out of the range of ids is left out.
+/// The ids of these numbers, of system and unit, in order, each once. What is out of the range of ids is left out.
 pub(crate) fn ids_of(
     alloc: Global,
     numbers: &BTreeSet<(u8, u32)>,
 ) -> Result<Items<Tid>, OutOfMemory>
-    ensures { IfOk result (λ tids. tids ≡ filter has_range (map tid_of numbers.now.keys)) }
+    ensures are { IfOk result (λ tids. tids ≡ filter has_range (map tid_of numbers.now.keys)) }
+    ensures apart { IfOk result (IsDistinct is_tid) }
 {
+    let _count = numbers.len();
     let mut tids = Items::new(alloc);
     for of_one in numbers {
         push_id(*of_one, &mut tids)?;

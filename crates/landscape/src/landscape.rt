@@ -52,7 +52,7 @@ impl<V: Volumes> Landscape<V> {
     ghost use Rattle.trfc_protocol.specs.Worlds.{log_of, is_up, committed_unit};
     ghost use Rattle.system_journals.specs.OnDisk.{moments_at};
     ghost use Rattle.system_journals.specs.Changes.{with_moment};
-    ghost use Rattle.kept_world.specs.Kept.{IsKept};
+    ghost use Rattle.kept_world.specs.Kept.{IsKept, overrun_at};
     ghost use Rattle.unit_landscape.specs.Kept.{IsLandscape};
     ghost use Rattle.unit_landscape.specs.Calls.{stands_out};
     ghost use Rattle.unit_landscape.specs.Quiet.{IsQuiet};
@@ -91,6 +91,14 @@ impl<V: Volumes> Landscape<V> {
         ensures { result ≡ is_up self.now.world system }
     {
         self.units.is_up(system)
+    }
+
+    /// How long the volume of a system would have been with the record that did not fit as the system last fell. None where it fell
+    /// otherwise, or has not fallen.
+    pub fn overrun(&self, system: SystemNo) -> Option<u64>
+        ensures { result ≡ overrun_at self.now system }
+    {
+        self.units.overrun(system)
     }
 
     /// The unit of this id, as its sender committed it, in constant time. None exactly where it committed none.

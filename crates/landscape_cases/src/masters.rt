@@ -5,7 +5,7 @@ use ale_base::Items;
 use case_form::{Item, LineEnd, first_word, put_text};
 use idoc_record::{Control, ControlField, Data, RecordFault, read_data};
 use std::alloc::Global;
-use unit_core::RawUnitDoc;
+use unit_core::{RawUnitDoc, Shared};
 
 /// `master MESTYP`: a master of this message type; each line of the block is `NAME DATA`, a data record of it.
 pub(crate) fn master(alloc: Global, item: &Item) -> Result<RawUnitDoc, LineEnd> {
@@ -19,6 +19,7 @@ pub(crate) fn master(alloc: Global, item: &Item) -> Result<RawUnitDoc, LineEnd> 
     for line in &item.block {
         segments.push(record_of(alloc, line.text.as_slice())?)?;
     }
+    let control = Shared::new(alloc, control)?;
     Ok(RawUnitDoc { control, segments })
 }
 

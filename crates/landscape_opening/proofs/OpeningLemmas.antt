@@ -31,7 +31,9 @@ use Rattle.system_journals.specs.Changes.{IsNext}
 use Rattle.system_journals.proofs.KeptLemmas.{IsOnDisk-same, IsLeftOnDisk-same}
 use Rattle.system_journals.proofs.OrderLemmas.{AreInOrder-same, AreInOrder-none, AreInOrder-past}
 use Rattle.kept_world.specs.OnVolumes.{AreOnVolumes}
+use Rattle.kept_world.specs.Overruns.{no_overruns, AreOverrunsOf}
 use Rattle.kept_world.specs.Kept.{KeptOf}
+use Rattle.kept_world.proofs.OverrunsLemmas.{overruns-none}
 use Rattle.landscape_opening.specs.declared.opening.fault.OpenFault.{OpenFault}
 use Rattle.landscape_opening.specs.declared.opening.fault.OpenFault.TheVariants.{Volume}
 use Rattle.landscape_opening.specs.Opening.{begun_logs, begun_world, with_opened, IsOpening}
@@ -155,9 +157,9 @@ pub IsOpening-opened : {R A V : Type 0} (meaning : R → Meaning) (lawful : (rul
     → after.world ≡ with_opened before.world → after.tables ≡ before.tables ++ no_tables application ∷ []
     → IsNext before.journals after.journals
     → ((other : ℕ) → other ≢ count_of before.journals → told → volume after.vols other ≡ volume before.vols other)
-    → IsOnDisk told volume after.vols (count_of before.journals) after.journals []
+    → IsOnDisk told volume after.vols (count_of before.journals) after.journals [] → after.overruns ≡ no_overruns
     → IsOpening meaning stands told volume after
-IsOpening-opened {R} {A} meaning lawful stands told volume before after application opening room begins world tables next others disk =
+IsOpening-opened {R} {A} meaning lawful stands told volume before after application opening room begins world tables next others disk none =
     let most = (lawful before.world.rules).systems_most in
     record {
       kept = record {
@@ -168,6 +170,7 @@ IsOpening-opened {R} {A} meaning lawful stands told volume before after applicat
         on_volumes = subst (λ (w : World R). AreOnVolumes told volume after.vols w.systems after.journals) (sym world)
             (on_volumes-opened told volume before.vols after.vols before.world.systems before.journals after.journals opening.kept.on_volumes (omega (arith, room, most))
             next others disk);
+        overruns = subst (AreOverrunsOf after.world.systems) (sym none) (overruns-none after.world.systems);
       };
       world = subst (λ (w : World R). w ≡ begun_world w.rules [] (length w.systems)) (sym world) (begins-opened before.world opening.world);
     }

@@ -46,6 +46,7 @@ pub fn begin<R: Rules, A: Application, V: Volumes>(
 
     // The log is the Genesis alone, with the moment that was set; or how else it ended.
     ensures begun { BegunAs kept.old kept.new system text result }
+    ensures overruns { kept.new.overruns ≡ kept.old.overruns }
 
     // A crash at any moment of the call leaves of the system's volume the empty log, or the Genesis alone; of others what it left.
     ensures any_moment { V.told → LeavesOnly V.moment V.images_since kept.old.vols kept.new.vols (system - 1)

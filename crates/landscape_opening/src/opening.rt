@@ -26,6 +26,7 @@ pub struct Opening<R: Rules, A: Application, V: Volumes> {
 
 impl<R: Rules, A: Application, V: Volumes> Model for Opening<R, A, V> {
     ghost use Rattle.kept_world.specs.Kept.{KeptOf};
+    ghost use Rattle.kept_world.specs.Overruns.{no_overruns};
     ghost use Rattle.landscape_opening.specs.Opening.{IsOpening};
 
     ghost Value = { KeptOf R A V };
@@ -35,6 +36,7 @@ impl<R: Rules, A: Application, V: Volumes> Model for Opening<R, A, V> {
       tables = opening.both.tables;
       journals = opening.journals;
       vols = opening.vols;
+      overruns = no_overruns;
     } };
 
     ghost invariant = { λ opening. IsOpening R.meaning A.stands V.told V.volume (record {
@@ -42,6 +44,7 @@ impl<R: Rules, A: Application, V: Volumes> Model for Opening<R, A, V> {
       tables = opening.both.tables;
       journals = opening.journals;
       vols = opening.vols;
+      overruns = no_overruns;
     }) };
 }
 
@@ -52,6 +55,7 @@ impl<R: Rules, A: Application, V: Volumes> Opening<R, A, V> {
     ghost use Rattle.byte_journal.specs.Settled.{IsLeftByOpening, LeavesOnlyFromSync};
     ghost use Rattle.trfc_protocol.specs.Start.{first_world};
     ghost use Rattle.system_journals.specs.OnDisk.{count_of, moment_of};
+    ghost use Rattle.kept_world.specs.Overruns.{no_overruns};
     ghost use Rattle.landscape_opening.specs.Opening.{begun_world, IsOpened, OpenedAs, LeavesAs, LeftAs, HasFailed, vols_of};
 
     /// No system is opened yet. The records of the landscape are written with this moment, until another one is set.
@@ -131,10 +135,11 @@ impl<R: Rules, A: Application, V: Volumes> Opening<R, A, V> {
         }
     }
 
-    /// The world of the systems that are opened, which is kept.
+    /// The world of the systems that are opened, which is kept. None of them has fallen.
     pub fn into_kept(self) -> KeptWorld<R, A, V>
         ensures kept { result ≡ self }
         ensures world { self.world ≡ begun_world self.world.rules [] (length self.world.systems) }
+        ensures overruns { self.overruns ≡ no_overruns }
     {
         let Opening {
             alloc,

@@ -7,7 +7,7 @@ use case_form::{BlockLine, CaseFault, Item, LineEnd, put_text};
 use idoc_record::{read_control, read_data};
 use std::alloc::Global;
 use trfc_protocol::ListedRules;
-use unit_core::{AleUnit, RawUnitDoc};
+use unit_core::{AleUnit, RawUnitDoc, Shared};
 
 /// The units of each system, from system 1 on.
 pub(crate) type Lists = Items<Items<AleUnit>>;
@@ -158,6 +158,7 @@ fn docs_of(alloc: Global, block: &[BlockLine]) -> Result<Items<RawUnitDoc>, Case
 /// Adds a document, or a data record to the last one.
 fn add_line(alloc: Global, docs: &mut Vec<RawUnitDoc>, line: &[u8]) -> Result<(), LineEnd> {
     if let Ok(control) = read_control(line) {
+        let control = Shared::new(alloc, control)?;
         let segments = Items::new(alloc);
         docs.push(RawUnitDoc { control, segments })?;
         return Ok(());

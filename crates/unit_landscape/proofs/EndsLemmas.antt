@@ -1,6 +1,6 @@
 -- How a record of an event ends, as the event says.
 use Rattle.std.specs.Prelude.{slice_get, Result, Ok, Err, IsErrOf}
-use Rattle.std.proofs.Common.{◌≡◌, ℕ, ◌-◌, true, cond, Option, Some, None, List, inl, inr, ◌⊎◌, refl, sym, ap, subst, ◌∙◌}
+use Rattle.std.proofs.Common.{◌≡◌, ◌≤◌, ℕ, ◌-◌, true, cond, Option, Some, None, List, inl, inr, ◌⊎◌, refl, sym, ap, subst, ◌∙◌}
 use Rattle.std.proofs.lemmas.Bool.{cases_eq}
 use Rattle.std.proofs.lemmas.Option.{same_Some}
 use Rattle.ale_base.specs.declared.out_of_memory.OutOfMemory.{OutOfMemory}
@@ -23,7 +23,8 @@ use Rattle.world_tables.specs.Joining.{without_named, after_record}
 use Rattle.kept_world.specs.declared.append_end.AppendEnd.{AppendEnd}
 use Rattle.kept_world.specs.declared.append_end.AppendEnd.TheVariants.{Volume, Full, Before, After}
 use Rattle.kept_world.specs.Kept.{KeptOf, IsKept}
-use Rattle.kept_world.specs.Answers.{KeepsVolumes}
+use Rattle.kept_world.specs.Overruns.{AreOverrunsOf, overrun_in, with_overrun}
+use Rattle.kept_world.proofs.OverrunsLemmas.{overruns-told}
 use Rattle.kept_world.specs.Appending.{AppendedAs, JournalsAs, UnchangedAs, FullAs}
 use Rattle.kept_world.proofs.OnVolumesLemmas.{up-written, on_disk-up}
 use Rattle.unit_landscape.specs.Kept.{CommitWritable, IsLandscape}
@@ -128,10 +129,10 @@ module _ {R A V : Type 0} (meaning : R → Meaning) (lawful : (r : R) → IsLawf
     -- how the appending of its record ends
     pub ends-as : {T : Type 0} → (result : Result T AppendEnd) → IsKept meaning stands told volume before
         → AppendedAs before.world now.world system next claim result → JournalsAs (system - 1) before.journals now.journals result
-        → UnchangedAs before now result → FullAs (system - 1) before.journals next result
+        → UnchangedAs before now result → now.overruns ≡ before.overruns → FullAs (system - 1) before.journals next result
         → CountsFault (IsErrOf result Volume) (faults before.vols) (faults now.vols) (system - 1)
         → AppendsAs rules faults before now e (at system next) result
-    ends-as {T} (Ok done) kept did journals unchanged full counts = record {
+    ends-as {T} (Ok done) kept did journals unchanged overruns full counts = record {
       world = did ∙ sym behind;
       moments = subst (MomentsAs before.journals now.journals) (sym does.writes) journals;
       fits = λ it same size long.
@@ -139,29 +140,33 @@ module _ {R A V : Type 0} (meaning : R → Meaning) (lawful : (r : R) → IsLawf
           let told_full : Ok done ≡ Err (Full size) = (full it_is.journal it_is.here size (λ none. cc)).1 (it_is.long, it_is.over) in
           cc;
       no_faults = counts-none _ (faults before.vols) (faults now.vols) (system - 1) (λ failed. cc) counts;
+      overruns = overruns;
     }
-    ends-as (Err Volume) kept did journals unchanged full counts = record {
+    ends-as (Err Volume) kept did journals unchanged overruns full counts = record {
       world = did ∙ sym falls-writing;
       journals = journals;
       fits = λ size long. let told_full : Err Volume ≡ Err (Full size) = (full long.journal long.here size (λ none. cc)).1 (long.long, long.over) in cc;
       rose = counts.rose refl;
       others = counts.others;
+      overruns = overruns;
     }
-    ends-as (Err (Full size)) kept did journals unchanged full counts =
+    ends-as (Err (Full size)) kept did journals unchanged overruns full counts =
         let journal = journal_there system up kept in
         let size_is = (full journal.0 journal.1 size (λ none. cc)).0 refl in
         record { same = unchanged; long = record { journal = journal.0; here = journal.1; long = size_is.0; over = size_is.1 } }
-    ends-as {T} (Err Before) kept did journals unchanged full counts = record {
+    ends-as {T} (Err Before) kept did journals unchanged overruns full counts = record {
       world = did;
       tables = unchanged.1;
       journals = journals;
       no_faults = counts-none _ (faults before.vols) (faults now.vols) (system - 1) (λ failed. cc) counts;
+      overruns = overruns;
     }
-    ends-as {T} (Err After) kept did journals unchanged full counts = record {
+    ends-as {T} (Err After) kept did journals unchanged overruns full counts = record {
       world = did ∙ falls-behind;
       moments = journals;
       fits = λ size long. let told_full : Err After ≡ Err (Full size) = (full long.journal long.here size (λ none. cc)).1 (long.long, long.over) in cc;
       no_faults = counts-none _ (faults before.vols) (faults now.vols) (system - 1) (λ failed. cc) counts;
+      overruns = overruns;
     }
 
     -- a landscape it is afterwards
@@ -172,16 +177,20 @@ module _ {R A V : Type 0} (meaning : R → Meaning) (lawful : (r : R) → IsLawf
     landscape-ends (Err Before) ends = landscape-same meaning before.world now.world ends.world is
     landscape-ends (Err After) ends = landscape-steps meaning lawful before.world now.world e (Fall system None) is ends.world
 
--- a record that did not fit, behind which its system fell
+-- a record that did not fit, behind which its system fell, with the length that was told
 pub overflowed : {R A V : Type 0} (rules : Meaning) (faults : V → ℕ → ℕ) (before mid after : KeptOf R A V) (system : ℕ) (next : Record) (size : ℕ)
     → is_up before.world system ≡ true → IsFull rules faults before mid (at system next) size → after.world ≡ with_fall mid.world system None
-    → KeepsVolumes mid after → Overflowed rules faults before after (at system next)
-overflowed {R} {A} {V} rules faults before mid then system next size up full fell keeps = record {
+    → after.journals ≡ mid.journals → after.vols ≡ mid.vols → after.overruns ≡ with_overrun mid.overruns system (Some size)
+    → AreOverrunsOf mid.world.systems mid.overruns → system ≤ 16
+    → Overflowed rules faults before after (at system next)
+overflowed {R} {A} {V} rules faults before mid then system next size up full fell journals vols overruns are most = record {
   world = fell ∙ ap (λ (k : KeptOf R A V). with_fall k.world system None) full.same ∙ sym (falls-up rules before.world system up);
-  journals = keeps.journals ∙ ap (λ (k : KeptOf R A V). k.journals) full.same;
-  vols = keeps.vols ∙ ap (λ (k : KeptOf R A V). k.vols) full.same;
+  journals = journals ∙ ap (λ (k : KeptOf R A V). k.journals) full.same;
+  vols = vols ∙ ap (λ (k : KeptOf R A V). k.vols) full.same;
   size = size;
   long = full.long;
+  overruns = overruns ∙ ap (λ (k : KeptOf R A V). with_overrun k.overruns system (Some size)) full.same;
+  told = ap (λ all. overrun_in all system) overruns ∙ overruns-told mid.world.systems system (Some size) mid.overruns are most;
 }
 
 -- a record of which it was said that it does not fit

@@ -34,6 +34,7 @@ happened-none rules faults before now e none world keeps = record {
   moments = subst (MomentsAs before.journals now.journals) (sym none) keeps.journals;
   fits = λ it same size long. absurd (none-some it (sym none ∙ same));
   no_faults = λ place. ap (λ vols. faults vols place) keeps.vols;
+  overruns = keeps.overruns;
 }
 
 module _ {R A V : Type 0} (told : Type 0) (volume : V → ℕ → Volume) (moment : V → ℕ) (images_since : V → ℕ → ℕ → List ℕ → Type 0) (before after : KeptOf R A V) where
@@ -82,4 +83,4 @@ pub disk-seen : {R A V : Type 0} (told : Type 0) (volume : V → ℕ → Volume)
 disk-seen told volume moment images_since only_now meaning lawful kept seen same is on_volumes event =
     subst (λ k. DiskAs told volume moment images_since k k (record_of (meaning k.world.rules) k.world (event k.world))) same
     (disk-still told volume moment images_since kept kept only_now on_volumes (meaning kept.world.rules) (lawful kept.world.rules) is.safe (event kept.world)
-    (record { journals = refl; vols = refl }))
+    (record { journals = refl; vols = refl; overruns = refl }))

@@ -35,6 +35,7 @@ use Rattle.kept_world.specs.declared.append_end.AppendEnd.{AppendEnd}
 use Rattle.kept_world.specs.declared.append_end.AppendEnd.TheVariants.{Volume, Full as TooLong, Before, After}
 use Rattle.kept_world.specs.OnVolumes.{AreOnVolumes}
 use Rattle.kept_world.specs.Kept.{KeptOf}
+use Rattle.kept_world.specs.Answers.{KeepsVolumes}
 use Rattle.unit_landscape.specs.Kept.{IsLandscape}
 use Rattle.unit_landscape.specs.Writes.{DiskAs, Appends}
 use Rattle.unit_landscape.specs.Ends.{Happened, AppendsAs}
@@ -114,18 +115,18 @@ late-still told volume moment images before only_now on_volumes rules tid = by_u
         → DiskAs told volume moment images before before (record_of_late unit given)
     by_answer unit answer.New is =
         writes-nothing told volume moment images before before only_now on_volumes (at unit.receiver (log.Accept unit))
-        (answer-up rules before.world unit answer.New is (λ same. cc)) (record { journals = refl; vols = refl })
+        (answer-up rules before.world unit answer.New is (λ same. cc)) (record { journals = refl; vols = refl; overruns = refl })
     by_answer unit answer.Run is =
         writes-nothing told volume moment images before before only_now on_volumes (at unit.receiver (log.Direct unit))
-        (answer-up rules before.world unit answer.Run is (λ same. cc)) (record { journals = refl; vols = refl })
-    by_answer unit answer.Down is = record { journals = refl; vols = refl }
-    by_answer unit answer.Known is = record { journals = refl; vols = refl }
-    by_answer unit answer.Busy is = record { journals = refl; vols = refl }
-    by_answer unit answer.SysFail is = record { journals = refl; vols = refl }
+        (answer-up rules before.world unit answer.Run is (λ same. cc)) (record { journals = refl; vols = refl; overruns = refl })
+    by_answer unit answer.Down is = record { journals = refl; vols = refl; overruns = refl }
+    by_answer unit answer.Known is = record { journals = refl; vols = refl; overruns = refl }
+    by_answer unit answer.Busy is = record { journals = refl; vols = refl; overruns = refl }
+    by_answer unit answer.SysFail is = record { journals = refl; vols = refl; overruns = refl }
 
     by_unit : (found : Option AleUnit) → DiskAs told volume moment images before before
         (option_and_then (λ unit. record_of_late unit (answer_to rules before.world unit)) found)
-    by_unit None = record { journals = refl; vols = refl }
+    by_unit None = record { journals = refl; vols = refl; overruns = refl }
     by_unit (Some unit) = by_answer unit (answer_to rules before.world unit) refl
 
 -- an arrival that appends nothing and claims nothing leaves all as it is
@@ -135,7 +136,7 @@ pub arrived-still : {R A V : Type 0} (rules : Meaning) (faults : V → ℕ → �
 arrived-still rules faults before unit given arrives none stays =
     happened-none rules faults before before (event.Arrive unit.tid) (arrival-record rules before.world unit given arrives ∙ none)
     (sym (arrival-after rules before.world unit given arrives ∙ ap (λ found. written found (with_run before.world unit given)) none ∙ stays))
-    (record { journals = refl; vols = refl })
+    (record { journals = refl; vols = refl; overruns = refl })
 
 -- ---- a unit is taken in
 
@@ -198,13 +199,10 @@ module _ {R A V : Type 0} (before : KeptOf R A V) (unit : AleUnit) where
   claimed_by = record before { world = with_run_claimed }
 
   -- a claim that was made leaves all else
-  pub claimed-is : (mid : KeptOf R A V) → mid.world ≡ with_run_claimed → mid.tables ≡ before.tables → mid.journals ≡ before.journals
-      → mid.vols ≡ before.vols → mid ≡ claimed_by
-  claimed-is mid world tables journals vols =
-      ap (λ w. let k : KeptOf R A V = record { world = w; tables = mid.tables; journals = mid.journals; vols = mid.vols } in k) world
-      ∙ ap (λ t. let k : KeptOf R A V = record { world = with_run_claimed; tables = t; journals = mid.journals; vols = mid.vols } in k) tables
-      ∙ ap (λ j. let k : KeptOf R A V = record { world = with_run_claimed; tables = before.tables; journals = j; vols = mid.vols } in k) journals
-      ∙ ap (λ v. let k : KeptOf R A V = record { world = with_run_claimed; tables = before.tables; journals = before.journals; vols = v } in k) vols
+  pub claimed-is : (mid : KeptOf R A V) → mid.world ≡ with_run_claimed → mid.tables ≡ before.tables → KeepsVolumes before mid → mid ≡ claimed_by
+  claimed-is mid world tables keeps = λ i.
+      let k : KeptOf R A V =
+      record { world = world i; tables = tables i; journals = keeps.journals i; vols = keeps.vols i; overruns = keeps.overruns i } in k
 
   -- it is what is kept as the run begins
   pub claimed-begun : (rules : Meaning) → Arrives rules before.world unit answer.Run → claimed_by ≡ begun_by rules before unit.tid
@@ -248,6 +246,7 @@ module _ {R A V : Type 0} (rules : Meaning) (lawful : IsLawful rules) (faults : 
           world = used (ap (λ (k : KeptOf R A V). k.world) ends.same) gives.0;
           journals = gives.1.journals ∙ ap (λ (k : KeptOf R A V). k.journals) ends.same;
           no_faults = λ place. ap (λ vols. faults vols place) (gives.1.vols ∙ ap (λ (k : KeptOf R A V). k.vols) ends.same);
+          overruns = gives.1.overruns ∙ ap (λ (k : KeptOf R A V). k.overruns) ends.same;
         };
         vols = gives.1.vols ∙ ap (λ (k : KeptOf R A V). k.vols) ends.same;
         long = ends.long;
@@ -263,6 +262,7 @@ module _ {R A V : Type 0} (rules : Meaning) (lawful : IsLawful rules) (faults : 
         world = used ends.world gives.0;
         journals = gives.1.journals ∙ ends.journals;
         no_faults = λ place. ap (λ vols. faults vols place) gives.1.vols ∙ ends.no_faults place;
+        overruns = gives.1.overruns ∙ ends.overruns;
       }),
     ),
   )

@@ -83,6 +83,7 @@ module _ {R A V : Type 0} (rules : Meaning) (faults : V → ℕ → ℕ) (before
     pub world : after.world ≡ number_used before.world
     pub journals : after.journals ≡ before.journals
     pub no_faults : NoFaults rules faults before after
+    pub overruns : after.overruns ≡ before.overruns
 
   -- the record of a run does not fit, and nothing has changed but that the number of its claim is used up; this long the volume would be
   pub record IsFullRun (it : Writing) (size : ℕ) : Type 0 where

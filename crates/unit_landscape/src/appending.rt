@@ -40,7 +40,7 @@ pub(crate) fn record<R: Rules, A: Application, V: Volumes>(
     kept.append(system, next, more, claim, extra)
 }
 
-/// Appends the record of an event that commits no units. Where it does not fit its system falls.
+/// Appends the record of an event that commits no units. Where it does not fit its system falls, with how long its volume would be.
 pub(crate) fn append<R: Rules, A: Application, V: Volumes>(
     kept: &mut KeptWorld<R, A, V>,
     system: SystemNo,
@@ -57,8 +57,9 @@ pub(crate) fn append<R: Rules, A: Application, V: Volumes>(
     match record(kept, system, next, &[], claim, extra) {
         Ok(()) => Ok(Appended::Written),
         Err(AppendEnd::Volume) => Ok(Appended::Fallen),
-        Err(AppendEnd::Full(_)) => {
-            kept.fall(system);
+        Err(AppendEnd::Full(size)) => {
+            let _ = kept.world();
+            kept.fall(system, Some(size));
             Ok(Appended::Fallen)
         }
         Err(AppendEnd::Before | AppendEnd::After) => Err(OutOfMemory),

@@ -46,7 +46,7 @@ impl<R: Rules, A: Application, V: Volumes> UnitLandscape<R, A, V> {
     ghost use Rattle.system_tables.specs.Tables.{TablesOf};
     ghost use Rattle.system_journals.specs.OnDisk.{moments_at};
     ghost use Rattle.system_journals.specs.Changes.{with_moment};
-    ghost use Rattle.kept_world.specs.Kept.{IsKept};
+    ghost use Rattle.kept_world.specs.Kept.{IsKept, overrun_at};
     ghost use Rattle.unit_landscape.specs.Kept.{IsLandscape};
     ghost use Rattle.unit_landscape.specs.Tables.{AreTablesUp};
 
@@ -79,6 +79,14 @@ impl<R: Rules, A: Application, V: Volumes> UnitLandscape<R, A, V> {
         ensures { result ≡ is_up self.now.world system }
     {
         self.kept.world().is_up(system)
+    }
+
+    /// How long the volume of a system would have been with the record that did not fit as the system last fell. None where it fell
+    /// otherwise, or has not fallen.
+    pub fn overrun(&self, system: SystemNo) -> Option<u64>
+        ensures { result ≡ overrun_at self.now system }
+    {
+        self.kept.overrun(system)
     }
 
     /// The unit of this id, as its sender committed it, in constant time. None exactly where it committed none.

@@ -9,13 +9,16 @@ use ale_volumes::Volumes;
 
 impl<V: Volumes> Landscape<V> {
     ghost use Rattle.std.specs.Prelude.{◌&&◌, IfOk};
+    ghost use Rattle.std.specs.List.{IsDistinct};
+    ghost use Rattle.ale_base.specs.Tid.{is_tid};
     ghost use Rattle.system_tables.specs.OfLog.{is_unconfirmed};
     ghost use Rattle.trfc_protocol.specs.Worlds.{is_up, log_of};
     ghost use Rattle.landscape.specs.Shown.{AreUnconfirmedAt};
 
-    /// The ids of a system's units that are done and not ended, in order; none where the system is down. It takes the time of the ids.
+    /// The ids of a system's units that are done and not ended, in order, each once; none where the system is down. It takes the time of the ids.
     pub fn unconfirmed(&self, system: SystemNo) -> Result<Items<Tid>, OutOfMemory>
-        ensures { IfOk result (AreUnconfirmedAt self.now.world system) }
+        ensures unconfirmed { IfOk result (AreUnconfirmedAt self.now.world system) }
+        ensures apart { IfOk result (IsDistinct is_tid) }
     {
         let Some(tables) = self.shown_by(system) else {
             return Ok(Items::new(self.alloc));

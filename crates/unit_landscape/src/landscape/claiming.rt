@@ -96,7 +96,7 @@ impl<R: Rules, A: Application, V: Volumes> UnitLandscape<R, A, V> {
         if !self.kept.world().is_up(system) {
             return false;
         }
-        self.kept.fall(system);
+        self.kept.fall(system, None);
         true
     }
 

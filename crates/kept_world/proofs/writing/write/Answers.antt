@@ -17,6 +17,7 @@ use Rattle.system_journals.proofs.OrderLemmas.{AreInOrder-grown}
 use Rattle.kept_world.specs.Kept.{IsKept, kept_of}
 use Rattle.kept_world.specs.OnVolumes.{AreOnVolumes}
 use Rattle.kept_world.proofs.OnVolumesLemmas.{on_disk-up, on_volumes-written, on_volumes-stays, on_volumes-fell}
+use Rattle.kept_world.proofs.OverrunsLemmas.{overruns-none}
 use Rattle.kept_world.proofs.BehindLemmas.{in_step-fell}
 use Rattle.kept_world.proofs.writing.write.Goals as goal
 
@@ -136,7 +137,7 @@ returns-in-Err-OutOfMemory-clause-kept g c =
     (c.in-Err-OutOfMemory.ensures.unwritten log disk (ap Err c.in-Err-OutOfMemory.field-0-is)) in
     subst (λ (b : WorldTables g.row.R.Denot g.row.A.Denot g.row.A-Extra.Denot).
     IsKept g.R.Rules.meaning g.A.Application.stands told volume (kept_of b c.write.new.self c.write.new.vols)) (sym back)
-    (record { in_step = c.requires.kept.in_step; on_volumes = stays })
+    (record { in_step = c.requires.kept.in_step; on_volumes = stays; overruns = c.requires.kept.overruns })
 
 pub returns-in-Err-OutOfMemory-clause-any_moment : goal.returns-in-Err-OutOfMemory-clause-any_moment
 returns-in-Err-OutOfMemory-clause-any_moment g c = λ tells.
@@ -193,6 +194,7 @@ returns-in-Err-Volume-clause-kept g c =
       on_volumes = subst (λ w. AreOnVolumes told volume c.write.new.vols w.systems c.write.new.self) (sym fell)
           (on_volumes-fell told volume c.args.vols.now c.write.new.vols world c.args.journals.now c.write.new.self c.args.system (Some c.args.next) c.requires.can.up
           c.requires.kept.on_volumes c.write.ensures.one order (λ other differs tells. (c.write.ensures.others tells).known other differs) left);
+      overruns = overruns-none c.fall.new.self.world.systems;
     }
 
 pub returns-in-Err-Volume-clause-any_moment : goal.returns-in-Err-Volume-clause-any_moment

@@ -2,6 +2,8 @@ use Rattle.std.proofs.Common.{◌≡◌, ◌-◌, true, None, refl, sym, ap, sub
 use Rattle.trfc_protocol.specs.Worlds.{log_of, is_up}
 use Rattle.system_journals.proofs.KeptLemmas.{IsLeft-of}
 use Rattle.kept_world.specs.OnVolumes.{AreOnVolumes}
+use Rattle.kept_world.specs.Overruns.{with_overrun, AreOverrunsOf}
+use Rattle.kept_world.proofs.OverrunsLemmas.{overruns-fell}
 use Rattle.kept_world.proofs.OnVolumesLemmas.{OnlyAt-same, on_disk-up, on_volumes-fell}
 use Rattle.kept_world.proofs.BehindLemmas.{in_step-fell}
 use Rattle.kept_world.proofs.kept_world.KeptWorld.fall.Goals as goal
@@ -26,4 +28,7 @@ invariant_of-self g c =
           (on_volumes-fell told volume vols vols world journals journals c.args.system None up c.self.invariant.on_volumes
           (OnlyAt-same told volume (c.args.system - 1) journals) (c.self.invariant.on_volumes.order (c.args.system - 1)) (λ other differs tells. refl)
           (IsLeft-of told volume vols (c.args.system - 1) journals (log_of world c.args.system) None disk));
+      overruns = subst (λ n. AreOverrunsOf c.fall.new.self.world.systems (with_overrun c.self.inside.overruns n c.args.size)) (sym c.get.ensures.number)
+          (subst (λ w. AreOverrunsOf w.systems (with_overrun c.self.inside.overruns c.args.system c.args.size)) (sym c.fall.ensures.world)
+          (overruns-fell world c.args.system None c.args.size c.self.inside.overruns up c.self.invariant.overruns));
     }

@@ -9,4 +9,5 @@ invariant_of-self g c = record {
   on_volumes = subst (λ j. AreOnVolumes g.V.Volumes.told g.V.Volumes.volume c.self.inside.vols c.self.inside.both.world.systems j) (sym c.set_moment.ensures)
       (on_volumes-with_moment g.V.Volumes.told g.V.Volumes.volume c.self.inside.vols c.self.inside.both.world.systems c.self.inside.journals c.args.moment
       c.self.invariant.on_volumes);
+  overruns = c.self.invariant.overruns;
 }

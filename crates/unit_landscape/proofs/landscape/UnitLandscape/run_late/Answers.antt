@@ -48,7 +48,7 @@ record-appended-requires-clause-due g c =
     let meaning = g.R.Rules.meaning in
     let goes_with = g.A.Application.goes_with in
     let comes = subst (λ k. ComesLate (g.R.Rules.meaning k.world.rules) k.world c.args.unit answer.Run) (sym c.self.view_is) c.requires.comes in
-    let mid_is = claimed-is kept unit c.claim_direct.new.self c.in-Ok.ensures.world.1 c.in-Ok.ensures.tables c.in-Ok.ensures.volumes.journals c.in-Ok.ensures.volumes.vols in
+    let mid_is = claimed-is kept unit c.claim_direct.new.self c.in-Ok.ensures.world.1 c.in-Ok.ensures.tables c.in-Ok.ensures.volumes in
     let is = subst (λ k. IsLandscape g.R.Rules.meaning k.world) mid_is
     (landscape-step g.R.Rules.meaning g.met.R.Rules.lawful world c.claim_direct.new.self.world (event.Arrive c.args.unit.tid) c.self.invariant
     (c.in-Ok.ensures.world.1 ∙ sym (arrival-after rules world unit answer.Run
@@ -82,7 +82,7 @@ returns-clause-ends g c =
     let result = c.record-appended.result in
     let comes = subst (λ k. ComesLate (g.R.Rules.meaning k.world.rules) k.world c.args.unit answer.Run) (sym c.self.view_is) c.requires.comes in
     let arrives = comes-arrives rules lawful world c.self.invariant.safe unit answer.Run comes in
-    let mid_is = claimed-is kept unit c.claim_direct.new.self c.in-Ok.ensures.world.1 c.in-Ok.ensures.tables c.in-Ok.ensures.volumes.journals c.in-Ok.ensures.volumes.vols in
+    let mid_is = claimed-is kept unit c.claim_direct.new.self c.in-Ok.ensures.world.1 c.in-Ok.ensures.tables c.in-Ok.ensures.volumes in
     let is = subst (λ k. IsLandscape g.R.Rules.meaning k.world) mid_is
     (landscape-step g.R.Rules.meaning g.met.R.Rules.lawful world c.claim_direct.new.self.world (event.Arrive c.args.unit.tid) c.self.invariant
     (c.in-Ok.ensures.world.1 ∙ sym (arrival-after rules world unit answer.Run arrives))) in
