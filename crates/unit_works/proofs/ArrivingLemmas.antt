@@ -20,7 +20,7 @@ use Rattle.trfc_protocol.specs.Happens.{happens}
 use Rattle.trfc_protocol.specs.Legal.{IsLawful, is_empty}
 use Rattle.trfc_protocol.specs.Meaning.{Meaning}
 use Rattle.trfc_protocol.specs.Offered.{answer_to, may_arrive}
-use Rattle.trfc_protocol.specs.RecordOf.{record_of_answer}
+use Rattle.trfc_protocol.specs.RecordOf.{record_of, record_of_answer}
 use Rattle.trfc_protocol.specs.Worlds.{claim_of, committed_unit, is_claimed, is_up, log_of, with_claim, with_record}
 use Rattle.trfc_protocol.proofs.ClaimLemmas.{claim_of-Some, is_claimed-Contains}
 use Rattle.trfc_protocol.proofs.EventLemmas.{Safe-step}
@@ -40,13 +40,13 @@ use Rattle.unit_landscape.proofs.ReplyingLemmas.{may-arrive}
 use Rattle.unit_works.specs.Events.{is_arrival}
 use Rattle.unit_works.specs.Finished.{finished_in}
 use Rattle.unit_works.specs.Went.{WentOn}
-use Rattle.unit_works.specs.steps.Arriving.{BringsNothing, BeginsNone, ClaimsCome, HasArrived, accepted, run_held}
-use Rattle.unit_works.specs.Trips.{HaveGrown, NoneFell}
+use Rattle.unit_works.specs.steps.Arriving.{ArrivedSo, BringsNothing, BeginsNone, ClaimsCome, accepted, run_held}
+use Rattle.unit_works.specs.Trips.{Wholly}
 use Rattle.unit_works.specs.Claims.{AreOrGone}
 use Rattle.unit_works.proofs.ClaimLemmas.{Contains-last, held-out, next-fresh, stands-gone}
 use Rattle.unit_works.proofs.StateLemmas.{committed-record}
-use Rattle.unit_works.proofs.FellLemmas.{claims-fell, fell-not_none, finished-fell}
-use Rattle.unit_works.proofs.GrowthLemmas.{happened-grown}
+use Rattle.unit_works.proofs.FellLemmas.{claims-fell, fell-was_cut, finished-fell}
+use Rattle.unit_works.proofs.GrowthLemmas.{happened-wholly}
 use Rattle.unit_works.proofs.LogLemmas.{among-behind, grown-record, listed, record-here}
 use Rattle.unit_works.proofs.WentLemmas.{went-happened, went-fell, went-short}
 use Rattle.unit_works.proofs.WorldLemmas.{finished-record, claims-record}
@@ -225,49 +225,59 @@ module _ {R A V : Type 0} (meaning : R → Meaning) (lawful : (r : R) → IsLawf
 
     -- ---- what is appended
 
-    grown-answered : (given : Answer) → answer_to (meaning before.world.rules) before.world unit ≡ given
+    wholly-answered : (given : Answer) → answer_to (meaning before.world.rules) before.world unit ≡ given
         → Happened (meaning before.world.rules) faults before after (event.Arrive unit.tid)
-        → HaveGrown before.world after.world (accepted (answer_to (meaning before.world.rules) before.world unit) unit)
-    grown-answered given answers did =
-        subst (HaveGrown before.world after.world) (accepted-is unit given ∙ ap (λ a. accepted a unit) (sym answers))
-        (happened-grown meaning lawful faults before after is (event.Arrive unit.tid) refl (record_of_answer unit given)
+        → Wholly before.world after.world (accepted (answer_to (meaning before.world.rules) before.world unit) unit)
+    wholly-answered given answers did =
+        subst (Wholly before.world after.world) (accepted-is unit given ∙ ap (λ a. accepted a unit) (sym answers))
+        (happened-wholly meaning lawful faults before after is (event.Arrive unit.tid) refl (record_of_answer unit given)
         (arrival-record (meaning before.world.rules) before.world unit given (arrives given answers)) did)
 
-    -- where no system fell, the receiver that takes the unit in appends that
-    pub has-arrived : (given : Arrival) → Comes given → NoneFell before.world after.world
-        → HasArrived (meaning before.world.rules) before.world after.world unit given
-    has-arrived (arrival.New receipt) did none = record {
+    -- the record of an arrival, by how the receiver answers
+    arrival-lists : listed (record_of (meaning before.world.rules) before.world (event.Arrive unit.tid))
+        ≡ accepted (answer_to (meaning before.world.rules) before.world unit) unit
+    arrival-lists =
+        let given = answer_to (meaning before.world.rules) before.world unit in
+        ap listed (arrival-record (meaning before.world.rules) before.world unit given (arrives given refl)) ∙ accepted-is unit given
+
+    -- the receiver that takes the unit in appends that, unless it falls in its place
+    pub has-arrived : (given : Arrival) → Comes given → ArrivedSo (meaning before.world.rules) before.world after.world unit given
+    has-arrived (arrival.New receipt) did = inl (record {
       tells = (did.0.0, did.1);
-      grew = grown-answered answer.New did.0.0 did.0.1;
+      grew = wholly-answered answer.New did.0.0 did.0.1;
       claims = let new = world-new did.0 in ap (λ (w : World R). w.claims) new.0 ∙ claims-record before.world unit.receiver (log.Accept unit) None;
-    }
-    has-arrived (arrival.Run begun) did none = record {
+    })
+    has-arrived (arrival.Run begun) did = inl (record {
       tells = (did.0.0, did.1, did.2);
-      grew = grown-answered answer.Run did.0.0 did.0.1;
+      grew = wholly-answered answer.Run did.0.0 did.0.1;
       claims = claims-arrived (arrival.Run begun) did;
-    }
-    has-arrived (arrival.Known receipt) did none = record {
+    })
+    has-arrived (arrival.Known receipt) did = inl (record {
       tells = (did.0.0.0, did.1);
-      grew = grown-answered answer.Known did.0.0.0 did.0.0.1;
+      grew = wholly-answered answer.Known did.0.0.0 did.0.0.1;
       claims = ap (λ (k : KeptOf R A V). k.world.claims) did.0.1;
-    }
-    has-arrived arrival.Busy did none = record {
+    })
+    has-arrived arrival.Busy did = inl (record {
       tells = did.0.0;
-      grew = grown-answered answer.Busy did.0.0 did.0.1;
+      grew = wholly-answered answer.Busy did.0.0 did.0.1;
       claims = ap (λ (k : KeptOf R A V). k.world.claims) did.1;
-    }
-    has-arrived arrival.SysFail did none = record {
+    })
+    has-arrived arrival.SysFail did = inl (record {
       tells = did.0.0;
-      grew = grown-answered answer.SysFail did.0.0 did.0.1;
+      grew = wholly-answered answer.SysFail did.0.0 did.0.1;
       claims = ap (λ (k : KeptOf R A V). k.world.claims) did.1;
-    }
-    has-arrived arrival.Down did none = elim did [
-      | inl idle ↦ record {
+    })
+    has-arrived arrival.Down did = elim did [
+      | inl idle ↦ inl (record {
         tells = idle.0.0;
-        grew = grown-answered answer.Down idle.0.0 idle.0.1;
+        grew = wholly-answered answer.Down idle.0.0 idle.0.1;
         claims = ap (λ (k : KeptOf R A V). k.world.claims) idle.1;
-      }
-      | inr fell ↦ absurd (fell-not_none meaning lawful faults before after is (event.Arrive unit.tid) fell.1 none)
+      })
+      | inr fell ↦ inr (
+        fell-was_cut meaning lawful faults before after is (event.Arrive unit.tid) fell.1
+            (accepted (answer_to (meaning before.world.rules) before.world unit) unit) arrival-lists,
+        refl,
+      )
     ]
 
     -- ---- once more
@@ -339,3 +349,16 @@ claimed-committed meaning lawful before is claim stands =
     let unit = claimed_unit (meaning before.world.rules) (lawful before.world.rules) before.world is.safe there.0
     (claim_of-Some claim.number before.world.claims there.0 holds.found).0 in
     (unit.0, subst (λ t. committed_unit (meaning before.world.rules) before.world t ≡ Some unit.0) holds.its unit.1)
+
+-- a unit that brings nothing leaves all as it is as it arrives
+pub nothing-arrived : {R A V : Type 0} (rules : Meaning) (faults : V → ℕ → ℕ) (before after : KeptOf R A V) (claim : OutClaim) (unit : AleUnit) (given : Arrival)
+    → BringsNothing rules before.world claim unit → Arrived rules faults before after unit given → after ≡ before
+nothing-arrived rules faults before after claim unit (arrival.New receipt) none did = absurd (none.not_new did.0.0)
+nothing-arrived rules faults before after claim unit (arrival.Run begun) none did = absurd (none.none did.0.0)
+nothing-arrived rules faults before after claim unit (arrival.Known receipt) none did = did.0.1
+nothing-arrived rules faults before after claim unit arrival.Busy none did = did.1
+nothing-arrived rules faults before after claim unit arrival.SysFail none did = did.1
+nothing-arrived rules faults before after claim unit arrival.Down none did = elim did [
+  | inl idle ↦ idle.1
+  | inr fell ↦ absurd (none.not_new fell.0)
+]

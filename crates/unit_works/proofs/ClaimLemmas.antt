@@ -1,24 +1,30 @@
 -- Claims that stand, and one that is made last.
 use Rattle.std.specs.Prelude.{Contains, filter}
+use Rattle.std.specs.List.{list_all}
 use Rattle.std.proofs.Common.{◌≡◌, ◌==◌, ◌&&◌, ℕ, not, Bool, true, false, Option, Some, None, List, [], ◌∷◌, ◌++◌, inl, inr, refl, sym, ap, ◌∙◌, arith}
-use Rattle.std.proofs.lemmas.Bool.{and_parts, and_from, cond-true, cond-false, cases_Bool, eq-eqb, not-true}
-use Rattle.ale_base.specs.Tid.{is_tid}
+use Rattle.std.proofs.lemmas.Bool.{and_parts, and_from, eqb-true, cond-true, cond-false, cases_Bool, eq-eqb, not-true}
+use Rattle.ale_base.specs.Tid.{TidOf, is_tid}
 use Rattle.ale_base.proofs.MemberLemmas.{Contains-here, Contains-there}
 use Rattle.ale_base.proofs.OptionLemmas.{none_or_some}
 use Rattle.unit_core.proofs.TidLemmas.{is_tid-true, is_tid-from}
 use Rattle.trfc_protocol.specs.declared.held.Held.{Held}
-use Rattle.trfc_protocol.specs.declared.held.HeldKind.TheVariants.{Out}
+use Rattle.trfc_protocol.specs.declared.held.HeldKind.TheVariants.{In, Out}
 use Rattle.trfc_protocol.specs.declared.world.World.{World}
-use Rattle.trfc_protocol.specs.Legal.{IsLawful}
+use Rattle.unit_core.specs.Filters.{received}
+use Rattle.unit_core.specs.Queues.{unit_named}
+use Rattle.trfc_protocol.specs.Legal.{IsLawful, is_free_inbound, is_free_outbound}
+use Rattle.trfc_protocol.specs.Offered.{is_stopped_inbound, is_stopped_outbound, may_move}
 use Rattle.trfc_protocol.specs.Meaning.{Meaning}
-use Rattle.trfc_protocol.specs.Safe.{Safe}
-use Rattle.trfc_protocol.specs.Worlds.{claim_of, is_kind}
+use Rattle.trfc_protocol.specs.Safe.{Safe, is_due}
+use Rattle.trfc_protocol.specs.Worlds.{claim_of, committed_by, committed_unit, is_kind, is_up, log_of}
 use Rattle.trfc_protocol.proofs.ClaimLemmas.{claim_of-Some, is_kind-true}
 use Rattle.trfc_protocol.proofs.SafeLemmas.{hold}
 use Rattle.unit_landscape.specs.declared.claims.OutClaim.{OutClaim}
 use Rattle.unit_landscape.specs.declared.claims.InClaim.{InClaim}
 use Rattle.unit_landscape.specs.Appending.{HoldsOut, HoldsIn}
 use Rattle.unit_landscape.specs.Calls.{is_on, is_out, stands_out, stands_in}
+use Rattle.unit_works.specs.Claims.{AreOrGone, NoneAdded}
+use Rattle.unit_works.specs.Trips.{may_execute, may_ship}
 
 -- a claim to ship a unit that stands is there
 pub held-out : {R : Type 0} (world : World R) (claim : OutClaim) → stands_out world claim ≡ true → (held : Held) × HoldsOut world claim held
@@ -102,3 +108,64 @@ stands-gone world claim gone = ap (λ claims. is_on claim.tid (claim_of claim.nu
 
 pub stands-gone_in : {R : Type 0} (world : World R) (claim : InClaim) → world.claims ≡ [] → stands_in world claim ≡ false
 stands-gone_in world claim gone = ap (λ claims. is_on claim.tid (claim_of claim.number claims) && not (is_out (claim_of claim.number claims))) gone
+
+-- ---- no claim is added
+
+-- where claims are those before, or are gone
+pub none-added : (before after : List Held) → AreOrGone after before → NoneAdded before after
+none-added before after left is each = elim left [
+  | inl same ↦ ap (list_all is) same ∙ each
+  | inr gone ↦ ap (list_all is) gone
+]
+
+-- where some of those before are left
+pub none-added-left : (keep : Held → Bool) (before after : List Held) → after ≡ filter keep before → NoneAdded before after
+none-added-left keep before after left is each = ap (list_all is) left ∙ left_of before each
+  where
+    left_of : (claims : List Held) → list_all is claims ≡ true → list_all is (filter keep claims) ≡ true
+    left_of [] all = refl
+    left_of (h ∷ hs) all =
+        let parts = and_parts (is h) (list_all is hs) all in
+        elim (cases_Bool (keep h)) [
+          | inl kept ↦ rw kept (and_from (is h) (list_all is (filter keep hs)) parts.0 (left_of hs parts.1))
+          | inr gone ↦ rw gone (left_of hs parts.1)
+        ]
+
+-- and on and on
+pub none-added-on : (before between after : List Held) → NoneAdded before between → NoneAdded between after → NoneAdded before after
+none-added-on before between after first second is each = second is (first is each)
+
+-- ---- the unit of a claim that stands may go, unless one of its queues is stopped
+
+pub claimed-ships : {R : Type 0} (rules : Meaning) → IsLawful rules → (world : World R) → Safe rules world → (claim : OutClaim)
+    → stands_out world claim ≡ true
+    → may_move (is_stopped_outbound (log_of world claim.tid.system)) (committed_unit rules world claim.tid) ≡ true
+    → may_ship rules world claim.tid ≡ true
+claimed-ships rules lawful world safe claim stands moves =
+    let there = held-out world claim stands in
+    let held = there.0 in
+    let holds = there.1 in
+    let its = hold rules lawful world safe held (claim_of-Some claim.number world.claims held holds.found).0 in
+    let due : is_due rules world held Out ≡ true = ap (is_due rules world held) (sym holds.kind) ∙ its.due in
+    let parts = and_parts (held.system == held.tid.system) (is_free_outbound (committed_by rules world held.system) (log_of world held.system) held.tid) due in
+    let here : claim.tid.system ≡ held.system = ap (λ (t : TidOf). t.system) (sym holds.its) ∙ sym (eqb-true held.system held.tid.system parts.0) in
+    and_from (is_up world claim.tid.system && is_free_outbound (committed_by rules world claim.tid.system) (log_of world claim.tid.system) claim.tid)
+    (may_move (is_stopped_outbound (log_of world claim.tid.system)) (committed_unit rules world claim.tid))
+    (and_from (is_up world claim.tid.system)
+    (is_free_outbound (committed_by rules world claim.tid.system) (log_of world claim.tid.system) claim.tid)
+    (ap (is_up world) here ∙ its.up)
+    (ap (λ s. is_free_outbound (committed_by rules world s) (log_of world s) claim.tid) here
+    ∙ ap (is_free_outbound (committed_by rules world held.system) (log_of world held.system)) (sym holds.its) ∙ parts.1))
+    moves
+
+pub claimed-executes : {R : Type 0} (rules : Meaning) → IsLawful rules → (world : World R) → Safe rules world → (claim : InClaim) (held : Held)
+    → HoldsIn world claim held → held.kind ≡ In
+    → may_move (is_stopped_inbound (log_of world held.system)) (unit_named held.tid (received (log_of world held.system))) ≡ true
+    → may_execute world held.system held.tid ≡ true
+claimed-executes rules lawful world safe claim held holds kind moves =
+    let its = hold rules lawful world safe held (claim_of-Some claim.number world.claims held holds.found).0 in
+    let due : is_due rules world held In ≡ true = ap (is_due rules world held) (sym kind) ∙ its.due in
+    and_from (is_up world held.system && is_free_inbound (log_of world held.system) held.tid)
+    (may_move (is_stopped_inbound (log_of world held.system)) (unit_named held.tid (received (log_of world held.system))))
+    (and_from (is_up world held.system) (is_free_inbound (log_of world held.system) held.tid) its.up due)
+    moves

@@ -16,7 +16,7 @@ use Rattle.trfc_protocol.specs.declared.world.World.{World}
 use Rattle.trfc_protocol.specs.Legal.{IsLawful, is_empty, is_free_inbound, is_free_outbound}
 use Rattle.trfc_protocol.specs.Meaning.{Meaning}
 use Rattle.trfc_protocol.specs.Offered.{answer_to, is_stopped_inbound, is_stopped_outbound, may_move, offers_received_now}
-use Rattle.trfc_protocol.specs.Worlds.{claim_of, committed_by, committed_unit, is_claimed, is_kind, is_up, log_of, offers_now, with_claim}
+use Rattle.trfc_protocol.specs.Worlds.{claim_of, committed_by, committed_unit, is_claimed, is_kind, is_up, log_of, offers_now, rest_of, with_claim}
 use Rattle.kept_world.specs.Kept.{KeptOf}
 use Rattle.unit_landscape.specs.declared.claims.OutClaim.{OutClaim}
 use Rattle.unit_landscape.specs.declared.claims.InClaim.{InClaim}
@@ -94,7 +94,10 @@ module _ {R A V : Type 0} (meaning : R → Meaning) (lawful : (r : R) → IsLawf
               and_from up moves (and_parts up free parts.0).0 parts.1;
           answers = ap (λ (w : World R). answer_to (meaning before.world.rules) w (did.4.0)) world-claimed_out
               ∙ answer-claimed (meaning before.world.rules) before.world claim.tid claim.tid.system (did.4.0);
-          grew = grown-same before.world after.world (λ s. ap (λ (w : World R). log_of w s) world-claimed_out);
+          grew = record {
+            grew = grown-same before.world after.world (λ s. ap (λ (w : World R). log_of w s) world-claimed_out);
+            stand = λ s. (ap (λ (w : World R). is_up w s) world-claimed_out, ap (λ (w : World R). rest_of w s) world-claimed_out);
+          };
         }
 
   pub finished-out : (result : Result (Option OutClaim) OutOfMemory) → GaveOut result → OnErr result (after ≡ before)
@@ -146,7 +149,10 @@ module _ {R A V : Type 0} (meaning : R → Meaning) (lawful : (r : R) → IsLawf
               let parts = and_parts (up && free) moves did.1 in
               and_from up moves (and_parts up free parts.0).0 parts.1;
           offers = ap (λ (w : World R). offers_received_now (meaning before.world.rules) w system claim.tid) world-claimed_in;
-          grew = grown-same before.world after.world (λ s. ap (λ (w : World R). log_of w s) world-claimed_in);
+          grew = record {
+            grew = grown-same before.world after.world (λ s. ap (λ (w : World R). log_of w s) world-claimed_in);
+            stand = λ s. (ap (λ (w : World R). is_up w s) world-claimed_in, ap (λ (w : World R). rest_of w s) world-claimed_in);
+          };
         }
 
   pub finished-in : (result : Result (Option InClaim) OutOfMemory) → GaveIn result → OnErr result (after ≡ before)

@@ -1,9 +1,9 @@
 -- A unit is confirmed: nothing has ended, and no claim has changed.
 use Rattle.std.specs.Prelude.{Contains, Result, Ok, Err, IfOk, OnErr}
-use Rattle.std.specs.Option.{option_map_or}
+use Rattle.std.specs.Option.{option_and_then, option_map_or}
 use Rattle.std.specs.Result.{is_ok}
-use Rattle.std.proofs.Common.{◌≡◌, ◌+◌, ℕ, Bool, true, false, cond, Some, None, List, [], ◌∷◌, ◌++◌, inl, inr, refl, sym, ap, subst, ◌∙◌, arith}
-use Rattle.std.proofs.lemmas.Bool.{both_ways}
+use Rattle.std.proofs.Common.{◌≡◌, ◌+◌, ◌&&◌, ℕ, not, Bool, true, false, cond, Some, None, List, [], ◌∷◌, ◌++◌, inl, inr, refl, sym, ap, subst, ◌∙◌, arith}
+use Rattle.std.proofs.lemmas.Bool.{and_parts, both_ways, not-true}
 use Rattle.ale_base.specs.Tid.{TidOf}
 use Rattle.ale_base.specs.declared.out_of_memory.OutOfMemory.{OutOfMemory}
 use Rattle.ale_base.proofs.MemberLemmas.{Contains-here, Contains-there, filter_map-Some}
@@ -19,6 +19,7 @@ use Rattle.trfc_protocol.specs.declared.event.ReplyTo.TheVariants.{Forgotten}
 use Rattle.trfc_protocol.specs.declared.world.World.{World}
 use Rattle.trfc_protocol.specs.Legal.{IsLawful}
 use Rattle.trfc_protocol.specs.Meaning.{Meaning}
+use Rattle.trfc_protocol.specs.RecordOf.{record_if, record_of, record_of_confirmation}
 use Rattle.trfc_protocol.specs.Worlds.{committed_unit, is_up, log_of, state_with, with_record}
 use Rattle.trfc_protocol.proofs.EventLemmas.{Safe-step}
 use Rattle.trfc_protocol.proofs.SafeLemmas.{committed_unit-is}
@@ -29,7 +30,7 @@ use Rattle.unit_landscape.specs.declared.answers.Closed.TheVariants as closed
 use Rattle.unit_landscape.specs.declared.answers.Confirmed.{Confirmed}
 use Rattle.unit_landscape.specs.declared.answers.Confirmed.TheVariants as confirmed
 use Rattle.unit_landscape.specs.Calls.{ClosedAs, ConfirmedAs, is_forgotten, receiver_of}
-use Rattle.unit_landscape.specs.Ends.{Happened, IsShort}
+use Rattle.unit_landscape.specs.Ends.{FellInstead, Happened, IsShort}
 use Rattle.unit_landscape.specs.Kept.{IsLandscape}
 use Rattle.unit_landscape.specs.Writes.{Appends}
 use Rattle.unit_landscape.proofs.ConfirmingLemmas.{end-appends, forget-appends}
@@ -38,12 +39,12 @@ use Rattle.unit_works.specs.Events.{is_confirmation}
 use Rattle.unit_works.specs.Finished.{finished_in, is_ending}
 use Rattle.unit_works.specs.Went.{WentOn}
 use Rattle.unit_works.specs.Claims.{AreOrGone}
-use Rattle.unit_works.specs.steps.Confirming.{Forgets, HasSent, sent_to}
-use Rattle.unit_works.specs.Trips.{HaveGrown, NoneFell, forgot, one_at}
+use Rattle.unit_works.specs.steps.Confirming.{Forgets, SentSo, sent_to}
+use Rattle.unit_works.specs.Trips.{Appended, Wholly, forgot, one_at}
 use Rattle.unit_works.proofs.StateLemmas.{committed-record}
-use Rattle.unit_works.proofs.FellLemmas.{claims-fell, fell-not_none, finished-fell}
-use Rattle.unit_works.proofs.GrowthLemmas.{happened-grown}
-use Rattle.unit_works.proofs.LogLemmas.{grown-same}
+use Rattle.unit_works.proofs.FellLemmas.{claims-fell, fell-was_cut, finished-fell}
+use Rattle.unit_works.proofs.GrowthLemmas.{happened-wholly, wholly-same}
+use Rattle.unit_works.proofs.LogLemmas.{if-met, listed}
 use Rattle.unit_works.proofs.WentLemmas.{went-same, went-happened, went-fell, went-short}
 use Rattle.unit_works.proofs.WorldLemmas.{finished-record, claims-record}
 
@@ -170,27 +171,46 @@ module _ {R A V : Type 0} (meaning : R → Meaning) (lawful : (r : R) → IsLawf
           → sent_to forgotten unit ≡ sent_to (forgot before.world unit) unit
       sent-is forgotten known = ap (λ b. sent_to b unit) (sym known ∙ forgot-is)
 
-      pub has-sent : is_up before.world unit.receiver ≡ true → (given : Confirmed) → Sent given → NoneFell before.world after.world
-          → HasSent before.world after.world tid unit given
-      has-sent up confirmed.Forgotten did none =
-          let appends = forgets did.0 did.1 in
-          record {
-            its = its;
-            grew = subst (HaveGrown before.world after.world)
-                (ap (λ s. one_at s (log.Forget tid)) receiver ∙ ap (λ t. one_at unit.receiver (log.Forget t)) (sym its) ∙ sent-is false did.1)
-                (happened-grown meaning lawful faults before after is (event.Confirm tid) refl (Some (record { system = Receiver; next = log.Forget tid }))
-                appends.writes did.2);
-            came = λ down. cc;
-          }
-      has-sent up confirmed.Already did none = record {
+      sent-lists : is_up before.world Receiver ≡ true → is_forgotten (meaning before.world.rules) before.world tid ≡ false
+          → listed (record_of (meaning before.world.rules) before.world (event.Confirm tid)) ≡ sent_to (forgot before.world unit) unit
+      sent-lists up known =
+          let appends = forgets up known in
+          ap listed appends.writes
+          ∙ ap (λ s. one_at s (log.Forget tid)) receiver ∙ ap (λ t. one_at unit.receiver (log.Forget t)) (sym its) ∙ sent-is false known
+
+      fell-lists : FellInstead (meaning before.world.rules) faults before after (event.Confirm tid)
+          → listed (record_of (meaning before.world.rules) before.world (event.Confirm tid)) ≡ sent_to (forgot before.world unit) unit
+      fell-lists fell =
+          let done_here = is_listed unit.tid (done_in (log_of before.world unit.tid.system)) && is_up before.world unit.receiver in
+          let met = done_here && not (forgot before.world unit) in
+          let writes : record_if met unit.receiver (log.Forget unit.tid) ≡ Some fell.0 =
+          sym (ap (option_and_then (record_of_confirmation before.world)) named) ∙ fell.1 in
+          let is = if-met met unit.receiver (log.Forget unit.tid) fell.0 writes in
+          let fresh = not-true (forgot before.world unit) (and_parts done_here (not (forgot before.world unit)) is).1 in
+          ap (λ found. listed (option_and_then (record_of_confirmation before.world) found)) named
+          ∙ ap (λ b. listed (record_if b unit.receiver (log.Forget unit.tid))) is
+          ∙ ap (λ b. sent_to b unit) (sym fresh)
+
+      pub has-sent : is_up before.world unit.receiver ≡ true → (given : Confirmed) → Sent given → SentSo before.world after.world tid unit given
+      has-sent up confirmed.Forgotten did = inl (record {
         its = its;
-        grew = subst (HaveGrown before.world after.world) (sent-is true did.1)
-            (grown-same before.world after.world (λ s. ap (λ (k : KeptOf R A V). log_of k.world s) did.2));
+        grew = subst (Wholly before.world after.world) (sent-lists did.0 did.1)
+            (happened-wholly meaning lawful faults before after is (event.Confirm tid) refl
+            (record_of (meaning before.world.rules) before.world (event.Confirm tid)) refl did.2);
         came = λ down. cc;
-      }
-      has-sent up confirmed.Down did none = elim did [
+      })
+      has-sent up confirmed.Already did = inl (record {
+        its = its;
+        grew = subst (Wholly before.world after.world) (sent-is true did.1)
+            (wholly-same before.world after.world (ap (λ (k : KeptOf R A V). k.world) did.2));
+        came = λ down. cc;
+      })
+      has-sent up confirmed.Down did = elim did [
         | inl idle ↦ absurd (both_ways (is_up before.world unit.receiver) (sym (ap (is_up before.world) receiver) ∙ idle.0) up)
-        | inr fell ↦ absurd (fell-not_none meaning lawful faults before after is (event.Confirm tid) fell none)
+        | inr fell ↦
+            let cut = fell-was_cut meaning lawful faults before after is (event.Confirm tid) fell (sent_to (forgot before.world unit) unit)
+            (fell-lists fell) in
+            inr (cut.cut, refl)
       ]
 
   -- ---- the reply to the confirmation comes to the sender
@@ -234,15 +254,21 @@ module _ {R A V : Type 0} (meaning : R → Meaning) (lawful : (r : R) → IsLawf
       | inr fell ↦ inr (claims-fell meaning lawful faults before after is (event.Reply (Forgotten tid)) fell)
     ]
 
-    -- where no system fell, the sender that is up appends that
-    pub grown-closed : is_up before.world tid.system ≡ true → is_listed tid (ended_in (log_of before.world tid.system)) ≡ false → (given : Closed)
-        → Closes given → NoneFell before.world after.world → HaveGrown before.world after.world (one_at tid.system (log.Ended tid))
-    grown-closed up lasts closed.Recorded did none =
-        let appends = ends did.0 did.1 in
-        happened-grown meaning lawful faults before after is (event.Reply (Forgotten tid)) refl (Some (record { system = tid.system; next = log.Ended tid }))
-        appends.writes did.2
-    grown-closed up lasts closed.Already did none = absurd (both_ways (is_listed tid (ended_in (log_of before.world tid.system))) lasts did.1)
-    grown-closed up lasts closed.Down did none = elim did [
+    -- the sender that is up appends that, unless it falls in its place
+    pub appended-closed : is_up before.world tid.system ≡ true → is_listed tid (ended_in (log_of before.world tid.system)) ≡ false → (given : Closed)
+        → Closes given → Appended before.world after.world (one_at tid.system (log.Ended tid))
+    appended-closed up lasts closed.Recorded did =
+        let appends = ends did.0 did.1 in (
+          true,
+          happened-wholly meaning lawful faults before after is (event.Reply (Forgotten tid)) refl
+              (Some (record { system = tid.system; next = log.Ended tid })) appends.writes did.2,
+        )
+    appended-closed up lasts closed.Already did = absurd (both_ways (is_listed tid (ended_in (log_of before.world tid.system))) lasts did.1)
+    appended-closed up lasts closed.Down did = elim did [
       | inl idle ↦ absurd (both_ways (is_up before.world tid.system) idle.0 up)
-      | inr fell ↦ absurd (fell-not_none meaning lawful faults before after is (event.Reply (Forgotten tid)) fell none)
+      | inr fell ↦
+          let appends = ends up lasts in
+          let cut = fell-was_cut meaning lawful faults before after is (event.Reply (Forgotten tid)) fell (one_at tid.system (log.Ended tid))
+          (ap listed appends.writes) in
+          (false, cut.cut)
     ]

@@ -1,12 +1,13 @@
 -- Works until none is left.
-use Rattle.std.specs.Prelude.{slice_index_or, Result, Ok, Err, IsErr, OnOk}
+use Rattle.std.specs.Prelude.{filter, slice_index_or, Result, Ok, Err, IsErr, OnOk}
 use Rattle.std.specs.Result.{is_ok}
-use Rattle.std.proofs.Common.{◌≡◌, ◌+◌, ◌≤◌, ◌<◌, ℕ, take, true, false, not, ◌&&◌, ◌||◌, ◌⊎◌, cond, length, Option, Some, None, List, [], ◌∷◌, ◌++◌, inl, inr, refl, sym, ap, subst, ◌∙◌, append_assoc, arith, Bool}
-use Rattle.std.specs.List.{list_any}
+use Rattle.std.proofs.Common.{◌≡◌, ◌+◌, ◌≤◌, ◌<◌, ℕ, zero, suc, take, true, false, not, ◌&&◌, ◌||◌, ◌⊎◌, cond, length, Option, Some, None, List, [], ◌∷◌, ◌++◌, inl, inr, refl, sym, ap, subst, ◌∙◌, append-nil, append_assoc, arith, Bool}
+use Rattle.std.specs.List.{AllByRecursion, IsDistinct, list_all, list_any}
 use Rattle.std.proofs.Math.Bool.{or-true}
-use Rattle.std.proofs.lemmas.Bool.{and_from, and_parts, both_ways, cases_Bool, cases_lt, or_parts}
+use Rattle.std.proofs.lemmas.Bool.{and_from, and_parts, both_ways, cases_Bool, cases_lt, or_from, or_parts}
 use Rattle.std.proofs.lemmas.List.{take_more}
-use Rattle.std.proofs.lemmas.List.Folds.{list_any-append}
+use Rattle.std.proofs.lemmas.List.Elements.{filter-append}
+use Rattle.std.proofs.lemmas.List.Folds.{list_all-append, list_any-append}
 use Rattle.std.proofs.lemmas.Option.{same_Some}
 use Rattle.ale_base.specs.Tid.{IsTid, TidOf, is_tid}
 use Rattle.ale_base.specs.declared.out_of_memory.OutOfMemory.{OutOfMemory}
@@ -17,12 +18,13 @@ use Rattle.unit_core.proofs.TidLemmas.{is_tid-from, is_tid-true, unit_named-Cont
 use Rattle.system_tables.specs.OfLog.{is_unconfirmed}
 use Rattle.trfc_protocol.specs.Meaning.{Meaning}
 use Rattle.trfc_protocol.proofs.ForCallers.{done_unit}
-use Rattle.trfc_protocol.proofs.SafeLemmas.{committed_unit-is, numbered, sound_now}
-use Rattle.trfc_protocol.specs.declared.held.HeldKind.TheVariants.{Out, In}
+use Rattle.trfc_protocol.proofs.SafeLemmas.{committed_place, committed_unit-is, numbered, sound_now}
+use Rattle.trfc_protocol.specs.declared.held.Held.{Held}
+use Rattle.trfc_protocol.specs.declared.held.HeldKind.TheVariants.{Direct, Out, In}
 use Rattle.trfc_protocol.specs.declared.world.World.{World}
 use Rattle.trfc_protocol.specs.Legal.{IsUnitAt, is_free_inbound, is_free_outbound}
 use Rattle.trfc_protocol.specs.Offered.{is_offered_inbound, is_offered_outbound, is_stopped_inbound, is_stopped_outbound, may_move}
-use Rattle.trfc_protocol.specs.Worlds.{committed_by, committed_unit, is_claimed, is_up, log_of}
+use Rattle.trfc_protocol.specs.Worlds.{committed_by, committed_unit, is_claimed, is_kind, is_up, log_of}
 use Rattle.trfc_protocol.proofs.WorldLemmas.{is_up-known, state_of-least, state_of-most}
 use Rattle.kept_world.specs.Kept.{KeptOf}
 use Rattle.unit_landscape.specs.Kept.{IsLandscape}
@@ -31,16 +33,17 @@ use Rattle.document_tables.specs.declared.document_tables.DocumentTables.{Docume
 use Rattle.model_rules.specs.declared.model_rules.ModelRules.{ModelRules}
 use Rattle.wires.specs.declared.letter.Letter.{Letter}
 use Rattle.wires.specs.Wires.{letters_left, next_letter, rest_letters}
-use Rattle.unit_works.specs.Acts.{Act, GrewBy, HaveActed, confirm, execute, ship}
-use Rattle.unit_works.specs.Drained.{DrainedAs, Found, FoundAs, HasWorked, IsIdle}
+use Rattle.unit_works.specs.Acts.{Act, HaveActed, confirm, each_but_last_cut, execute, ship, takes}
+use Rattle.unit_works.specs.Drained.{DrainedAs, Found, FoundAs, HasGone, HasWorked, IsIdle, is_round}
+use Rattle.unit_works.specs.Claims.{AreOrGone}
 use Rattle.unit_works.specs.Events.{is_confirmation, is_execution, is_shipping, is_work}
-use Rattle.unit_works.specs.Trips.{confirmation, forgot, is_due}
+use Rattle.unit_works.specs.Trips.{Appended, confirmation, forgot, is_due}
 use Rattle.unit_works.specs.steps.Confirming.{IsDueOf}
-use Rattle.unit_works.specs.Worked.{HasTaken, HaveEnded, HaveTaken, Lines, NothingIn, NothingOut, Worked}
+use Rattle.unit_works.specs.Worked.{HasTaken, HaveEnded, HaveOnlyClaimed, HaveTaken, Lines, NothingIn, NothingOut, Worked}
 use Rattle.unit_works.specs.Works.{ExecutedAs, ShippedAs}
-use Rattle.unit_works.specs.steps.Rounds.{HasVisited, IsTo, NothingAt, NothingTo, RoundsAs, VisitedSo, is_on, joined}
-use Rattle.unit_works.proofs.GrowthLemmas.{none-first, none-second}
-use Rattle.unit_works.proofs.LossLemmas.{due-or-on, lost-or-due}
+use Rattle.unit_works.specs.steps.Rounds.{HasVisited, IsTo, NothingAt, NothingTo, RoundsAs, VisitedSo, joined}
+use Rattle.unit_works.proofs.LossLemmas.{all-up, due-or-on, lost-or-due}
+use Rattle.unit_works.proofs.OnceLemmas.{all-done, cut-each, none-taken, once-on, once-shipped}
 use Rattle.unit_works.proofs.TripLemmas.{due-parts}
 use Rattle.unit_works.proofs.WorkedLemmas.{confirmation-works, ended-on, ended-same, execution-works, is_lawful, meaning, on, shipping-works, still, wider}
 
@@ -142,6 +145,33 @@ listed-next tids place tid other within is listed =
     listed-more (take place tids) tid other
     (ap (is_listed other) (sym (take_more tids place tid within ∙ ap (λ t. take place tids ++ t ∷ []) (sym is))) ∙ listed)
 
+-- an id that is listed among the ids so far is with one more, and so is that one
+pub listed-still : (tids : List TidOf) (place : ℕ) (tid other : TidOf) → place < length tids → tid ≡ slice_index_or tids place tid
+    → (is_listed other (take place tids) ≡ true) ⊎ (other ≡ tid) → is_listed other (take (place + 1) tids) ≡ true
+listed-still tids place tid other within is either =
+    ap (is_listed other) (take_more tids place tid within ∙ ap (λ t. take place tids ++ t ∷ []) (sym is))
+    ∙ list_any-append (λ one. is_tid one other) (take place tids) (tid ∷ [])
+    ∙ elim either [
+      | inl before ↦ ap (λ b. b || (is_tid tid other || false)) before
+      | inr same ↦
+          ap (λ b. is_listed other (take place tids) || (b || false)) (is_tid-from tid other (sym same)) ∙ or-true (is_listed other (take place tids))
+    ]
+
+-- an id that is there once is not among those before it
+pub apart-before : (tids : List TidOf) (place : ℕ) (tid : TidOf) → place < length tids → tid ≡ slice_index_or tids place tid → IsDistinct is_tid tids
+    → is_listed tid (take place tids) ≡ false
+unfolding IsDistinct
+apart-before [] place tid within is apart = absurd (omega (arith, within))
+apart-before (t ∷ ts) zero tid within is apart = refl
+apart-before (t ∷ ts) (suc k) tid within is apart =
+    let below : k < length ts = omega (arith, within) in
+    or_from (is_tid t tid) (is_listed tid (take k ts)) (at-place ts k below is apart.0) (apart-before ts k tid below is apart.1)
+  where
+    at-place : (xs : List TidOf) (i : ℕ) → i < length xs → tid ≡ slice_index_or xs i tid → AllByRecursion (λ y. is_tid t y ≡ false) xs → is_tid t tid ≡ false
+    at-place [] i less here each = absurd (omega (arith, less))
+    at-place (x ∷ xs) zero less here each = subst (λ y. is_tid t y ≡ false) (sym here) each.0
+    at-place (x ∷ xs) (suc i) less here each = at-place xs i (omega (arith, less)) here each.1
+
 -- the first systems, and one more
 pub within-more : (number system : ℕ) (tid : TidOf) → system ≡ number + 1 → IsTo (number + 1) tid → IsTo number tid ⊎ (tid.system ≡ system)
 within-more number system tid next within = elim (cases_lt number tid.system) [
@@ -149,21 +179,60 @@ within-more number system tid next within = elim (cases_lt number tid.system) [
   | inr less ↦ inl (within.0, less)
 ]
 
+-- so it is with an id of the first systems, or of the next
+pub within-still : (number system : ℕ) (tid : TidOf) → system ≡ number + 1 → IsTo number tid ⊎ (tid.system ≡ system) → IsTo (number + 1) tid
+within-still number system tid next either = elim either [
+  | inl within ↦ (within.0, let most = within.1 in omega arith)
+  | inr here ↦ (omega arith, omega arith)
+]
+
+-- an id that is found unconfirmed at a system is of a unit of it
+pub found-here : (world : World ModelRules) → IsLandscape meaning world → (system : ℕ) (tids : List TidOf) → AreUnconfirmedAt world system tids
+    → (tid : TidOf) → IsTid tid → is_listed tid tids ≡ true → tid.system ≡ system
+found-here world is system tids are tid range listed =
+    let rules : Meaning = meaning world.rules in
+    let unconfirmed = and_parts (is_up world system) (is_unconfirmed tid (log_of world system)) (sym (are tid range) ∙ listed) in
+    let done = (and_parts (is_listed tid (done_in (log_of world system))) (not (is_listed tid (ended_in (log_of world system)))) unconfirmed.1).0 in
+    let was = done_unit rules (is_lawful world.rules) world is.safe system tid done in
+    let place = (committed_place rules (is_lawful world.rules) world is.safe system was.0 was.2).1 in
+    ap (λ (t : TidOf). t.system) (sym was.1 ∙ place.tid)
+
 module _ {V : Type 0} (faults : V → ℕ → ℕ) where
   -- ---- acts
 
+  -- claims that are made or given up, and more of that
+  only-on : (before between after : KeptOf ModelRules DocumentTables V) → HaveOnlyClaimed before between → HaveOnlyClaimed between after
+      → HaveOnlyClaimed before after
+  only-on before between after first second = record {
+    world = second.world
+        ∙ ap (λ (w : World ModelRules). record w { claims = after.world.claims; next_number = after.world.next_number }) first.world;
+    journals = second.journals ∙ first.journals;
+    vols = second.vols ∙ first.vols;
+    overruns = second.overruns ∙ first.overruns;
+  }
+
+  pub only-same : (before after : KeptOf ModelRules DocumentTables V) → after ≡ before → HaveOnlyClaimed before after
+  only-same before after same = subst (HaveOnlyClaimed before) (sym same) (record { world = refl; journals = refl; vols = refl; overruns = refl })
+
+  only-first : (more : List Act) (before between after : KeptOf ModelRules DocumentTables V) (lines lines_after : Lines) → HaveOnlyClaimed before between
+      → HaveActed faults between lines more after lines_after → HaveActed faults before lines more after lines_after
+  only-first [] before between after lines lines_after first second = (only-on before between after first second.0, second.1)
+  only-first (act ∷ acts) before between after lines lines_after first second =
+      (second.0, second.1, second.2, only-on before between second.0 first second.3, second.4, second.5)
+
   -- acts, and then others
-  acted-on : (acts more : List Act) (before between after : KeptOf ModelRules DocumentTables V) (lines lines_between lines_after : Lines)
+  pub acted-on : (acts more : List Act) (before between after : KeptOf ModelRules DocumentTables V) (lines lines_between lines_after : Lines)
       → HaveActed faults before lines acts between lines_between → HaveActed faults between lines_between more after lines_after
       → HaveActed faults before lines (acts ++ more) after lines_after
   acted-on [] more before between after lines lines_between lines_after first second =
-      subst (λ (k : KeptOf ModelRules DocumentTables V). HaveActed faults k lines more after lines_after) first.0
-      (subst (λ l. HaveActed faults between l more after lines_after) first.1 second)
+      only-first more before between after lines lines_after first.0 (subst (λ l. HaveActed faults between l more after lines_after) first.1 second)
   acted-on (act ∷ acts) more before between after lines lines_between lines_after first second = (
     first.0,
     first.1,
     first.2,
-    acted-on acts more first.0 between after first.1 lines_between lines_after first.3 second,
+    first.3,
+    first.4,
+    acted-on acts more first.1 between after first.2 lines_between lines_after first.5 second,
   )
 
   -- ---- works
@@ -176,7 +245,7 @@ module _ {V : Type 0} (faults : V → ℕ → ℕ) where
     taken = subst (HaveTaken lines) (sym same_lines) (taken-none lines);
     ended = ended-same faults before after same;
     acts = [];
-    did = (same, same_lines);
+    did = (only-same before after same, same_lines);
   }
 
   -- one after the other
@@ -191,6 +260,41 @@ module _ {V : Type 0} (faults : V → ℕ → ℕ) where
     did = acted-on first.acts second.acts before between after lines lines_between lines_after first.did second.did;
   }
 
+  -- ---- rounds
+
+  -- none were gone
+  pub gone-same : (before after : KeptOf ModelRules DocumentTables V) (lines lines_after : Lines) → after ≡ before → lines_after ≡ lines
+      → HasGone faults before lines after lines_after 0
+  unfolding worked-same
+  gone-same before after lines lines_after same same_lines = record {
+    worked = worked-same before after lines lines_after same same_lines;
+    ships = refl;
+    once = λ none tid. inl refl;
+  }
+
+  -- one after the other
+  pub gone-on : (before between after : KeptOf ModelRules DocumentTables V) (lines lines_between lines_after : Lines) (n m : ℕ)
+      → HasGone faults before lines between lines_between n → HasGone faults between lines_between after lines_after m
+      → HasGone faults before lines after lines_after (n + m)
+  unfolding worked-on
+  gone-on before between after lines lines_between lines_after n m first second =
+      let one = first.worked in
+      let two = second.worked in
+      record {
+        worked = worked-on before between after lines lines_between lines_after n m one two;
+        ships = list_all-append is_round one.acts two.acts ∙ and_from (list_all is_round one.acts) (list_all is_round two.acts) first.ships second.ships;
+        once = λ none tid.
+            let ended = one.ended in
+            once-on faults one.acts two.acts before between after lines lines_between lines_after two.did second.ships tid (first.once none tid)
+            (second.once (still-none ended.claims none) tid);
+      }
+    where
+      still-none : AreOrGone between.world.claims before.world.claims → before.world.claims ≡ [] → between.world.claims ≡ []
+      still-none claims none = elim claims [
+        | inl same ↦ same ∙ none
+        | inr gone ↦ gone
+      ]
+
   -- ---- what was found
 
   module _ (before after : KeptOf ModelRules DocumentTables V) (lines lines_after : Lines) where
@@ -199,21 +303,26 @@ module _ {V : Type 0} (faults : V → ℕ → ℕ) where
     shipped-found system None did = did
     shipped-found system (Some n) did =
         let letter = next_letter (letters_left lines did.0) in
-        let shipped = did.2 in (
+        let shipped = did.3 in (
           record {
-            went = wider faults (is_shipping letter) is_work true before after (shipping-works letter) shipped.went;
-            taken = taken-one did.0 lines lines_after shipped.taken;
-            ended = did.3;
-            acts = ship did.0 letter ∷ [];
-            did = (after, lines_after, did.2, (refl, refl));
+            worked = record {
+              went = wider faults (is_shipping letter) is_work true before after (shipping-works letter) shipped.went;
+              taken = taken-one did.0 lines lines_after shipped.taken;
+              ended = did.4;
+              acts = ship did.0 letter did.2 ∷ [];
+              did = (before, after, lines_after, only-same before before refl, did.3, (only-same after after refl, refl));
+            };
+            ships = refl;
+            once = λ none tid. once-shipped faults before after lines lines_after did.0 letter did.2 did.3
+                (ap (list_all (λ (held : Held). not (is_kind held.kind Direct))) none) tid;
           },
-          did.4,
+          did.5,
         )
 
     pub found-went : (most : ℕ) (nothing : Type 0) (found : Option ℕ) → Found faults before lines after lines_after most nothing found
         → Worked faults before after is_work true
     found-went most nothing None did = still faults is_work true before after did.0
-    found-went most nothing (Some n) did = let worked = did.0 in worked.went
+    found-went most nothing (Some n) did = let gone = did.0 in let worked = gone.worked in worked.went
 
     pub found-weaker : (most more : ℕ) (nothing less : Type 0) (found : Option ℕ) → most ≤ more → (nothing → less)
         → Found faults before lines after lines_after most nothing found → Found faults before lines after lines_after more less found
@@ -241,45 +350,53 @@ module _ {V : Type 0} (faults : V → ℕ → ℕ) where
         → ((unit : AleUnit) → These unit.tid → committed_unit (meaning before.world.rules) before.world unit.tid ≡ Some unit
         → is_due before.world unit ≡ true → ⊥)
         → HasVisited faults before lines after lines_after These
+    unfolding worked-same
     visited-none These same same_lines not_due = record {
       worked = worked-same before after lines lines_after same same_lines;
-      visited = λ none unit these named due. absurd (not_due unit these named due);
+      visited = λ unit these named due sender receiver. absurd (not_due unit these named due);
+      few = λ tid. inl refl;
     }
 
     -- those that are among these were visited too
     pub visited-among : (These Those : TidOf → Type 0)
         → ((unit : AleUnit) → Those unit.tid → committed_unit (meaning before.world.rules) before.world unit.tid ≡ Some unit
         → is_due before.world unit ≡ true → These unit.tid)
+        → ((tid : TidOf) → IsTid tid → These tid → Those tid)
         → HasVisited faults before lines after lines_after These → HasVisited faults before lines after lines_after Those
-    visited-among These Those among did = record {
+    visited-among These Those among back did = record {
       worked = did.worked;
-      visited = λ none unit those named due. did.visited none unit (among unit those named due) named due;
+      visited = λ unit those named due sender receiver. did.visited unit (among unit those named due) named due sender receiver;
+      few = λ tid. elim (did.few tid) [
+        | inl none ↦ inl none
+        | inr one ↦ inr (one.0, one.1, back tid one.3 one.2, one.3, one.4)
+      ];
     }
 
     pub visited-so : {T : Type 0} (These Those : TidOf → Type 0) (result : Result T OutOfMemory)
         → ((unit : AleUnit) → Those unit.tid → committed_unit (meaning before.world.rules) before.world unit.tid ≡ Some unit
         → is_due before.world unit ≡ true → These unit.tid)
+        → ((tid : TidOf) → IsTid tid → These tid → Those tid)
         → VisitedSo faults before lines after lines_after These result → VisitedSo faults before lines after lines_after Those result
-    visited-so These Those (Ok done) among did = visited-among These Those among did
-    visited-so These Those (Err why) among did = did
+    visited-so These Those (Ok done) among back did = visited-among These Those among back did
+    visited-so These Those (Err why) among back did = did
 
   -- a unit that took a letter was confirmed, or was not
   pub visited-confirmed : {T : Type 0} (before after : KeptOf ModelRules DocumentTables V) (lines lines_after : Lines) (result : Result T OutOfMemory)
+      → IsLandscape meaning before.world
       → Worked faults before after is_confirmation (is_ok result) → OnOk result (HaveEnded faults before after 0) → HaveTaken lines lines_after
       → (tid : TidOf) (letter : Letter) → letter ≡ next_letter (letters_left lines tid) → HasTaken tid lines lines_after
       → IsDueOf (meaning before.world.rules) before.world tid
       → ((unit : AleUnit) → committed_unit (meaning before.world.rules) before.world tid ≡ Some unit → is_due before.world unit ≡ true
-      → OnOk result (GrewBy before after (confirmation letter (forgot before.world unit) unit)))
+      → OnOk result (Appended before.world after.world (confirmation letter (forgot before.world unit) unit)))
       → VisitedSo faults before lines after lines_after (λ (other : TidOf). other ≡ tid) result
-  visited-confirmed before after lines lines_after (Ok done) went ended taken tid letter next takes is grew = record {
-    worked = record {
-      went = wider faults is_confirmation is_work true before after confirmation-works went;
-      taken = taken;
-      ended = ended;
-      acts = confirm tid letter ∷ [];
-      did = (
+  visited-confirmed before after lines lines_after (Ok done) safe went ended taken tid letter next takes is grew =
+      let appended = grew is.unit is.committed is.due in
+      let act : Act = confirm tid letter appended.0 in
+      let acted : HaveActed faults before lines (act ∷ []) after lines_after = (
+        before,
         after,
         lines_after,
+        only-same before before refl,
         record {
           unit = is.unit;
           committed = is.committed;
@@ -287,42 +404,102 @@ module _ {V : Type 0} (faults : V → ℕ → ℕ) where
           next = next;
           taken = takes;
           went = went;
-          grew = grew is.unit is.committed is.due;
+          grew = appended.1;
         },
-        (refl, refl),
-      );
-    };
-    visited = λ none unit its named due. ap (λ b. b || false) (is_tid-from tid unit.tid (sym its));
-  }
-  visited-confirmed before after lines lines_after (Err why) went ended taken tid letter next takes is grew = wider faults is_confirmation is_work false before
-      after confirmation-works went
+        (only-same after after refl, refl),
+      ) in
+      record {
+        worked = record {
+          went = wider faults is_confirmation is_work true before after confirmation-works went;
+          taken = taken;
+          ended = ended;
+          acts = act ∷ [];
+          did = acted;
+        };
+        visited = λ unit its named due sender receiver. ap (λ b. b || false) (is_tid-from tid unit.tid (sym its));
+        few = λ other. elim (cases_Bool (is_tid tid other)) [
+          | inl same ↦
+              let equal : other ≡ tid = sym (is_tid-true tid other same) in
+              inr (
+                act,
+                rw same refl,
+                equal,
+                subst IsTid (sym equal) (range is.unit is.committed is.due),
+                all-done faults (act ∷ []) before after lines lines_after acted other
+                    (subst (λ (t : TidOf). is_listed t (done_in (log_of before.world t.system)) ≡ true) (sym equal) (done_before is.unit is.committed is.due)),
+              )
+          | inr differs ↦ inl (rw differs refl)
+        ];
+      }
+    where
+      its_tid : (unit : AleUnit) → committed_unit (meaning before.world.rules) before.world tid ≡ Some unit → unit.tid ≡ tid
+      its_tid unit named = (committed_unit-is (meaning before.world.rules) (is_lawful before.world.rules) before.world safe.safe tid unit named).1
+
+      range : (unit : AleUnit) → committed_unit (meaning before.world.rules) before.world tid ≡ Some unit → is_due before.world unit ≡ true → IsTid tid
+      range unit named due =
+          let parts = due-parts before.world unit due in
+          subst IsTid (its_tid unit named)
+          (committed-range before.world safe unit
+          (subst (λ t. committed_unit (meaning before.world.rules) before.world t ≡ Some unit) (sym (its_tid unit named)) named) parts.0)
+
+      done_before : (unit : AleUnit) → committed_unit (meaning before.world.rules) before.world tid ≡ Some unit → is_due before.world unit ≡ true
+          → is_listed tid (done_in (log_of before.world tid.system)) ≡ true
+      done_before unit named due =
+          let parts = due-parts before.world unit due in
+          subst (λ (t : TidOf). is_listed t (done_in (log_of before.world t.system)) ≡ true) (its_tid unit named)
+          (and_parts (is_listed unit.tid (done_in (log_of before.world unit.tid.system)))
+          (not (is_listed unit.tid (ended_in (log_of before.world unit.tid.system)))) parts.2).0
+  visited-confirmed before after lines lines_after (Err why) safe went ended taken tid letter next takes is grew =
+      wider faults is_confirmation is_work false before after confirmation-works went
 
   -- units were visited, and then others
   pub visited-on : (before between after : KeptOf ModelRules DocumentTables V) (lines lines_between lines_after : Lines) (These Those All : TidOf → Type 0)
-      → ((tid : TidOf) → All tid → These tid ⊎ Those tid)
+      → ((tid : TidOf) → All tid → These tid ⊎ Those tid) → ((tid : TidOf) → These tid ⊎ Those tid → All tid)
+      → ((tid : TidOf) → These tid → Those tid → ⊥)
       → HasVisited faults before lines between lines_between These → HasVisited faults between lines_between after lines_after Those
       → HasVisited faults before lines after lines_after All
   unfolding worked-on
-  visited-on before between after lines lines_between lines_after These Those All covers first second = record {
-    worked = worked-on before between after lines lines_between lines_after 0 0 first.worked second.worked;
-    visited = λ none unit all named due.
-        let one = first.worked in
-        let two = second.worked in
-        let none_first = none-first meaning faults is_work true before between after two.went none in
-        let none_second = none-second meaning faults is_work true before between after one.went none in
-        list_any-append (is_on unit.tid) one.acts two.acts
-        ∙ elim (covers unit.tid all) [
-          | inl these ↦ ap (λ b. b || list_any (is_on unit.tid) two.acts) (first.visited none_first unit these named due)
-          | inr those ↦ elim (due-or-on faults one.acts before between lines lines_between one.did none_first unit due) [
-            | inl still_due ↦
-                let went = one.went in
-                ap (λ b. list_any (is_on unit.tid) one.acts || b)
-                (second.visited none_second unit those (went.committed unit.tid unit named) still_due)
-                ∙ or-true (list_any (is_on unit.tid) one.acts)
-            | inr on_it ↦ ap (λ b. b || list_any (is_on unit.tid) two.acts) on_it
-          ]
-        ];
-  }
+  visited-on before between after lines lines_between lines_after These Those All covers back apart first second =
+      let one = first.worked in
+      let two = second.worked in
+      record {
+        worked = worked-on before between after lines lines_between lines_after 0 0 one two;
+        visited = λ unit all named due sender receiver.
+            let sender_then = all-up faults two.acts between after lines_between lines_after two.did unit.tid.system sender in
+            let receiver_then = all-up faults two.acts between after lines_between lines_after two.did unit.receiver receiver in
+            list_any-append (takes unit.tid) one.acts two.acts
+            ∙ elim (covers unit.tid all) [
+              | inl these ↦ ap (λ b. b || list_any (takes unit.tid) two.acts) (first.visited unit these named due sender_then receiver_then)
+              | inr those ↦ elim (due-or-on faults one.acts before between lines lines_between one.did unit due sender_then receiver_then) [
+                | inl still_due ↦
+                    let went = one.went in
+                    ap (λ b. list_any (takes unit.tid) one.acts || b)
+                    (second.visited unit those (went.committed unit.tid ∙ named) still_due sender receiver)
+                    ∙ or-true (list_any (takes unit.tid) one.acts)
+                | inr on_it ↦ ap (λ b. b || list_any (takes unit.tid) two.acts) on_it
+              ]
+            ];
+        few = λ tid.
+            let both = filter-append (takes tid) one.acts two.acts in
+            elim (first.few tid) [
+              | inl none ↦ elim (second.few tid) [
+                | inl none_too ↦ inl (both ∙ ap (λ l. l ++ filter (takes tid) two.acts) none ∙ none_too)
+                | inr later ↦
+                    inr (later.0, both ∙ ap (λ l. l ++ filter (takes tid) two.acts) none ∙ later.1, back tid (inr later.2), later.3, later.4)
+              ]
+              | inr sooner ↦ elim (second.few tid) [
+                | inl none_too ↦
+                    inr (
+                      sooner.0,
+                      both ∙ ap (λ l. filter (takes tid) one.acts ++ l) none_too ∙ append-nil (filter (takes tid) one.acts) ∙ sooner.1,
+                      back tid (inl sooner.2),
+                      sooner.3,
+                      all-done faults two.acts between after lines_between lines_after two.did tid sooner.4,
+                    )
+                | inr later ↦ absurd (apart tid sooner.2 later.2)
+              ]
+            ];
+      }
 
   -- units were visited, and then works were done until none is left
   pub drained-on : (before between after : KeptOf ModelRules DocumentTables V) (lines lines_between lines_after : Lines) (result : Result ℕ OutOfMemory)
@@ -332,7 +509,8 @@ module _ {V : Type 0} (faults : V → ℕ → ℕ) where
   unfolding worked-on
   drained-on before between after lines lines_between lines_after (Ok n) is first second =
       let one = first.worked in
-      let two = second.0 in
+      let gone = second.0 in
+      let two = gone.worked in
       let both = worked-on before between after lines lines_between lines_after 0 n one two in
       let same : 0 + n ≡ n = omega arith in (
         record {
@@ -343,35 +521,57 @@ module _ {V : Type 0} (faults : V → ℕ → ℕ) where
           did = both.did;
         },
         second.1,
-        λ none unit named due. elim (lost-or-due faults (one.acts ++ two.acts) before after lines lines_after both.did none unit due) [
+        λ unit named due. elim (lost-or-due faults (one.acts ++ two.acts) before after lines lines_after both.did unit named due) [
           | inr lost ↦ lost
           | inl was ↦
               let sent = due-committed before.world is unit was.0 in
               let went = both.went in
-              let equal : sent.0 ≡ unit = same_Some sent.0 unit (sym (went.committed unit.tid sent.0 sent.1) ∙ named) in
+              let equal : sent.0 ≡ unit = same_Some sent.0 unit (sym (went.committed unit.tid ∙ sent.1) ∙ named) in
               let found : committed_unit (meaning before.world.rules) before.world unit.tid ≡ Some unit = sent.1 ∙ ap Some equal in
               let up = due-parts before.world unit was.0 in
-              let known = is_up-known before.world unit.tid.system up.0 in
-              let least = state_of-least before.world.systems unit.tid.system known.0 known.1 in
-              let most = state_of-most before.world.systems unit.tid.system known.0 known.1 in
-              let systems = is.safe.systems in
-              let few = (is_lawful before.world.rules).systems_most in
-              let visited = first.visited (none-first meaning faults is_work true before between after two.went none) unit (least, omega arith) found was.0 in
-              let parts = or_parts (list_any (is_on unit.tid) one.acts) (list_any (is_on unit.tid) two.acts)
-              (sym (list_any-append (is_on unit.tid) one.acts two.acts) ∙ was.1) in
-              absurd (both_ways (list_any (is_on unit.tid) one.acts) parts.0 visited)
+              let range = committed-range before.world is unit found up.0 in
+              let now = due-parts after.world unit due in
+              let visited = first.visited unit (range.system_least, range.system_most) found was.0
+              (all-up faults two.acts between after lines_between lines_after two.did unit.tid.system now.0)
+              (all-up faults two.acts between after lines_between lines_after two.did unit.receiver now.1) in
+              let parts = or_parts (list_any (takes unit.tid) one.acts) (list_any (takes unit.tid) two.acts)
+              (sym (list_any-append (takes unit.tid) one.acts two.acts) ∙ was.1) in
+              absurd (both_ways (list_any (takes unit.tid) one.acts) parts.0 visited)
         ],
+        λ none tid.
+            let both_taken = filter-append (takes tid) one.acts two.acts in
+            elim (first.few tid) [
+              | inl none_first ↦
+                  ap each_but_last_cut (both_taken ∙ ap (λ l. l ++ filter (takes tid) two.acts) none_first)
+                  ∙ elim (gone.once (still-none one none) tid) [
+                    | inl cut ↦ cut-each (filter (takes tid) two.acts) cut
+                    | inr once ↦ once.0
+                  ]
+              | inr one_act ↦
+                  ap each_but_last_cut (both_taken
+                  ∙ ap (λ l. filter (takes tid) one.acts ++ l)
+                  (none-taken faults two.acts between after lines_between lines_after two.did gone.ships tid (inl one_act.4))
+                  ∙ append-nil (filter (takes tid) one.acts) ∙ one_act.1)
+            ],
       )
+    where
+      still-none : HasWorked faults before lines between lines_between 0 → before.world.claims ≡ [] → between.world.claims ≡ []
+      still-none worked none =
+          let ended = worked.ended in
+          elim ended.claims [
+            | inl same_claims ↦ same_claims ∙ none
+            | inr gone_claims ↦ gone_claims
+          ]
   drained-on before between after lines lines_between lines_after (Err why) is first second =
       let one = first.worked in on faults is_work false before between after one.went second
 
   -- works, and then nothing more is found
   pub rounds-idle : (before between after : KeptOf ModelRules DocumentTables V) (lines lines_between lines_after : Lines) (n : ℕ)
-      → HasWorked faults before lines between lines_between n → Found faults between lines_between after lines_after 32 (IsIdle between.world) None
+      → HasGone faults before lines between lines_between n → Found faults between lines_between after lines_after 32 (IsIdle between.world) None
       → RoundsAs faults before lines after lines_after (Ok n)
   rounds-idle before between after lines lines_between lines_after n worked none = (
-    subst (λ (k : KeptOf ModelRules DocumentTables V). HasWorked faults before lines k lines_after n) (sym none.0)
-        (subst (λ l. HasWorked faults before lines between l n) (sym none.1) worked),
+    subst (λ (k : KeptOf ModelRules DocumentTables V). HasGone faults before lines k lines_after n) (sym none.0)
+        (subst (λ l. HasGone faults before lines between l n) (sym none.1) worked),
     subst (λ (k : KeptOf ModelRules DocumentTables V). IsIdle k.world) (sym none.0) none.2,
   )
 
@@ -381,14 +581,22 @@ module _ {V : Type 0} (faults : V → ℕ → ℕ) where
   executed-found before after lines system None did = (did.0, refl, did.1)
   executed-found before after lines system (Some n) did = (
     record {
-      went = let executed = did.2 in wider faults is_execution is_work true before after execution-works executed.went;
-      taken = taken-none lines;
-      ended = did.3;
-      acts = execute system did.0 ∷ [];
-      did = (after, lines, (did.2, refl), (refl, refl));
+      worked = record {
+        went = let executed = did.3 in wider faults is_execution is_work true before after execution-works executed.went;
+        taken = taken-none lines;
+        ended = did.4;
+        acts = execute system did.0 did.2 ∷ [];
+        did = (before, after, lines, only-same before before refl, (did.3, refl), (only-same after after refl, refl));
+      };
+      ships = refl;
+      once = λ none tid. inl refl;
     },
-    did.4,
+    few did.2 did.5,
   )
+    where
+      few : (whole : Bool) → n ≡ cond whole 1 0 → n ≤ 1
+      few true is = omega (arith, is)
+      few false is = omega (arith, is)
 
   pub executed-went : (whole : Bool) (before after : KeptOf ModelRules DocumentTables V) → Worked faults before after is_execution whole
       → Worked faults before after is_work whole
@@ -405,17 +613,17 @@ module _ {V : Type 0} (faults : V → ℕ → ℕ) where
     (first.2, subst there first.0 second.2),
   )
   found-on before between after lines lines_between lines_after few many here there None (Some m) first second = (
-    subst (λ (k : KeptOf ModelRules DocumentTables V). HasWorked faults k lines after lines_after m) first.0
-        (subst (λ l. HasWorked faults between l after lines_after m) first.1 second.0),
+    subst (λ (k : KeptOf ModelRules DocumentTables V). HasGone faults k lines after lines_after m) first.0
+        (subst (λ l. HasGone faults between l after lines_after m) first.1 second.0),
     let below = second.1 in omega arith,
   )
   found-on before between after lines lines_between lines_after few many here there (Some n) None first second = (
-    subst (λ (k : KeptOf ModelRules DocumentTables V). HasWorked faults before lines k lines_after n) (sym second.0)
-        (subst (λ l. HasWorked faults before lines between l n) (sym second.1) first.0),
+    subst (λ (k : KeptOf ModelRules DocumentTables V). HasGone faults before lines k lines_after n) (sym second.0)
+        (subst (λ l. HasGone faults before lines between l n) (sym second.1) first.0),
     let below = first.1 in omega arith,
   )
   found-on before between after lines lines_between lines_after few many here there (Some n) (Some m) first second = (
-    worked-on before between after lines lines_between lines_after n m first.0 second.0,
+    gone-on before between after lines lines_between lines_after n m first.0 second.0,
     let below = first.1 in let above = second.1 in omega arith,
   )
 

@@ -2,7 +2,7 @@
 use Rattle.std.specs.Prelude.{Result, Ok, Err, IfOk, filter}
 use Rattle.std.proofs.Common.{◌≡◌, ◌==◌, ◌+◌, ℕ, not, Bool, true, false, cond, Option, Some, None, List, [], ◌∷◌, ◌++◌, inl, inr, refl, sym, ap, subst, ◌∙◌, arith}
 use Rattle.std.specs.Option.{option_and_then}
-use Rattle.std.proofs.lemmas.Bool.{both_ways, cond_both, not-true}
+use Rattle.std.proofs.lemmas.Bool.{both_ways, cases_Bool, cond_both, not-true}
 use Rattle.ale_base.specs.declared.way.Way.TheVariants.{Incoming}
 use Rattle.unit_core.specs.declared.ale_unit.AleUnit.{AleUnit}
 use Rattle.unit_core.specs.declared.records.Record.{Record}
@@ -43,14 +43,14 @@ use Rattle.unit_landscape.proofs.FinishingLemmas.{direct-appends, execute-append
 use Rattle.unit_works.specs.Events.{is_end}
 use Rattle.unit_works.specs.Finished.{finished_in, is_ending}
 use Rattle.unit_works.specs.Went.{WentOn}
-use Rattle.unit_works.specs.Claims.{AreOrGone}
+use Rattle.unit_works.specs.Claims.{AreOrGone, NoneAdded}
 use Rattle.unit_works.specs.steps.Claims.{AreWith, IsHeldIn}
-use Rattle.unit_works.specs.steps.Ending.{HasFinished, IsDownFor, IsRun, ended_by, ended_of, run_at, worked_by}
-use Rattle.unit_works.specs.Trips.{HaveGrown, NoneFell, execution, one_at}
-use Rattle.unit_works.proofs.ClaimLemmas.{held-in, found-last, stands-found_in, without-last}
-use Rattle.unit_works.proofs.FellLemmas.{claims-fell, fell-not_none, finished-fell}
-use Rattle.unit_works.proofs.GrowthLemmas.{happened-grown}
-use Rattle.unit_works.proofs.LogLemmas.{if-met}
+use Rattle.unit_works.specs.steps.Ending.{FinishedSo, IsDownFor, IsRun, ended_by, ended_of, run_at, worked_by}
+use Rattle.unit_works.specs.Trips.{Wholly, execution, one_at}
+use Rattle.unit_works.proofs.ClaimLemmas.{found-last, held-in, none-added, none-added-left, stands-found_in, without-last}
+use Rattle.unit_works.proofs.FellLemmas.{claims-fell, fell-was_cut, finished-fell}
+use Rattle.unit_works.proofs.GrowthLemmas.{happened-wholly}
+use Rattle.unit_works.proofs.LogLemmas.{if-met, listed}
 use Rattle.unit_works.proofs.StateLemmas.{is_step}
 use Rattle.unit_works.proofs.WentLemmas.{went-same, went-happened, went-fell, went-short, went-whole}
 use Rattle.unit_works.proofs.WorldLemmas.{finished-record, claims-record}
@@ -254,6 +254,22 @@ module _ {R A V : Type 0} (meaning : R → Meaning) (lawful : (r : R) → IsLawf
         inr (ap (λ (k : KeptOf R A V). k.world.claims) same ∙ with-gone others with (both_ways (stands_in before.world claim) did.0))
     claims-finished (Err end.OutOfMemory) did others with = tt
 
+    claims-ended : HasEnded before.world after.world claim.number
+        → after.world.claims ≡ filter (λ (h : Held). not (h.number == claim.number)) before.world.claims
+    claims-ended ended = ap (λ (w : World R). w.claims) ended.world ∙ claims-record before.world ended.system ended.next (Some claim.number)
+
+    pub fewer-finished : (result : Result Finished WorkEnd) → Ends result → IfOk (ended_of result) (λ given. NoneAdded before.world.claims after.world.claims)
+    fewer-finished (Ok (finished.Executed receipt)) did =
+        none-added-left (λ (h : Held). not (h.number == claim.number)) before.world.claims after.world.claims (claims-ended (executed-is did.0 did.1 did.2))
+    fewer-finished (Ok finished.Failed) did =
+        none-added-left (λ (h : Held). not (h.number == claim.number)) before.world.claims after.world.claims (claims-ended (failed-is did.0 did.1 did.2))
+    fewer-finished (Ok finished.Down) did =
+        none-added before.world.claims after.world.claims
+        (inr (claims-fell meaning lawful faults before after is (finish_event (meaning before.world.rules) before.world claim) did.1))
+    fewer-finished (Err end.Stale) did =
+        none-added before.world.claims after.world.claims (inl (ap (λ (k : KeptOf R A V). k.world.claims) did.1))
+    fewer-finished (Err end.OutOfMemory) did = tt
+
     -- ---- what is appended
 
     -- what a claim to execute a unit appends, and what one to run it
@@ -267,20 +283,17 @@ module _ {R A V : Type 0} (meaning : R → Meaning) (lawful : (r : R) → IsLawf
     worked-direct held kind unit named =
         sym (ap (worked_by (meaning before.world.rules) before.world held) kind ∙ ap (run_at held.system) named)
 
-    claims-ended : HasEnded before.world after.world claim.number
-        → after.world.claims ≡ filter (λ (h : Held). not (h.number == claim.number)) before.world.claims
-    claims-ended ended = ap (λ (w : World R). w.claims) ended.world ∙ claims-record before.world ended.system ended.next (Some claim.number)
-
     -- the record of a claim is by its kind
     of-claim : (held : Held) → HoldsIn before.world claim held → (kind : HeldKind) → held.kind ≡ kind → (pick : Held → HeldKind → Option Writing)
         → record_of_claim before.world pick claim.number ≡ pick held kind
     of-claim held holds kind is pick = ap (option_and_then (λ (h : Held). pick h h.kind)) holds.found ∙ ap (pick held) is
 
-    executed-grew : (held : Held) → HoldsIn before.world claim held → (kind : HeldKind) → held.kind ≡ kind
+    -- the record of an execution or a run
+    executed-lists : (held : Held) → HoldsIn before.world claim held → (kind : HeldKind) → held.kind ≡ kind
         → is_offered_function (meaning before.world.rules) before.world claim.tid ≡ true
-        → Happened (meaning before.world.rules) faults before after (event.Finish claim.number)
-        → HaveGrown before.world after.world (worked_by (meaning before.world.rules) before.world held held.kind)
-    executed-grew held holds In kind offered did =
+        → (it : Writing) × (record_of (meaning before.world.rules) before.world (event.Finish claim.number) ≡ Some it)
+        × (it ∷ [] ≡ worked_by (meaning before.world.rules) before.world held held.kind)
+    executed-lists held holds In kind offered =
         let rules : Meaning = meaning before.world.rules in
         let appends = execute-appends rules (lawful before.world.rules) before.world is.safe held (in-found before.world claim held holds) kind
         (ap (is_offered_function rules before.world) holds.its ∙ offered) in
@@ -288,17 +301,15 @@ module _ {R A V : Type 0} (meaning : R → Meaning) (lawful : (r : R) → IsLawf
         let offers = if-met (offers_received_now rules before.world held.system held.tid) held.system (log.Execute held.tid)
         (at held.system (log.Execute held.tid))
         (sym (of-claim held holds In kind (record_of_work rules before.world)) ∙ writes) in
-        subst (HaveGrown before.world after.world) (worked-in held kind true offers)
-        (happened-grown meaning lawful faults before after is (event.Finish claim.number) refl (Some (at held.system (log.Execute held.tid))) writes did)
-    executed-grew held holds Direct kind offered did =
+        (at held.system (log.Execute held.tid), writes, worked-in held kind true offers)
+    executed-lists held holds Direct kind offered =
         let rules : Meaning = meaning before.world.rules in
         let has = (claim_of-Some claim.number before.world.claims held holds.found).0 in
         let unit = claimed_unit rules (lawful before.world.rules) before.world is.safe held has in
         let appends = direct-appends rules (lawful before.world.rules) before.world is.safe held (in-found before.world claim held holds) kind unit.0 unit.1 in
         let writes = executed-record rules before.world claim held holds (log.Direct unit.0) appends in
-        subst (HaveGrown before.world after.world) (worked-direct held kind unit.0 unit.1)
-        (happened-grown meaning lawful faults before after is (event.Finish claim.number) refl (Some (at held.system (log.Direct unit.0))) writes did)
-    executed-grew held holds Out kind offered did = let none = sym holds.kind ∙ ap (λ k. is_kind k Out) kind in absurd (cc)
+        (at held.system (log.Direct unit.0), writes, worked-direct held kind unit.0 unit.1)
+    executed-lists held holds Out kind offered = let none = sym holds.kind ∙ ap (λ k. is_kind k Out) kind in absurd (cc)
 
     failed-writes : (held : Held) → HoldsIn before.world claim held → is_offered_function (meaning before.world.rules) before.world claim.tid ≡ false
         → record_of (meaning before.world.rules) before.world (event.Fail claim.number) ≡ Some (at held.system (log.Fail held.tid))
@@ -306,26 +317,39 @@ module _ {R A V : Type 0} (meaning : R → Meaning) (lawful : (r : R) → IsLawf
         failed-record (meaning before.world.rules) before.world claim held holds (log.Fail held.tid)
         (failing (meaning before.world.rules) (lawful before.world.rules) before.world is.safe claim held holds offered)
 
-    failed-grew : (held : Held) → HoldsIn before.world claim held → (kind : HeldKind) → held.kind ≡ kind
+    -- the record of a failure
+    failed-lists : (held : Held) → HoldsIn before.world claim held → (kind : HeldKind) → held.kind ≡ kind
         → is_offered_function (meaning before.world.rules) before.world claim.tid ≡ false
-        → Happened (meaning before.world.rules) faults before after (event.Fail claim.number)
-        → HaveGrown before.world after.world (worked_by (meaning before.world.rules) before.world held held.kind) × IsRun held.kind claim.tid finished.Failed
-    failed-grew held holds In kind offered did =
+        → (at held.system (log.Fail held.tid) ∷ [] ≡ worked_by (meaning before.world.rules) before.world held held.kind)
+        × IsRun held.kind claim.tid finished.Failed
+    failed-lists held holds In kind offered =
         let rules : Meaning = meaning before.world.rules in
         let writes = failed-writes held holds offered in
         let other = if-met (not (offers_received_now rules before.world held.system held.tid)) held.system (log.Fail held.tid)
         (at held.system (log.Fail held.tid))
         (sym (of-claim held holds In kind (record_of_failure rules before.world)) ∙ writes) in (
-          subst (HaveGrown before.world after.world)
-              (worked-in held kind false (not-true (offers_received_now rules before.world held.system held.tid) other))
-              (happened-grown meaning lawful faults before after is (event.Fail claim.number) refl (Some (at held.system (log.Fail held.tid))) writes did),
+          worked-in held kind false (not-true (offers_received_now rules before.world held.system held.tid) other),
           subst (λ k. IsRun k claim.tid finished.Failed) (sym kind) tt,
         )
-    failed-grew held holds Direct kind offered did =
+    failed-lists held holds Direct kind offered =
         let none = sym (of-claim held holds Direct kind (record_of_failure (meaning before.world.rules) before.world)) ∙ failed-writes held holds
         offered in absurd
         (cc)
-    failed-grew held holds Out kind offered did = let none = sym holds.kind ∙ ap (λ k. is_kind k Out) kind in absurd (cc)
+    failed-lists held holds Out kind offered = let none = sym holds.kind ∙ ap (λ k. is_kind k Out) kind in absurd (cc)
+
+    -- the record of the work, whether it is done or fails
+    finish-lists : (held : Held) → HoldsIn before.world claim held
+        → listed (record_of (meaning before.world.rules) before.world (finish_event (meaning before.world.rules) before.world claim))
+        ≡ worked_by (meaning before.world.rules) before.world held held.kind
+    finish-lists held holds = elim (cases_Bool (is_offered_function (meaning before.world.rules) before.world claim.tid)) [
+      | inl offered ↦
+          let lists = executed-lists held holds held.kind refl offered in
+          ap (λ b. listed (record_of (meaning before.world.rules) before.world (cond b (event.Finish claim.number) (event.Fail claim.number)))) offered
+          ∙ ap listed lists.1 ∙ lists.2
+      | inr other ↦
+          ap (λ b. listed (record_of (meaning before.world.rules) before.world (cond b (event.Finish claim.number) (event.Fail claim.number)))) other
+          ∙ ap listed (failed-writes held holds other) ∙ (failed-lists held holds held.kind refl other).0
+    ]
 
     executed-run : (held : Held) (kind : HeldKind) → held.kind ≡ kind → (receipt : Receipt) → receipt.tid ≡ claim.tid
         → IsRun held.kind claim.tid (finished.Executed receipt)
@@ -333,19 +357,32 @@ module _ {R A V : Type 0} (meaning : R → Meaning) (lawful : (r : R) → IsLawf
     executed-run held Out kind receipt its = subst (λ k. IsRun k claim.tid (finished.Executed receipt)) (sym kind) tt
     executed-run held Direct kind receipt its = subst (λ k. IsRun k claim.tid (finished.Executed receipt)) (sym kind) its
 
-    -- where no system fell, the record of the work is appended, and the claim is gone
+    -- the record of the work is appended, and the claim is gone; or the system fell in its place
     pub has-finished : (held : Held) → HoldsIn before.world claim held → (result : Result Finished WorkEnd) → Ends result
-        → NoneFell before.world after.world
-        → IfOk (ended_of result) (λ given. HasFinished (meaning before.world.rules) before.world after.world claim held given)
-    has-finished held holds (Ok (finished.Executed receipt)) did none = record {
-      grew = executed-grew held holds held.kind refl did.1 did.2;
-      claims = claims-ended (executed-is did.0 did.1 did.2);
-      run = executed-run held held.kind refl receipt did.3;
-    }
-    has-finished held holds (Ok finished.Failed) did none =
-        let grew = failed-grew held holds held.kind refl did.1 did.2 in
-        record { grew = grew.0; claims = claims-ended (failed-is did.0 did.1 did.2); run = grew.1 }
-    has-finished held holds (Ok finished.Down) did none =
-        absurd (fell-not_none meaning lawful faults before after is (finish_event (meaning before.world.rules) before.world claim) did.1 none)
-    has-finished held holds (Err end.Stale) did none = absurd (both_ways (stands_in before.world claim) did.0 (in-stands before.world claim held holds))
-    has-finished held holds (Err end.OutOfMemory) did none = tt
+        → IfOk (ended_of result) (FinishedSo (meaning before.world.rules) before.world after.world claim held)
+    has-finished held holds (Ok (finished.Executed receipt)) did =
+        let lists = executed-lists held holds held.kind refl did.1 in
+        inl (record {
+          grew = subst (Wholly before.world after.world) lists.2
+              (happened-wholly meaning lawful faults before after is (event.Finish claim.number) refl (Some lists.0) lists.1 did.2);
+          claims = claims-ended (executed-is did.0 did.1 did.2);
+          run = executed-run held held.kind refl receipt did.3;
+          ended = refl;
+        })
+    has-finished held holds (Ok finished.Failed) did =
+        let lists = failed-lists held holds held.kind refl did.1 in
+        inl (record {
+          grew = subst (Wholly before.world after.world) lists.0
+              (happened-wholly meaning lawful faults before after is (event.Fail claim.number) refl (Some (at held.system (log.Fail held.tid)))
+              (failed-writes held holds did.1) did.2);
+          claims = claims-ended (failed-is did.0 did.1 did.2);
+          run = lists.1;
+          ended = refl;
+        })
+    has-finished held holds (Ok finished.Down) did = inr (
+      fell-was_cut meaning lawful faults before after is (finish_event (meaning before.world.rules) before.world claim) did.1
+          (worked_by (meaning before.world.rules) before.world held held.kind) (finish-lists held holds),
+      refl,
+    )
+    has-finished held holds (Err end.Stale) did = absurd (both_ways (stands_in before.world claim) did.0 (in-stands before.world claim held holds))
+    has-finished held holds (Err end.OutOfMemory) did = tt

@@ -1,47 +1,132 @@
--- What is appended where no system fell: of two works each, and of one event.
-use Rattle.std.proofs.Common.{◌≡◌, ℕ, Bool, true, Option, inl, inr, sym, subst}
-use Rattle.std.proofs.lemmas.Bool.{both_ways, cases_Bool}
+-- What is appended, one after the other, until a system falls: of works each, and of one event.
+use Rattle.std.proofs.Common.{◌≡◌, ℕ, Bool, true, false, Option, List, [], ◌∷◌, ◌++◌, inl, inr, sym, ap, subst, ◌∙◌, append_assoc}
+use Rattle.std.proofs.lemmas.Bool.{both_ways}
 use Rattle.trfc_protocol.specs.declared.event.Event.{Event}
 use Rattle.trfc_protocol.specs.declared.world.World.{World}
 use Rattle.trfc_protocol.specs.Happens.{happens}
 use Rattle.trfc_protocol.specs.Legal.{IsLawful}
 use Rattle.trfc_protocol.specs.Meaning.{Meaning}
 use Rattle.trfc_protocol.specs.RecordOf.{Writing, record_of}
-use Rattle.trfc_protocol.specs.Worlds.{is_up}
+use Rattle.trfc_protocol.specs.Worlds.{is_up, log_of, rest_of}
 use Rattle.kept_world.specs.Kept.{KeptOf}
 use Rattle.unit_landscape.specs.Ends.{Happened}
 use Rattle.unit_landscape.specs.Kept.{IsLandscape}
-use Rattle.unit_works.specs.Trips.{HaveGrown, NoneFell}
-use Rattle.unit_works.specs.Went.{WentOn}
-use Rattle.unit_works.proofs.LogLemmas.{grown-event, listed}
-use Rattle.unit_works.proofs.StateLemmas.{is_step}
-use Rattle.unit_works.proofs.WentLemmas.{up-least}
+use Rattle.unit_works.specs.Trips.{AppendedAs, CutAt, HaveGrown, Wholly}
+use Rattle.unit_works.specs.steps.Claims.{WasCut}
+use Rattle.unit_works.proofs.LogLemmas.{grown-event, grown-on, grown-same, grown-then_none, listed}
+use Rattle.unit_works.proofs.StateLemmas.{is_step, step-rest, step-up}
 
-module _ {R A V : Type 0} (meaning : R → Meaning) (faults : V → ℕ → ℕ) (may : Event → Bool) (whole : Bool) (before between after : KeptOf R A V) where
-  -- where none fell over the whole, none fell in its first part
-  pub none-first : WentOn meaning faults may whole between after → NoneFell before.world after.world → NoneFell before.world between.world
-  none-first went none system up = elim (cases_Bool (is_up between.world system)) [
-    | inl still ↦ still
-    | inr down ↦
-        let stays = went.stays system (up-least before.world system up) down in
-        absurd (both_ways (is_up after.world system) stays.down (none system up))
-  ]
+module _ {R : Type 0} where
+  -- nothing happened
+  pub wholly-same : (before after : World R) → after ≡ before → Wholly before after []
+  wholly-same before after same = record {
+    grew = grown-same before after (λ system. ap (λ (w : World R). log_of w system) same);
+    stand = λ system. (ap (λ (w : World R). is_up w system) same, ap (λ (w : World R). rest_of w system) same);
+  }
 
-  -- and none in its second
-  pub none-second : WentOn meaning faults may whole before between → NoneFell before.world after.world → NoneFell between.world after.world
-  none-second went none system up = elim (cases_Bool (is_up before.world system)) [
-    | inl was ↦ none system was
-    | inr down ↦
-        let stays = went.stays system (up-least between.world system up) down in
-        absurd (both_ways (is_up between.world system) stays.down up)
-  ]
+  -- one after the other
+  pub wholly-on : (before between after : World R) (xs ys : List Writing) → Wholly before between xs → Wholly between after ys
+      → Wholly before after (xs ++ ys)
+  wholly-on before between after xs ys first second = record {
+    grew = grown-on before between after xs ys first.grew second.grew;
+    stand = λ system. ((second.stand system).0 ∙ (first.stand system).0, (second.stand system).1 ∙ (first.stand system).1);
+  }
 
--- an event that happened let the logs grow by its record, where it has one
-pub happened-grown : {R A V : Type 0} (meaning : R → Meaning) → ((r : R) → IsLawful (meaning r)) → (faults : V → ℕ → ℕ) (before after : KeptOf R A V)
-    → IsLandscape meaning before.world
-    → (e : Event) → is_step e ≡ true → (found : Option Writing) → record_of (meaning before.world.rules) before.world e ≡ found
-    → Happened (meaning before.world.rules) faults before after e → HaveGrown before.world after.world (listed found)
-happened-grown {R} meaning lawful faults before after is e step found writes did =
-    subst (λ (w : World R). HaveGrown before.world w (listed found)) (sym did.world)
-    (subst (λ f. HaveGrown before.world (happens (meaning before.world.rules) before.world e) (listed f)) writes
-    (grown-event (meaning before.world.rules) (lawful before.world.rules) before.world is.safe e step))
+  pub wholly-then_none : (before between after : World R) (xs : List Writing) → Wholly before between xs → Wholly between after []
+      → Wholly before after xs
+  wholly-then_none before between after xs first second = record {
+    grew = grown-then_none before between after xs first.grew second.grew;
+    stand = λ system. ((second.stand system).0 ∙ (first.stand system).0, (second.stand system).1 ∙ (first.stand system).1);
+  }
+
+  -- records, and then a system fell
+  cut-behind : (before between after : World R) (xs done : List Writing) (next : Writing) → Wholly before between xs → CutAt between after done next
+      → CutAt before after (xs ++ done) next
+  cut-behind before between after xs done next first second = record {
+    grew = grown-on before between after xs done first.grew second.grew;
+    up = sym (first.stand next.system).0 ∙ second.up;
+    fell = second.fell;
+    rest = second.rest;
+    others = λ system differs.
+        let now = second.others system differs in
+        (now.0 ∙ (first.stand system).0, now.1 ∙ (first.stand system).1);
+  }
+
+  -- a system fell, and then nothing happened
+  cut-then : (before between after : World R) (done : List Writing) (next : Writing) → CutAt before between done next → Wholly between after []
+      → CutAt before after done next
+  cut-then before between after done next first second = record {
+    grew = grown-then_none before between after done first.grew second.grew;
+    up = first.up;
+    fell = (second.stand next.system).0 ∙ first.fell;
+    rest = elim first.rest [
+      | inl none ↦ inl ((second.stand next.system).1 ∙ none)
+      | inr some ↦ inr ((second.stand next.system).1 ∙ some)
+    ];
+    others = λ system differs.
+        let was = first.others system differs in
+        ((second.stand system).0 ∙ was.0, (second.stand system).1 ∙ was.1);
+  }
+
+  -- records, and then others, whole or cut
+  pub appended-on : (before between after : World R) (xs ys : List Writing) → Wholly before between xs → (whole : Bool)
+      → AppendedAs between after ys whole → AppendedAs before after (xs ++ ys) whole
+  appended-on before between after xs ys first true second = wholly-on before between after xs ys first second
+  appended-on before between after xs ys first false second =
+      let done : List Writing = second.0 in
+      let next : Writing = second.2 in (
+        xs ++ done,
+        second.1,
+        next,
+        ap (λ l. xs ++ l) second.3 ∙ sym (append_assoc xs done (next ∷ second.1)),
+        cut-behind before between after xs done next first second.4,
+      )
+
+  -- records that were cut, and then nothing happened
+  pub cut-still : (before between after : World R) (xs ys : List Writing) → AppendedAs before between xs false → Wholly between after []
+      → AppendedAs before after (xs ++ ys) false
+  cut-still before between after xs ys first second =
+      let done : List Writing = first.0 in
+      let next : Writing = first.2 in (
+        done,
+        first.1 ++ ys,
+        next,
+        ap (λ l. l ++ ys) first.3 ∙ append_assoc done (next ∷ first.1) ys,
+        cut-then before between after done next first.4 second,
+      )
+
+  pub cut-then_none : (before between after : World R) (xs : List Writing) → AppendedAs before between xs false → Wholly between after []
+      → AppendedAs before after xs false
+  cut-then_none before between after xs first second =
+      (first.0, first.1, first.2, first.3, cut-then before between after first.0 first.2 first.4 second)
+
+  pub was_cut-then : (before between after : World R) (xs : List Writing) → WasCut before between xs → Wholly between after []
+      → after.claims ≡ between.claims → WasCut before after xs
+  was_cut-then before between after xs first second claims = record {
+    cut = cut-then_none before between after xs first.cut second;
+    claims = claims ∙ first.claims;
+  }
+
+  -- a system that is up after it was before
+  pub appended-up : (before after : World R) (xs : List Writing) (whole : Bool) → AppendedAs before after xs whole → (system : ℕ)
+      → is_up after system ≡ true → is_up before system ≡ true
+  appended-up before after xs true did system up = sym (did.stand system).0 ∙ up
+  appended-up before after xs false did system up =
+      let cut = did.4 in
+      sym (cut.others system (λ same. both_ways (is_up after system) (ap (is_up after) same ∙ cut.fell) up)).0 ∙ up
+
+module _ {R A V : Type 0} (meaning : R → Meaning) (lawful : (r : R) → IsLawful (meaning r)) (faults : V → ℕ → ℕ) (before after : KeptOf R A V)
+    (is : IsLandscape meaning before.world) (e : Event) (step : is_step e ≡ true) where
+  -- an event that happened let the logs grow by its record, where it has one
+  pub happened-wholly : (found : Option Writing) → record_of (meaning before.world.rules) before.world e ≡ found
+      → Happened (meaning before.world.rules) faults before after e → Wholly before.world after.world (listed found)
+  happened-wholly found writes did = record {
+    grew = subst (λ (w : World R). HaveGrown before.world w (listed found)) (sym did.world)
+        (subst (λ f. HaveGrown before.world (happens (meaning before.world.rules) before.world e) (listed f)) writes
+        (grown-event (meaning before.world.rules) (lawful before.world.rules) before.world is.safe e step));
+    stand = λ system. (
+      ap (λ (w : World R). is_up w system) did.world ∙ step-up (meaning before.world.rules) (lawful before.world.rules) before.world is.safe e step system,
+      ap (λ (w : World R). rest_of w system) did.world
+          ∙ step-rest (meaning before.world.rules) (lawful before.world.rules) before.world is.safe e step system,
+    );
+  }

@@ -12,7 +12,9 @@ pub mod LogLemmas
 pub mod FellLemmas
 -- how a landscape goes on
 pub mod WentLemmas
--- what is appended where no system fell, one after the other
+-- what is prepared stays so while works go on
+pub mod PreparedLemmas
+-- what is appended, one after the other, until a system falls
 pub mod GrowthLemmas
 -- a unit is claimed
 pub mod ClaimingLemmas
@@ -24,11 +26,13 @@ pub mod EndingLemmas
 pub mod ReplyingLemmas
 -- a unit is confirmed
 pub mod ConfirmingLemmas
--- what is appended as a unit is delivered, shipped whole and confirmed
+-- what is appended as a unit is delivered, shipped and confirmed
 pub mod TripLemmas
 -- works one after the other
 pub mod WorkedLemmas
 -- a confirmation that is due after acts was due before them, or was lost
 pub mod LossLemmas
+-- a unit takes one letter, and one more only where a system fell
+pub mod OnceLemmas
 -- works until none is left
 pub mod DrainedLemmas

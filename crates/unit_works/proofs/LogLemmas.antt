@@ -1,10 +1,11 @@
 -- Records one after the other at the logs of systems, and how the record of an event lets logs grow.
 use Rattle.std.specs.Prelude.{⊤, Contains, filter, map}
-use Rattle.std.specs.List.{filter_map}
+use Rattle.std.specs.List.{filter_map, list_all}
 use Rattle.std.proofs.Common.{◌≡◌, ◌≢◌, ◌==◌, ℕ, Bool, true, false, cond, Option, Some, None, List, [], ◌∷◌, ◌++◌, inl, inr, refl, sym, ap, subst, ◌∙◌, append-nil, append_assoc}
-use Rattle.std.proofs.lemmas.Bool.{both_ways, cases_Bool, cases_eq, cond-true, eq-eqb, ne_eqb}
+use Rattle.std.proofs.lemmas.Bool.{and_from, cases_Bool, cases_eq, cond-true, eq-eqb, ne_eqb}
 use Rattle.std.proofs.lemmas.List.{map-append}
 use Rattle.std.proofs.lemmas.List.Elements.{filter-append, filter_map-append}
+use Rattle.std.proofs.lemmas.List.Folds.{list_all-append}
 use Rattle.ale_base.specs.Tid.{TidOf}
 use Rattle.ale_base.proofs.MemberLemmas.{Contains-here, Contains-there}
 use Rattle.unit_core.specs.declared.ale_unit.AleUnit.{AleUnit}
@@ -18,11 +19,13 @@ use Rattle.trfc_protocol.specs.Legal.{IsLawful}
 use Rattle.trfc_protocol.specs.Meaning.{Meaning}
 use Rattle.trfc_protocol.specs.RecordOf.{Writing, record_if, record_of}
 use Rattle.trfc_protocol.specs.Safe.{Safe}
-use Rattle.trfc_protocol.specs.Worlds.{is_up, log_of, log_or_none, offers_now, state_of, state_with, up_or_not, with_fall, with_record}
+use Rattle.trfc_protocol.specs.Worlds.{is_up, log_of, log_or_none, offers_now, state_of, state_with, up_or_not, with_record}
 use Rattle.trfc_protocol.proofs.RecordLemmas.{MayWrite-record}
 use Rattle.trfc_protocol.proofs.WorldLemmas.{is_up-known, joins-with_state, offers_now-known}
-use Rattle.unit_works.specs.Trips.{HaveGrown, NoneFell, one_at, records_at}
-use Rattle.unit_works.proofs.StateLemmas.{claims_systems, fall-is_down, happens-step, is_step}
+use Rattle.unit_works.specs.Events.{is_works_record}
+use Rattle.unit_works.specs.Trips.{HaveGrown, one_at, records_at}
+use Rattle.unit_works.specs.Went.{HaveWorksBehind}
+use Rattle.unit_works.proofs.StateLemmas.{IsOfWorks, claims_systems, happens-step, is_step, step-works}
 
 -- ---- records one after the other
 
@@ -63,7 +66,7 @@ module _ {R : Type 0} where
       → HaveGrown before after xs
   grown-then_none before between after xs first second system = second system ∙ append-nil (log_of between system) ∙ first system
 
-  pub grown-from_none : (before between after : World R) (xs : List Writing) → HaveGrown before between [] → HaveGrown between after xs
+  grown-from_none : (before between after : World R) (xs : List Writing) → HaveGrown before between [] → HaveGrown between after xs
       → HaveGrown before after xs
   grown-from_none before between after xs first second system =
       second system ∙ ap (λ l. l ++ records_at system xs) (same-grown before between first system)
@@ -82,12 +85,6 @@ module _ {R : Type 0} where
             joins.elsewhere other differs
             ∙ sym (ap (λ l. log_of world other ++ l) (record-elsewhere system other next differs) ∙ append-nil (log_of world other))
       ]
-
-  -- where none fell, none that was up did
-  pub fall-not_none : (before after : World R) (system : ℕ) (rest : Option Record) → is_up before system ≡ true → after ≡ with_fall before system rest
-      → NoneFell before after → ⊥
-  fall-not_none before after system rest up fell none =
-      both_ways (is_up after system) (ap (λ (w : World R). is_up w system) fell ∙ fall-is_down before system up rest) (none system up)
 
   -- what a system that is up offers goes by its log
   pub offers-log : (rules : Meaning) (world : World R) (system : ℕ) (function : List ℕ) → is_up world system ≡ true
@@ -121,6 +118,36 @@ module _ {R : Type 0} (rules : Meaning) (lawful : IsLawful rules) (world : World
           ap (λ systems. up_or_not (state_of systems it.system)) (claims_systems rules world e) ∙ (MayWrite-record rules lawful world safe e it is).up in
           grown-from_none world claimed (with_record claimed it.system it.next) (it ∷ []) same (grown-record claimed it.system it.next up)
 
+  -- so each log has records of works behind it
+  pub works-event : HaveWorksBehind world (happens rules world e)
+  works-event system = (
+    records_at system (listed (record_of rules world e)),
+    grown-event system,
+    one (record_of rules world e) (step-works rules world e step),
+  )
+    where
+      one : (found : Option Writing) → IsOfWorks rules world found → list_all is_works_record (records_at system (listed found)) ≡ true
+      one None works = refl
+      one (Some it) works = elim (cases_Bool (it.system == system)) [
+        | inl here ↦ rw here (and_from (is_works_record it.next) true works refl)
+        | inr other ↦ rw other refl
+      ]
+
+module _ {R : Type 0} where
+  -- logs that are as they were
+  pub works-same : (before after : World R) → ((system : ℕ) → log_of after system ≡ log_of before system) → HaveWorksBehind before after
+  works-same before after same system = ([], same system ∙ sym (append-nil (log_of before system)), refl)
+
+  -- one after the other
+  pub works-on : (before between after : World R) → HaveWorksBehind before between → HaveWorksBehind between after → HaveWorksBehind before after
+  works-on before between after first second system =
+      let one = first system in
+      let two = second system in (
+        one.0 ++ two.0,
+        two.1 ∙ ap (λ l. l ++ two.0) one.1 ∙ append_assoc (log_of before system) one.0 two.0,
+        list_all-append is_works_record one.0 two.0 ∙ and_from (list_all is_works_record one.0) (list_all is_works_record two.0) one.2 two.2,
+      )
+
 -- a record that is asked for where this is met
 pub if-met : (met : Bool) (system : ℕ) (next : Record) (it : Writing) → record_if met system next ≡ Some it → met ≡ true
 if-met true system next it is = refl
@@ -128,10 +155,35 @@ if-met false system next it is = cc
 
 -- ---- what is read of a log behind which records stand
 
+-- each of these records is such a one
+abbrev pub EachIs : (Writing → Type 0) → List Writing → Type 0
+EachIs P [] = ⊤
+EachIs P (it ∷ rest) = P it × EachIs P rest
+
+pub each-append : (P : Writing → Type 0) (xs ys : List Writing) → EachIs P xs → EachIs P ys → EachIs P (xs ++ ys)
+each-append P [] ys first second = second
+each-append P (x ∷ xs) ys first second = (first.0, each-append P xs ys first.1 second)
+
+pub each-if : (P : Writing → Type 0) (b : Bool) (xs : List Writing) → EachIs P xs → EachIs P (cond b xs [])
+each-if P true xs each = each
+each-if P false xs each = tt
+
+pub each-wider : (P Q : Writing → Type 0) (xs : List Writing) → ((it : Writing) → P it → Q it) → EachIs P xs → EachIs Q xs
+each-wider P Q [] wide each = tt
+each-wider P Q (x ∷ xs) wide each = (wide x each.0, each-wider P Q xs wide each.1)
+
+-- so are the first of them, and the one behind these
+pub each-first : (P : Writing → Type 0) (xs ys : List Writing) → EachIs P (xs ++ ys) → EachIs P xs
+each-first P [] ys each = tt
+each-first P (x ∷ xs) ys each = (each.0, each-first P xs ys each.1)
+
+pub each-next : (P : Writing → Type 0) (xs : List Writing) (it : Writing) (ys : List Writing) → EachIs P (xs ++ it ∷ ys) → P it
+each-next P [] it ys each = each.0
+each-next P (x ∷ xs) it ys each = each-next P xs it ys each.1
+
 -- no record of these counts
 abbrev pub NoneCounts : {T : Type 0} → (Record → Option T) → List Writing → Type 0
-NoneCounts of [] = ⊤
-NoneCounts of (it ∷ rest) = (of it.next ≡ None) × NoneCounts of rest
+NoneCounts of added = EachIs (λ it. of it.next ≡ None) added
 
 none-read : {T : Type 0} (of : Record → Option T) (system : ℕ) (added : List Writing) → NoneCounts of added
     → filter_map of (records_at system added) ≡ []

@@ -1,9 +1,9 @@
 -- A confirmation that is due after acts was due before them, or was lost; and one that was due is, or its unit was visited.
-use Rattle.std.specs.Prelude.{⊤}
 use Rattle.std.specs.List.{cons_option, filter_map, list_any}
 use Rattle.std.proofs.Common.{◌≡◌, ◌==◌, ◌&&◌, ◌||◌, ◌⊎◌, ℕ, not, Bool, true, false, cond, Option, Some, None, List, [], ◌∷◌, ◌++◌, inl, inr, refl, sym, ap, subst, ◌∙◌}
 use Rattle.std.proofs.Math.Bool.{or-true}
 use Rattle.std.proofs.lemmas.Bool.{and_from, and_parts, both_ways, cases_Bool, not-true, or_from}
+use Rattle.std.proofs.lemmas.Option.{same_Some}
 use Rattle.std.proofs.lemmas.List.Elements.{filter_map-append}
 use Rattle.std.proofs.lemmas.List.Folds.{list_any-append}
 use Rattle.ale_base.specs.Tid.{TidOf, is_tid}
@@ -32,31 +32,16 @@ use Rattle.document_tables.specs.declared.document_tables.DocumentTables.{Docume
 use Rattle.model_rules.specs.declared.model_rules.ModelRules.{ModelRules}
 use Rattle.wires.specs.declared.letter.Letter.{Letter}
 use Rattle.wires.specs.declared.letter.Letter.TheVariants.{Whole, LostRequest, LostReply, Twice, LostConfirmation}
-use Rattle.unit_works.specs.Acts.{Act, Acted, HaveActed, confirm, execute, loses, ship}
-use Rattle.unit_works.specs.Events.{arrives_under, is_confirmation, is_confirmed_under, is_execution, is_sent_under, is_shipping, is_work}
-use Rattle.unit_works.specs.Trips.{HaveGrown, NoneFell, closing, confirmation, execution, forgot, is_done, is_due, learnt_under, may_ship, noted_of, one_at, records_at, shipment, taken_in}
-use Rattle.unit_works.specs.Worked.{Lines, Worked}
-use Rattle.unit_works.specs.steps.Rounds.{is_on}
-use Rattle.unit_works.proofs.GrowthLemmas.{none-first, none-second}
-use Rattle.unit_works.proofs.LogLemmas.{listed-behind, record-here, records-on}
+use Rattle.unit_works.specs.Acts.{Act, Acted, HasConfirmed, HasShipped, HaveActed, confirm, execute, loses, ship, takes}
+use Rattle.unit_works.specs.Events.{arrives_under, is_confirmed_under, is_sent_under}
+use Rattle.unit_works.specs.Trips.{AppendedAs, HaveGrown, closing, confirmation, execution, forgot, is_done, is_due, learnt_under, may_ship, noted_of, one_at, records_at, shipment, taken_in}
+use Rattle.unit_works.specs.Worked.{HaveOnlyClaimed, Lines}
+use Rattle.unit_works.proofs.GrowthLemmas.{appended-up}
+use Rattle.unit_works.proofs.LogLemmas.{EachIs, each-append, each-first, each-if, each-next, each-wider, listed-behind, record-here, records-on}
 use Rattle.unit_works.proofs.TripLemmas.{due-parts}
-use Rattle.unit_works.proofs.WentLemmas.{up-least}
-use Rattle.unit_works.proofs.WorkedLemmas.{confirmation-works, execution-works, meaning, on, shipping-works, still, wider}
+use Rattle.unit_works.proofs.WorkedLemmas.{meaning}
 
 -- ---- ids that records name
-
--- each of these records is such a one
-abbrev EachIs : (Record → Type 0) → List Writing → Type 0
-EachIs P [] = ⊤
-EachIs P (it ∷ rest) = P it.next × EachIs P rest
-
-each-append : (P : Record → Type 0) (xs ys : List Writing) → EachIs P xs → EachIs P ys → EachIs P (xs ++ ys)
-each-append P [] ys first second = second
-each-append P (x ∷ xs) ys first second = (first.0, each-append P xs ys first.1 second)
-
-each-if : (P : Record → Type 0) (b : Bool) (xs : List Writing) → EachIs P xs → EachIs P (cond b xs [])
-each-if P true xs each = each
-each-if P false xs each = tt
 
 -- a record names no id, or another
 abbrev Spares : (Record → Option TidOf) → TidOf → Record → Type 0
@@ -71,7 +56,8 @@ named-none : (found : Option TidOf) (tid : TidOf) (rest : List TidOf) → ((name
 named-none None tid rest each none = none
 named-none (Some named) tid rest each none = or_from (is_tid named tid) (is_listed tid rest) (each named refl) none
 
-spared : (of : Record → Option TidOf) (tid : TidOf) (system : ℕ) (added : List Writing) → EachIs (Spares of tid) added → names of tid system added ≡ false
+spared : (of : Record → Option TidOf) (tid : TidOf) (system : ℕ) (added : List Writing) → EachIs (λ it. Spares of tid it.next) added
+    → names of tid system added ≡ false
 spared of tid system [] each = refl
 spared of tid system (it ∷ rest) each = elim (cases_Bool (it.system == system)) [
   | inl here ↦ rw here (named-none (of it.next) tid (filter_map of (records_at system rest)) each.0 (spared of tid system rest each.1))
@@ -80,7 +66,7 @@ spared of tid system (it ∷ rest) each = elim (cases_Bool (it.system == system)
 
 module _ {R : Type 0} (of : Record → Option TidOf) (tid : TidOf) (before after : World R) where
   -- what is listed of a log that grew
-  listed-grown : (added : List Writing) → HaveGrown before after added → (system : ℕ)
+  pub listed-grown : (added : List Writing) → HaveGrown before after added → (system : ℕ)
       → is_listed tid (filter_map of (log_of after system))
       ≡ (is_listed tid (filter_map of (log_of before system)) || names of tid system added)
   listed-grown added grew system =
@@ -89,7 +75,7 @@ module _ {R : Type 0} (of : Record → Option TidOf) (tid : TidOf) (before after
       ∙ list_any-append (λ other. is_tid other tid) (filter_map of (log_of before system)) (filter_map of (records_at system added))
 
   -- records that spare an id leave what is listed of it
-  listed-same : (added : List Writing) → EachIs (Spares of tid) added → HaveGrown before after added → (system : ℕ)
+  listed-same : (added : List Writing) → EachIs (λ it. Spares of tid it.next) added → HaveGrown before after added → (system : ℕ)
       → is_listed tid (filter_map of (log_of after system)) ≡ is_listed tid (filter_map of (log_of before system))
   listed-same added each grew system =
       listed-grown added grew system
@@ -116,9 +102,14 @@ ended-last before after tid rest grew =
 
 -- ---- the records of acts
 
+-- a record at a system
+abbrev pub at : ℕ → Record → Writing
+at system next = record { system = system; next = next }
+
 -- each record of a shipment is one of these
-each-shipped : (P : Record → Type 0) (unit : AleUnit) → P (log.Accept unit) → P (log.Direct unit) → P (log.Done unit.tid) → P (log.Mark unit.tid Sysfail)
-    → P (log.Mark unit.tid Cpicerr) → P (log.Forget unit.tid) → P (log.Ended unit.tid) → (letter : Letter) (given : Answer)
+pub each-shipped : (P : Writing → Type 0) (unit : AleUnit) → P (at unit.receiver (log.Accept unit)) → P (at unit.receiver (log.Direct unit))
+    → P (at unit.tid.system (log.Done unit.tid)) → P (at unit.tid.system (log.Mark unit.tid Sysfail)) → P (at unit.tid.system (log.Mark unit.tid Cpicerr))
+    → P (at unit.receiver (log.Forget unit.tid)) → P (at unit.tid.system (log.Ended unit.tid)) → (letter : Letter) (given : Answer)
     → EachIs P (shipment letter given unit)
 each-shipped P unit accept direct done refused lost forget ended letter given =
     let learnt = learnt_under letter given in
@@ -142,17 +133,28 @@ each-shipped P unit accept direct done refused lost forget ended letter given =
     noted (Some core.Busy) = tt
     noted None = (lost, tt)
 
-each-confirmed : (P : Record → Type 0) (unit : AleUnit) → P (log.Forget unit.tid) → P (log.Ended unit.tid) → (letter : Letter) (forgotten : Bool)
-    → EachIs P (confirmation letter forgotten unit)
+pub each-confirmed : (P : Writing → Type 0) (unit : AleUnit) → P (at unit.receiver (log.Forget unit.tid)) → P (at unit.tid.system (log.Ended unit.tid))
+    → (letter : Letter) (forgotten : Bool) → EachIs P (confirmation letter forgotten unit)
 each-confirmed P unit forget ended letter true =
     each-if P (is_sent_under letter) (one_at unit.tid.system (log.Ended unit.tid)) (ended, tt)
 each-confirmed P unit forget ended letter false =
     each-if P (is_sent_under letter) (closing unit) (forget, (ended, tt))
 
-each-executed : (P : Record → Type 0) (system : ℕ) (tid : TidOf) → P (log.Execute tid) → P (log.Fail tid) → (offered : Bool)
+pub each-executed : (P : Writing → Type 0) (system : ℕ) (tid : TidOf) → P (at system (log.Execute tid)) → P (at system (log.Fail tid)) → (offered : Bool)
     → EachIs P (execution offered system tid)
 each-executed P system tid done failed true = (done, tt)
 each-executed P system tid done failed false = (failed, tt)
+
+-- such records were appended, and no others
+abbrev pub AreAppended : {R : Type 0} → (Writing → Type 0) → World R → World R → Type 0
+AreAppended P before after = (done : List Writing) × HaveGrown before after done × EachIs P done
+
+-- those of an act that was cut are the first of them
+pub are-appended : {R : Type 0} (P : Writing → Type 0) (before after : World R) (added : List Writing) (whole : Bool) → AppendedAs before after added whole
+    → EachIs P added → AreAppended P before after
+are-appended P before after added true did each = (added, did.grew, each)
+are-appended P before after added false did each =
+    let cut = did.4 in (did.0, cut.grew, each-first P did.0 (did.2 ∷ did.1) (subst (EachIs P) did.3 each))
 
 -- a record that does not count spares each id
 none-spares : (of : Record → Option TidOf) (tid : TidOf) (next : Record) → of next ≡ None → Spares of tid next
@@ -165,7 +167,7 @@ one-spares of tid next other its differs named some =
 
 -- a shipment whose confirmation is not lost leaves its unit undone, or ends it
 ship-ends : (letter : Letter) (given : Answer) (unit : AleUnit) → (letter ≡ LostConfirmation → ⊥)
-    → EachIs (λ next. done_by next ≡ None) (shipment letter given unit)
+    → EachIs (λ it. done_by it.next ≡ None) (shipment letter given unit)
     ⊎ ((rest : List Writing) × (shipment letter given unit ≡ rest ++ one_at unit.tid.system (log.Ended unit.tid)))
 ship-ends LostConfirmation given unit other = absurd (other refl)
 ship-ends LostRequest given unit other = inl (refl, tt)
@@ -213,10 +215,6 @@ confirm-ends Twice forgotten unit other = (cond forgotten [] (one_at unit.receiv
 confirm-ends LostRequest forgotten unit other = (cond forgotten [] (one_at unit.receiver (log.Forget unit.tid)), refl)
 confirm-ends LostReply forgotten unit other = (cond forgotten [] (one_at unit.receiver (log.Forget unit.tid)), refl)
 
-each-wider : (P Q : Record → Type 0) (xs : List Writing) → ((next : Record) → P next → Q next) → EachIs P xs → EachIs Q xs
-each-wider P Q [] wide each = tt
-each-wider P Q (x ∷ xs) wide each = (wide x.next each.0, each-wider P Q xs wide each.1)
-
 -- ---- what is due before and after
 
 -- what a log says of a unit is as before
@@ -230,19 +228,22 @@ module _ {R : Type 0} (before after : World R) (unit : AleUnit) (reads : ReadsSa
       ap (λ b. b && not (is_listed unit.tid (ended_in (log_of after unit.tid.system)))) reads.done
       ∙ ap (λ b. is_listed unit.tid (done_in (log_of before unit.tid.system)) && not b) reads.ended
 
-  moved-due : (from to : World R) → ((system : ℕ) → is_up from system ≡ true → is_up to system ≡ true)
+  -- it is due where its systems are up and it is unconfirmed as where it was due
+  made-due : (from to : World R) → is_up to unit.tid.system ≡ true → is_up to unit.receiver ≡ true
       → is_unconfirmed unit.tid (log_of to unit.tid.system) ≡ is_unconfirmed unit.tid (log_of from unit.tid.system)
       → is_due from unit ≡ true → is_due to unit ≡ true
-  moved-due from to ups same due =
+  made-due from to sender receiver same due =
       let parts = due-parts from unit due in
       and_from (is_up to unit.tid.system && is_up to unit.receiver) (is_unconfirmed unit.tid (log_of to unit.tid.system))
-      (and_from (is_up to unit.tid.system) (is_up to unit.receiver) (ups unit.tid.system parts.0) (ups unit.receiver parts.1)) (same ∙ parts.2)
+      (and_from (is_up to unit.tid.system) (is_up to unit.receiver) sender receiver) (same ∙ parts.2)
 
-  due-on : NoneFell before after → is_due before unit ≡ true → is_due after unit ≡ true
-  due-on none = moved-due before after none same-unconfirmed
+  due-on : is_up after unit.tid.system ≡ true → is_up after unit.receiver ≡ true → is_due before unit ≡ true → is_due after unit ≡ true
+  due-on sender receiver = made-due before after sender receiver same-unconfirmed
 
   due-back : ((system : ℕ) → is_up after system ≡ true → is_up before system ≡ true) → is_due after unit ≡ true → is_due before unit ≡ true
-  due-back ups = moved-due after before ups (sym same-unconfirmed)
+  due-back ups due =
+      let parts = due-parts after unit due in
+      made-due after before (ups unit.tid.system parts.0) (ups unit.receiver parts.1) (sym same-unconfirmed) due
 
 -- what is due is done and not ended
 due-reads : {R : Type 0} (world : World R) (unit : AleUnit) → is_due world unit ≡ true
@@ -254,7 +255,7 @@ due-reads world unit due =
     (reads.0, not-true (is_listed unit.tid (ended_in (log_of world unit.tid.system))) reads.1)
 
 -- a unit that may be shipped is not done
-may-undone : {R : Type 0} (rules : Meaning) (world : World R) (tid : TidOf) (unit : AleUnit) → committed_unit rules world tid ≡ Some unit
+pub may-undone : {R : Type 0} (rules : Meaning) (world : World R) (tid : TidOf) (unit : AleUnit) → committed_unit rules world tid ≡ Some unit
     → may_ship rules world tid ≡ true → is_listed unit.tid (done_in (log_of world tid.system)) ≡ false
 may-undone rules world tid unit named may =
     let up = is_up world tid.system in
@@ -266,204 +267,285 @@ may-undone rules world tid unit named may =
     let same : parts.0 ≡ unit = cc (parts.1, named) in
     subst (λ (u : AleUnit). is_listed u.tid (done_in (log_of world tid.system)) ≡ false) same parts.2
 
+-- a record spares an id: it neither makes it done nor ends it
+abbrev Leaves : TidOf → Writing → Type 0
+Leaves tid it = Spares done_by tid it.next × Spares ended_by tid it.next
+
+leaves-none : (tid : TidOf) (it : Writing) → done_by it.next ≡ None → ended_by it.next ≡ None → Leaves tid it
+leaves-none tid it done ended = (none-spares done_by tid it.next done, none-spares ended_by tid it.next ended)
+
+-- so what is read of the id is as before
+leaves-reads : {R : Type 0} (before after : World R) (tid : TidOf) → AreAppended (Leaves tid) before after → ReadsSame before after tid
+leaves-reads before after tid did = record {
+  done = listed-same done_by tid before after did.0
+      (each-wider (Leaves tid) (λ it. Spares done_by tid it.next) did.0 (λ it leaves. leaves.0) did.2) did.1 tid.system;
+  ended = listed-same ended_by tid before after did.0
+      (each-wider (Leaves tid) (λ it. Spares ended_by tid it.next) did.0 (λ it leaves. leaves.1) did.2) did.1 tid.system;
+}
+
+-- a record is at the sender or the receiver of a unit
+abbrev IsAt : AleUnit → Writing → Type 0
+IsAt unit it = (it.system ≡ unit.receiver) ⊎ (it.system ≡ unit.tid.system)
+
+-- where an act on a unit was cut, its confirmation is not due
+cut-due : {R : Type 0} (before after : World R) (unit : AleUnit) (added : List Writing) → AppendedAs before after added false → EachIs (IsAt unit) added
+    → is_due after unit ≡ true → ⊥
+cut-due before after unit added did each due =
+    let parts = due-parts after unit due in
+    let cut = did.4 in
+    elim (each-next (IsAt unit) did.0 did.2 did.1 (subst (EachIs (IsAt unit)) did.3 each)) [
+      | inl receiver ↦ both_ways (is_up after unit.receiver) (sym (ap (is_up after) receiver) ∙ cut.fell) parts.1
+      | inr sender ↦ both_ways (is_up after unit.tid.system) (sym (ap (is_up after) sender) ∙ cut.fell) parts.0
+    ]
+
+-- claims that are made or given up leave what is read of units
+module _ {V : Type 0} (before after : KeptOf ModelRules DocumentTables V) (only : HaveOnlyClaimed before after) where
+  pub only-due : (unit : AleUnit) → is_due after.world unit ≡ is_due before.world unit
+  only-due unit = ap (λ (w : World ModelRules). is_due w unit) only.world
+
+  pub only-up : (system : ℕ) → is_up after.world system ≡ is_up before.world system
+  only-up system = ap (λ (w : World ModelRules). is_up w system) only.world
+
+  pub only-log : (system : ℕ) → log_of after.world system ≡ log_of before.world system
+  only-log system = ap (λ (w : World ModelRules). log_of w system) only.world
+
+  pub only-committed : (tid : TidOf) → committed_unit (meaning after.world.rules) after.world tid ≡ committed_unit (meaning before.world.rules) before.world tid
+  only-committed tid = ap (λ (w : World ModelRules). committed_unit (meaning w.rules) w tid) only.world
+
 module _ {V : Type 0} (faults : V → ℕ → ℕ) where
-  -- each act is work
-  acted-went : (before after : KeptOf ModelRules DocumentTables V) (lines lines_after : Lines) (act : Act) → Acted faults before lines act after lines_after
-      → Worked faults before after is_work true
-  acted-went before after lines lines_after (ship tid letter) did =
-      wider faults (is_shipping letter) is_work true before after (shipping-works letter) did.went
-  acted-went before after lines lines_after (execute system tid) did =
-      let executed = did.0 in wider faults is_execution is_work true before after execution-works executed.went
-  acted-went before after lines lines_after (confirm tid letter) did = wider faults is_confirmation is_work true before after confirmation-works did.went
+  module _ (before after : KeptOf ModelRules DocumentTables V) (lines lines_after : Lines) where
+    -- a system that is up after an act was before
+    acted-up : (act : Act) → Acted faults before lines act after lines_after → (system : ℕ) → is_up after.world system ≡ true
+        → is_up before.world system ≡ true
+    acted-up (ship tid letter whole) did system up =
+        appended-up before.world after.world
+        (shipment letter (answer_to (meaning before.world.rules) before.world did.unit) did.unit) whole did.grew system up
+    acted-up (execute place tid whole) did system up =
+        let executed = did.0 in
+        appended-up before.world after.world
+        (execution (offers_received_now (meaning before.world.rules) before.world place tid) place tid) whole executed.grew system up
+    acted-up (confirm tid letter whole) did system up =
+        appended-up before.world after.world (confirmation letter (forgot before.world did.unit) did.unit) whole did.grew system up
 
-  all-went : (acts : List Act) (before after : KeptOf ModelRules DocumentTables V) (lines lines_after : Lines)
-      → HaveActed faults before lines acts after lines_after
-      → Worked faults before after is_work true
-  all-went [] before after lines lines_after did = still faults is_work true before after did.0
-  all-went (act ∷ acts) before after lines lines_after did =
-      on faults is_work true before did.0 after (acted-went before did.0 lines did.1 act did.2) (all-went acts did.0 after did.1 lines_after did.3)
+    -- a unit that was committed is
+    acted-committed : (act : Act) → Acted faults before lines act after lines_after → (tid : TidOf) (unit : AleUnit)
+        → committed_unit (meaning before.world.rules) before.world tid ≡ Some unit → committed_unit (meaning after.world.rules) after.world tid ≡ Some unit
+    acted-committed (ship of letter whole) did tid unit named = let went = did.went in went.committed tid ∙ named
+    acted-committed (execute place of whole) did tid unit named = let executed = did.0 in let went = executed.went in went.committed tid ∙ named
+    acted-committed (confirm of letter whole) did tid unit named = let went = did.went in went.committed tid ∙ named
 
-  -- a system that is up was
-  up-back : (before after : KeptOf ModelRules DocumentTables V) → Worked faults before after is_work true → (system : ℕ)
-      → is_up after.world system ≡ true → is_up before.world system ≡ true
-  up-back before after went system up = elim (cases_Bool (is_up before.world system)) [
-    | inl was ↦ was
-    | inr down ↦
-        let stays = went.stays system (up-least after.world system up) down in absurd (both_ways (is_up after.world system) stays.down up)
-  ]
+    -- an act on no unit of an id leaves what is read of it
+    reads-other : (tid : TidOf) (act : Act) → Acted faults before lines act after lines_after → takes tid act ≡ false
+        → ReadsSame before.world after.world tid
+    reads-other tid (ship other letter whole) did off =
+        let unit : AleUnit = did.unit in
+        let its : unit.tid ≡ other = (unit_named-Some other (committed_by (meaning before.world.rules) before.world other.system) unit did.committed).1 in
+        let differs : is_tid unit.tid tid ≡ false = ap (λ t. is_tid t tid) its ∙ off in
+        let given = answer_to (meaning before.world.rules) before.world unit in
+        leaves-reads before.world after.world tid
+        (are-appended (Leaves tid) before.world after.world (shipment letter given unit) whole did.grew
+        (each-shipped (Leaves tid) unit (leaves-none tid (at unit.receiver (log.Accept unit)) refl refl)
+        (leaves-none tid (at unit.receiver (log.Direct unit)) refl refl)
+        (one-spares done_by tid (log.Done unit.tid) unit.tid refl differs, none-spares ended_by tid (log.Done unit.tid) refl)
+        (leaves-none tid (at unit.tid.system (log.Mark unit.tid Sysfail)) refl refl)
+        (leaves-none tid (at unit.tid.system (log.Mark unit.tid Cpicerr)) refl refl)
+        (leaves-none tid (at unit.receiver (log.Forget unit.tid)) refl refl)
+        (none-spares done_by tid (log.Ended unit.tid) refl, one-spares ended_by tid (log.Ended unit.tid) unit.tid refl differs) letter given))
+    reads-other tid (execute system other whole) did off =
+        let executed = did.0 in
+        let offered = offers_received_now (meaning before.world.rules) before.world system other in
+        leaves-reads before.world after.world tid
+        (are-appended (Leaves tid) before.world after.world (execution offered system other) whole executed.grew
+        (each-executed (Leaves tid) system other (leaves-none tid (at system (log.Execute other)) refl refl)
+        (leaves-none tid (at system (log.Fail other)) refl refl) offered))
+    reads-other tid (confirm other letter whole) did off =
+        let unit : AleUnit = did.unit in
+        let its : unit.tid ≡ other = (unit_named-Some other (committed_by (meaning before.world.rules) before.world other.system) unit did.committed).1 in
+        let differs : is_tid unit.tid tid ≡ false = ap (λ t. is_tid t tid) its ∙ off in
+        let forgotten = forgot before.world unit in
+        leaves-reads before.world after.world tid
+        (are-appended (Leaves tid) before.world after.world (confirmation letter forgotten unit) whole did.grew
+        (each-confirmed (Leaves tid) unit (leaves-none tid (at unit.receiver (log.Forget unit.tid)) refl refl)
+        (none-spares done_by tid (log.Ended unit.tid) refl, one-spares ended_by tid (log.Ended unit.tid) unit.tid refl differs) letter forgotten))
 
-  -- an act on no unit of an id leaves what is read of it
-  reads-other : (before after : KeptOf ModelRules DocumentTables V) (lines lines_after : Lines) (tid : TidOf) (act : Act)
-      → Acted faults before lines act after lines_after
-      → is_on tid act ≡ false → NoneFell before.world after.world → ReadsSame before.world after.world tid
-  reads-other before after lines lines_after tid (ship other letter) did off none =
-      let unit : AleUnit = did.unit in
-      let its : unit.tid ≡ other = (unit_named-Some other (committed_by (meaning before.world.rules) before.world other.system) unit did.committed).1 in
-      let differs : is_tid unit.tid tid ≡ false = ap (λ t. is_tid t tid) its ∙ off in
-      let given = answer_to (meaning before.world.rules) before.world unit in
-      let spares : (of : Record → Option TidOf) (next : Record) → of next ≡ None → Spares of tid next = λ of next is. none-spares of tid next is in
-      let grew = did.grew none in
-      record {
-        done = listed-same done_by tid before.world after.world (shipment letter given unit)
-            (each-shipped (Spares done_by tid) unit (spares done_by (log.Accept unit) refl) (spares done_by (log.Direct unit) refl)
-            (one-spares done_by tid (log.Done unit.tid) unit.tid refl differs) (spares done_by (log.Mark unit.tid Sysfail) refl)
-            (spares done_by (log.Mark unit.tid Cpicerr) refl) (spares done_by (log.Forget unit.tid) refl) (spares done_by (log.Ended unit.tid) refl)
-            letter given) grew tid.system;
-        ended = listed-same ended_by tid before.world after.world (shipment letter given unit)
-            (each-shipped (Spares ended_by tid) unit (spares ended_by (log.Accept unit) refl) (spares ended_by (log.Direct unit) refl)
-            (spares ended_by (log.Done unit.tid) refl) (spares ended_by (log.Mark unit.tid Sysfail) refl)
-            (spares ended_by (log.Mark unit.tid Cpicerr) refl) (spares ended_by (log.Forget unit.tid) refl)
-            (one-spares ended_by tid (log.Ended unit.tid) unit.tid refl differs) letter given) grew tid.system;
-      }
-  reads-other before after lines lines_after tid (execute system other) did off none =
-      let executed = did.0 in
-      let offered = offers_received_now (meaning before.world.rules) before.world system other in
-      let grew = executed.grew none in
-      record {
-        done = listed-same done_by tid before.world after.world (execution offered system other)
-            (each-executed (Spares done_by tid) system other (none-spares done_by tid (log.Execute other) refl) (none-spares done_by tid (log.Fail other) refl)
-            offered) grew tid.system;
-        ended = listed-same ended_by tid before.world after.world (execution offered system other)
-            (each-executed (Spares ended_by tid) system other (none-spares ended_by tid (log.Execute other) refl)
-            (none-spares ended_by tid (log.Fail other) refl) offered) grew tid.system;
-      }
-  reads-other before after lines lines_after tid (confirm other letter) did off none =
-      let unit : AleUnit = did.unit in
-      let its : unit.tid ≡ other = (unit_named-Some other (committed_by (meaning before.world.rules) before.world other.system) unit did.committed).1 in
-      let differs : is_tid unit.tid tid ≡ false = ap (λ t. is_tid t tid) its ∙ off in
-      let forgotten = forgot before.world unit in
-      let grew = did.grew none in
-      record {
-        done = listed-same done_by tid before.world after.world (confirmation letter forgotten unit)
-            (each-confirmed (Spares done_by tid) unit (none-spares done_by tid (log.Forget unit.tid) refl) (none-spares done_by tid (log.Ended unit.tid) refl)
-            letter forgotten) grew tid.system;
-        ended = listed-same ended_by tid before.world after.world (confirmation letter forgotten unit)
-            (each-confirmed (Spares ended_by tid) unit (none-spares ended_by tid (log.Forget unit.tid) refl)
-            (one-spares ended_by tid (log.Ended unit.tid) unit.tid refl differs) letter forgotten) grew tid.system;
-      }
+    -- a shipment of a unit whose confirmation is due after it lost it
+    shipped-lost : (unit : AleUnit) (tid : TidOf) (letter : Letter) (whole : Bool) → tid ≡ unit.tid
+        → HasShipped faults before after lines lines_after tid letter whole
+        → committed_unit (meaning after.world.rules) after.world unit.tid ≡ Some unit → is_due after.world unit ≡ true → letter ≡ LostConfirmation
+    shipped-lost unit tid letter whole same did named due = by letter refl
+      where
+        sent : AleUnit
+        sent = did.unit
 
-  -- an act on the unit of an id that is due after it lost its confirmation
-  lost-on : (before after : KeptOf ModelRules DocumentTables V) (lines lines_after : Lines) (unit : AleUnit) (act : Act)
-      → Acted faults before lines act after lines_after
-      → is_on unit.tid act ≡ true → NoneFell before.world after.world → is_due after.world unit ≡ true → loses unit.tid act ≡ true
-  lost-on before after lines lines_after unit (execute system other) did on_it none due = cc
-  lost-on before after lines lines_after unit (ship other letter) did on_it none due = by letter refl
-    where
-      sent : AleUnit
-      sent = did.unit
+        equal : sent ≡ unit
+        equal =
+            let went = did.went in
+            same_Some sent unit
+            (sym (went.committed tid ∙ did.committed) ∙ ap (committed_unit (meaning after.world.rules) after.world) same ∙ named)
 
-      its : sent.tid ≡ unit.tid
-      its = (unit_named-Some other (committed_by (meaning before.world.rules) before.world other.system) sent did.committed).1
-          ∙ is_tid-true other unit.tid on_it
+        undone : is_listed unit.tid (done_in (log_of before.world unit.tid.system)) ≡ false
+        undone =
+            subst (λ (u : AleUnit). is_listed u.tid (done_in (log_of before.world unit.tid.system)) ≡ false) equal
+            (subst (λ (t : TidOf). is_listed sent.tid (done_in (log_of before.world t.system)) ≡ false) same
+            (may-undone (meaning before.world.rules) before.world tid sent did.committed did.may))
 
-      at : other.system ≡ unit.tid.system
-      at = ap (λ (t : TidOf). t.system) (is_tid-true other unit.tid on_it)
+        wrong : (l : Letter) → letter ≡ l → (l ≡ LostConfirmation → ⊥) → (b : Bool) → AppendedAs before.world after.world
+            (shipment l (answer_to (meaning before.world.rules) before.world unit) unit) b → ⊥
+        wrong l is other true grew =
+            let reads = due-reads after.world unit due in
+            let given = answer_to (meaning before.world.rules) before.world unit in
+            elim (ship-ends l given unit other) [
+              | inl undone_still ↦
+                  both_ways (is_listed unit.tid (done_in (log_of after.world unit.tid.system)))
+                  (listed-same done_by unit.tid before.world after.world (shipment l given unit)
+                  (each-wider (λ it. done_by it.next ≡ None) (λ it. Spares done_by unit.tid it.next) (shipment l given unit)
+                  (λ it none_of. none-spares done_by unit.tid it.next none_of) undone_still) grew.grew unit.tid.system ∙ undone) reads.0
+              | inr ends ↦
+                  both_ways (is_listed unit.tid (ended_in (log_of after.world unit.tid.system))) reads.1
+                  (ended-last before.world after.world unit.tid ends.0 (subst (HaveGrown before.world after.world) ends.1 grew.grew))
+            ]
+        wrong l is other false grew =
+            let given = answer_to (meaning before.world.rules) before.world unit in
+            cut-due before.world after.world unit (shipment l given unit) grew
+            (each-shipped (IsAt unit) unit (inl refl) (inl refl) (inr refl) (inr refl) (inr refl) (inl refl) (inr refl) l given) due
 
-      undone : is_listed unit.tid (done_in (log_of before.world unit.tid.system)) ≡ false
-      undone =
-          subst (λ s. is_listed unit.tid (done_in (log_of before.world s)) ≡ false) at
-          (subst (λ t. is_listed t (done_in (log_of before.world other.system)) ≡ false) its
-          (may-undone (meaning before.world.rules) before.world other sent did.committed did.may))
+        grew_so : (l : Letter) → letter ≡ l
+            → AppendedAs before.world after.world (shipment l (answer_to (meaning before.world.rules) before.world unit) unit) whole
+        grew_so l is =
+            subst (λ m. AppendedAs before.world after.world (shipment m (answer_to (meaning before.world.rules) before.world unit) unit) whole) is
+            (subst (λ (u : AleUnit). AppendedAs before.world after.world (shipment letter (answer_to (meaning before.world.rules) before.world u) u) whole)
+            equal
+            did.grew)
 
-      wrong : (l : Letter) → letter ≡ l → (l ≡ LostConfirmation → ⊥) → ⊥
-      wrong l is other_letter =
-          let reads = due-reads after.world unit due in
-          let given = answer_to (meaning before.world.rules) before.world sent in
-          let grew : HaveGrown before.world after.world (shipment l given sent) =
-          subst (λ m. HaveGrown before.world after.world (shipment m given sent)) is (did.grew none) in
-          elim (ship-ends l given sent other_letter) [
-            | inl undone_still ↦
-                both_ways (is_listed unit.tid (done_in (log_of after.world unit.tid.system)))
-                (listed-same done_by unit.tid before.world after.world (shipment l given sent)
-                (each-wider (λ next. done_by next ≡ None) (Spares done_by unit.tid) (shipment l given sent)
-                (λ next none_of. none-spares done_by unit.tid next none_of)
-                undone_still) grew unit.tid.system ∙ undone) reads.0
-            | inr ends ↦
-                both_ways (is_listed unit.tid (ended_in (log_of after.world unit.tid.system))) reads.1
-                (subst (λ (t : TidOf). is_listed t (ended_in (log_of after.world t.system)) ≡ true) its
-                (ended-last before.world after.world sent.tid ends.0 (subst (HaveGrown before.world after.world) ends.1 grew)))
-          ]
+        by : (l : Letter) → letter ≡ l → letter ≡ LostConfirmation
+        by LostConfirmation is = is
+        by Whole is = absurd (wrong Whole is (λ lost. cc) whole (grew_so Whole is))
+        by LostRequest is = absurd (wrong LostRequest is (λ lost. cc) whole (grew_so LostRequest is))
+        by LostReply is = absurd (wrong LostReply is (λ lost. cc) whole (grew_so LostReply is))
+        by Twice is = absurd (wrong Twice is (λ lost. cc) whole (grew_so Twice is))
 
-      by : (l : Letter) → letter ≡ l → loses unit.tid (ship other letter) ≡ true
-      by LostConfirmation is = ap (λ m. loses unit.tid (ship other m)) is ∙ on_it
-      by Whole is = absurd (wrong Whole is (λ same. cc))
-      by LostRequest is = absurd (wrong LostRequest is (λ same. cc))
-      by LostReply is = absurd (wrong LostReply is (λ same. cc))
-      by Twice is = absurd (wrong Twice is (λ same. cc))
-  lost-on before after lines lines_after unit (confirm other letter) did on_it none due = by letter refl
-    where
-      sent : AleUnit
-      sent = did.unit
+    -- so did a confirmation
+    confirmed-lost : (unit : AleUnit) (tid : TidOf) (letter : Letter) (whole : Bool) → tid ≡ unit.tid
+        → HasConfirmed faults before after lines lines_after tid letter whole
+        → committed_unit (meaning after.world.rules) after.world unit.tid ≡ Some unit → is_due after.world unit ≡ true → letter ≡ LostConfirmation
+    confirmed-lost unit tid letter whole same did named due = by letter refl
+      where
+        sent : AleUnit
+        sent = did.unit
 
-      its : sent.tid ≡ unit.tid
-      its = (unit_named-Some other (committed_by (meaning before.world.rules) before.world other.system) sent did.committed).1
-          ∙ is_tid-true other unit.tid on_it
+        equal : sent ≡ unit
+        equal =
+            let went = did.went in
+            same_Some sent unit
+            (sym (went.committed tid ∙ did.committed) ∙ ap (committed_unit (meaning after.world.rules) after.world) same ∙ named)
 
-      wrong : (l : Letter) → letter ≡ l → (l ≡ LostConfirmation → ⊥) → ⊥
-      wrong l is other_letter =
-          let reads = due-reads after.world unit due in
-          let ends = confirm-ends l (forgot before.world sent) sent other_letter in
-          both_ways (is_listed unit.tid (ended_in (log_of after.world unit.tid.system))) reads.1
-          (subst (λ (t : TidOf). is_listed t (ended_in (log_of after.world t.system)) ≡ true) its
-          (ended-last before.world after.world sent.tid ends.0
-          (subst (HaveGrown before.world after.world) ends.1
-          (subst (λ m. HaveGrown before.world after.world (confirmation m (forgot before.world sent) sent)) is (did.grew none)))))
+        wrong : (l : Letter) → (l ≡ LostConfirmation → ⊥) → (b : Bool)
+            → AppendedAs before.world after.world (confirmation l (forgot before.world unit) unit) b → ⊥
+        wrong l other true grew =
+            let reads = due-reads after.world unit due in
+            let ends = confirm-ends l (forgot before.world unit) unit other in
+            both_ways (is_listed unit.tid (ended_in (log_of after.world unit.tid.system))) reads.1
+            (ended-last before.world after.world unit.tid ends.0 (subst (HaveGrown before.world after.world) ends.1 grew.grew))
+        wrong l other false grew =
+            cut-due before.world after.world unit (confirmation l (forgot before.world unit) unit) grew
+            (each-confirmed (IsAt unit) unit (inl refl) (inr refl) l (forgot before.world unit)) due
 
-      by : (l : Letter) → letter ≡ l → loses unit.tid (confirm other letter) ≡ true
-      by LostConfirmation is = ap (λ m. loses unit.tid (confirm other m)) is ∙ on_it
-      by Whole is = absurd (wrong Whole is (λ same. cc))
-      by LostRequest is = absurd (wrong LostRequest is (λ same. cc))
-      by LostReply is = absurd (wrong LostReply is (λ same. cc))
-      by Twice is = absurd (wrong Twice is (λ same. cc))
+        grew_so : (l : Letter) → letter ≡ l → AppendedAs before.world after.world (confirmation l (forgot before.world unit) unit) whole
+        grew_so l is =
+            subst (λ m. AppendedAs before.world after.world (confirmation m (forgot before.world unit) unit) whole) is
+            (subst (λ (u : AleUnit). AppendedAs before.world after.world (confirmation letter (forgot before.world u) u) whole) equal did.grew)
+
+        by : (l : Letter) → letter ≡ l → letter ≡ LostConfirmation
+        by LostConfirmation is = is
+        by Whole is = absurd (wrong Whole (λ lost. cc) whole (grew_so Whole is))
+        by LostRequest is = absurd (wrong LostRequest (λ lost. cc) whole (grew_so LostRequest is))
+        by LostReply is = absurd (wrong LostReply (λ lost. cc) whole (grew_so LostReply is))
+        by Twice is = absurd (wrong Twice (λ lost. cc) whole (grew_so Twice is))
+
+    -- an act on the unit of an id that is due after it lost its confirmation
+    lost-on : (unit : AleUnit) (act : Act) → Acted faults before lines act after lines_after → takes unit.tid act ≡ true
+        → committed_unit (meaning after.world.rules) after.world unit.tid ≡ Some unit → is_due after.world unit ≡ true → loses unit.tid act ≡ true
+    lost-on unit (execute system other whole) did on_it named due = cc
+    lost-on unit (ship other letter whole) did on_it named due =
+        let lost = shipped-lost unit other letter whole (is_tid-true other unit.tid on_it) did named due in
+        ap (λ l. loses unit.tid (ship other l whole)) lost ∙ on_it
+    lost-on unit (confirm other letter whole) did on_it named due =
+        let lost = confirmed-lost unit other letter whole (is_tid-true other unit.tid on_it) did named due in
+        ap (λ l. loses unit.tid (confirm other l whole)) lost ∙ on_it
 
   -- ---- lists of acts
 
-  -- a unit that is due after acts was due before, and none of them was on it; or its confirmation was lost
+  pub all-up : (acts : List Act) (before after : KeptOf ModelRules DocumentTables V) (lines lines_after : Lines)
+      → HaveActed faults before lines acts after lines_after → (system : ℕ) → is_up after.world system ≡ true → is_up before.world system ≡ true
+  all-up [] before after lines lines_after did system up = sym (only-up before after did.0 system) ∙ up
+  all-up (act ∷ acts) before after lines lines_after did system up =
+      sym (only-up before did.0 did.3 system)
+      ∙ acted-up did.0 did.1 lines did.2 act did.4 system (all-up acts did.1 after did.2 lines_after did.5 system up)
+
+  all-committed : (acts : List Act) (before after : KeptOf ModelRules DocumentTables V) (lines lines_after : Lines)
+      → HaveActed faults before lines acts after lines_after → (tid : TidOf) (unit : AleUnit)
+      → committed_unit (meaning before.world.rules) before.world tid ≡ Some unit → committed_unit (meaning after.world.rules) after.world tid ≡ Some unit
+  all-committed [] before after lines lines_after did tid unit named = only-committed before after did.0 tid ∙ named
+  all-committed (act ∷ acts) before after lines lines_after did tid unit named =
+      all-committed acts did.1 after did.2 lines_after did.5 tid unit
+      (acted-committed did.0 did.1 lines did.2 act did.4 tid unit (only-committed before did.0 did.3 tid ∙ named))
+
+  -- the unit of an id in which an act took a letter was committed
+  taken-committed : (before after : KeptOf ModelRules DocumentTables V) (lines lines_after : Lines) (tid : TidOf) (act : Act)
+      → Acted faults before lines act after lines_after → takes tid act ≡ true
+      → (sent : AleUnit) × (committed_unit (meaning before.world.rules) before.world tid ≡ Some sent)
+  taken-committed before after lines lines_after tid (ship other letter whole) did on_it =
+      (did.unit, subst (λ t. committed_unit (meaning before.world.rules) before.world t ≡ Some did.unit) (is_tid-true other tid on_it) did.committed)
+  taken-committed before after lines lines_after tid (confirm other letter whole) did on_it =
+      (did.unit, subst (λ t. committed_unit (meaning before.world.rules) before.world t ≡ Some did.unit) (is_tid-true other tid on_it) did.committed)
+  taken-committed before after lines lines_after tid (execute system other whole) did on_it = cc
+
+  -- a unit that is due after acts was due before, and took a letter in none of them; or its confirmation was lost
   pub lost-or-due : (acts : List Act) (before after : KeptOf ModelRules DocumentTables V) (lines lines_after : Lines)
-      → HaveActed faults before lines acts after lines_after
-      → NoneFell before.world after.world → (unit : AleUnit) → is_due after.world unit ≡ true
-      → ((is_due before.world unit ≡ true) × (list_any (is_on unit.tid) acts ≡ false)) ⊎ (list_any (loses unit.tid) acts ≡ true)
-  lost-or-due [] before after lines lines_after did none unit due =
-      inl (ap (λ (k : KeptOf ModelRules DocumentTables V). is_due k.world unit) (sym did.0) ∙ due, refl)
-  lost-or-due (act ∷ acts) before after lines lines_after did none unit due =
-      let between : KeptOf ModelRules DocumentTables V = did.0 in
-      let first = acted-went before between lines did.1 act did.2 in
-      let second = all-went acts between after did.1 lines_after did.3 in
-      let none_first = none-first meaning faults is_work true before between after second none in
-      let none_second = none-second meaning faults is_work true before between after first none in
-      elim (lost-or-due acts between after did.1 lines_after did.3 none_second unit due) [
+      → HaveActed faults before lines acts after lines_after → (unit : AleUnit)
+      → committed_unit (meaning after.world.rules) after.world unit.tid ≡ Some unit → is_due after.world unit ≡ true
+      → ((is_due before.world unit ≡ true) × (list_any (takes unit.tid) acts ≡ false)) ⊎ (list_any (loses unit.tid) acts ≡ true)
+  lost-or-due [] before after lines lines_after did unit named due = inl (sym (only-due before after did.0 unit) ∙ due, refl)
+  lost-or-due (act ∷ acts) before after lines lines_after did unit named due =
+      let start : KeptOf ModelRules DocumentTables V = did.0 in
+      let between : KeptOf ModelRules DocumentTables V = did.1 in
+      elim (lost-or-due acts between after did.2 lines_after did.5 unit named due) [
         | inr lost ↦ inr (ap (λ b. loses unit.tid act || b) lost ∙ or-true (loses unit.tid act))
-        | inl still_due ↦ elim (cases_Bool (is_on unit.tid act)) [
+        | inl still_due ↦ elim (cases_Bool (takes unit.tid act)) [
           | inl on_it ↦
-              inr (ap (λ b. b || list_any (loses unit.tid) acts) (lost-on before between lines did.1 unit act did.2 on_it none_first still_due.0))
+              let sent = taken-committed start between lines did.2 unit.tid act did.4 on_it in
+              let then = acted-committed start between lines did.2 act did.4 unit.tid sent.0 sent.1 in
+              let same : sent.0 ≡ unit =
+              same_Some sent.0 unit (sym (all-committed acts between after did.2 lines_after did.5 unit.tid sent.0 then) ∙ named) in
+              inr (ap (λ b. b || list_any (loses unit.tid) acts)
+              (lost-on start between lines did.2 unit act did.4 on_it (then ∙ ap Some same) still_due.0))
           | inr off ↦
               inl (
-                due-back before.world between.world unit (reads-other before between lines did.1 unit.tid act did.2 off none_first)
-                    (up-back before between first) still_due.0,
-                ap (λ b. b || list_any (is_on unit.tid) acts) off ∙ still_due.1,
+                sym (only-due before start did.3 unit)
+                    ∙ due-back start.world between.world unit (reads-other start between lines did.2 unit.tid act did.4 off)
+                    (acted-up start between lines did.2 act did.4) still_due.0,
+                ap (λ b. b || list_any (takes unit.tid) acts) off ∙ still_due.1,
               )
         ]
       ]
 
-  -- a unit that is due before acts is due after them, or one of them was on it
+  -- a unit that is due before acts is due after them where its systems are up, or it took a letter in one of them
   pub due-or-on : (acts : List Act) (before after : KeptOf ModelRules DocumentTables V) (lines lines_after : Lines)
-      → HaveActed faults before lines acts after lines_after
-      → NoneFell before.world after.world → (unit : AleUnit) → is_due before.world unit ≡ true
-      → (is_due after.world unit ≡ true) ⊎ (list_any (is_on unit.tid) acts ≡ true)
-  due-or-on [] before after lines lines_after did none unit due =
-      inl (ap (λ (k : KeptOf ModelRules DocumentTables V). is_due k.world unit) did.0 ∙ due)
-  due-or-on (act ∷ acts) before after lines lines_after did none unit due =
-      let between : KeptOf ModelRules DocumentTables V = did.0 in
-      let first = acted-went before between lines did.1 act did.2 in
-      let second = all-went acts between after did.1 lines_after did.3 in
-      let none_first = none-first meaning faults is_work true before between after second none in
-      let none_second = none-second meaning faults is_work true before between after first none in
-      elim (cases_Bool (is_on unit.tid act)) [
-        | inl on_it ↦ inr (ap (λ b. b || list_any (is_on unit.tid) acts) on_it)
+      → HaveActed faults before lines acts after lines_after → (unit : AleUnit) → is_due before.world unit ≡ true
+      → is_up after.world unit.tid.system ≡ true → is_up after.world unit.receiver ≡ true
+      → (is_due after.world unit ≡ true) ⊎ (list_any (takes unit.tid) acts ≡ true)
+  due-or-on [] before after lines lines_after did unit due sender receiver = inl (only-due before after did.0 unit ∙ due)
+  due-or-on (act ∷ acts) before after lines lines_after did unit due sender receiver =
+      let start : KeptOf ModelRules DocumentTables V = did.0 in
+      let between : KeptOf ModelRules DocumentTables V = did.1 in
+      let ups = all-up acts between after did.2 lines_after did.5 in
+      elim (cases_Bool (takes unit.tid act)) [
+        | inl on_it ↦ inr (ap (λ b. b || list_any (takes unit.tid) acts) on_it)
         | inr off ↦
-            let due_then = due-on before.world between.world unit (reads-other before between lines did.1 unit.tid act did.2 off none_first) none_first due in
-            elim (due-or-on acts between after did.1 lines_after did.3 none_second unit due_then) [
+            let due_then = due-on start.world between.world unit (reads-other start between lines did.2 unit.tid act did.4 off)
+            (ups unit.tid.system sender) (ups unit.receiver receiver) (only-due before start did.3 unit ∙ due) in
+            elim (due-or-on acts between after did.2 lines_after did.5 unit due_then sender receiver) [
               | inl still_due ↦ inl still_due
-              | inr later ↦ inr (ap (λ b. is_on unit.tid act || b) later ∙ or-true (is_on unit.tid act))
+              | inr later ↦ inr (ap (λ b. takes unit.tid act || b) later ∙ or-true (takes unit.tid act))
             ]
       ]

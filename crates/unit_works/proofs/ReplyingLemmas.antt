@@ -39,13 +39,13 @@ use Rattle.unit_landscape.proofs.ReplyingLemmas.{busy-after, busy-none, lost-app
 use Rattle.unit_works.specs.Events.{is_reply}
 use Rattle.unit_works.specs.Finished.{finished_in, is_ending}
 use Rattle.unit_works.specs.Went.{WentOn}
-use Rattle.unit_works.specs.Claims.{AreOrGone}
-use Rattle.unit_works.specs.Trips.{HaveGrown, NoneFell, noted_of, one_at}
+use Rattle.unit_works.specs.Claims.{AreOrGone, NoneAdded}
+use Rattle.unit_works.specs.Trips.{Appended, Wholly, noted_of, one_at}
 use Rattle.unit_works.specs.steps.Arriving.{event_of}
 use Rattle.unit_works.specs.steps.Claims.{AreWithOut, out_held}
-use Rattle.unit_works.proofs.ClaimLemmas.{held-out, found-last, stands-found_out, without-last}
-use Rattle.unit_works.proofs.FellLemmas.{claims-fell, fell-not_none, finished-fell}
-use Rattle.unit_works.proofs.GrowthLemmas.{happened-grown}
+use Rattle.unit_works.proofs.ClaimLemmas.{found-last, held-out, none-added, none-added-left, stands-found_out, without-last}
+use Rattle.unit_works.proofs.FellLemmas.{claims-fell, fell-was_cut, finished-fell}
+use Rattle.unit_works.proofs.GrowthLemmas.{happened-wholly}
 use Rattle.unit_works.proofs.LogLemmas.{listed}
 use Rattle.unit_works.proofs.StateLemmas.{is_step}
 use Rattle.unit_works.proofs.WentLemmas.{went-same, went-happened, went-fell, went-short, went-whole}
@@ -191,6 +191,20 @@ module _ {R A V : Type 0} (meaning : R → Meaning) (lawful : (r : R) → IsLawf
       let same = did.1 in inr (ap (λ (k : KeptOf R A V). k.world.claims) same ∙ stale-gone others with did.0)
   claims-replied (Err end.OutOfMemory) did other others with = absurd (other refl)
 
+  pub fewer-replied : (result : Result Replied WorkEnd) → RepliedAs (meaning before.world.rules) faults before after claim given result
+      → (result ≡ Err end.OutOfMemory → ⊥) → NoneAdded before.world.claims after.world.claims
+  fewer-replied (Ok replied.Recorded) did other =
+      let closed = recorded-is did.0 did.1 did.2 in
+      none-added-left (λ (h : Held). not (h.number == claim.number)) before.world.claims after.world.claims closed.claims
+  fewer-replied (Ok replied.Released) did other =
+      let closed = released did.1 did.0 did.2 in
+      none-added-left (λ (h : Held). not (h.number == claim.number)) before.world.claims after.world.claims closed.claims
+  fewer-replied (Ok replied.Down) did other =
+      none-added before.world.claims after.world.claims (inr (claims-fell meaning lawful faults before after is ItsEvent did.1))
+  fewer-replied (Err end.Stale) did other =
+      none-added before.world.claims after.world.claims (inl (ap (λ (k : KeptOf R A V). k.world.claims) did.1))
+  fewer-replied (Err end.OutOfMemory) did other = absurd (other refl)
+
   -- ---- what is appended
 
   -- the event says what the sender learnt
@@ -277,24 +291,38 @@ module _ {R A V : Type 0} (meaning : R → Meaning) (lawful : (r : R) → IsLawf
     noted reply.Busy same =
         ap listed (busy-none before.world claim held holds (meaning before.world.rules)) ∙ sym (ap (λ l. noted_of l claim.tid) (learnt-busy learnt same))
 
-  -- where no system fell, the sender appends what it notes of what it learnt
-  pub grown-replied : (learnt : Option CoreAnswer) → stands_out before.world claim ≡ true
+  -- the sender appends what it notes of what it learnt, unless it falls in its place
+  pub appended-replied : (learnt : Option CoreAnswer) → stands_out before.world claim ≡ true
       → reply_event (meaning before.world.rules) before.world claim given ≡ event_of learnt claim.number
       → (result : Result Replied WorkEnd) → RepliedAs (meaning before.world.rules) faults before after claim given result
-      → (result ≡ Err end.OutOfMemory → ⊥) → NoneFell before.world after.world → HaveGrown before.world after.world (noted_of learnt claim.tid)
-  grown-replied learnt stands same result did other none = by_end result did other
+      → (result ≡ Err end.OutOfMemory → ⊥) → Appended before.world after.world (noted_of learnt claim.tid)
+  appended-replied learnt stands same result did other = by_end result did other
     where
-      grown : Happened (meaning before.world.rules) faults before after ItsEvent → HaveGrown before.world after.world (noted_of learnt claim.tid)
-      grown was =
-          let there = held-out before.world claim stands in
-          subst (HaveGrown before.world after.world) (noted there.0 there.1 learnt given same)
-          (happened-grown meaning lawful faults before after is ItsEvent (step-reply given)
-          (record_of (meaning before.world.rules) before.world ItsEvent) refl was)
+      lists : listed (record_of (meaning before.world.rules) before.world ItsEvent) ≡ noted_of learnt claim.tid
+      lists = let there = held-out before.world claim stands in noted there.0 there.1 learnt given same
+
+      appended : Happened (meaning before.world.rules) faults before after ItsEvent → Appended before.world after.world (noted_of learnt claim.tid)
+      appended was = (
+        true,
+        subst (Wholly before.world after.world) lists
+            (happened-wholly meaning lawful faults before after is ItsEvent (step-reply given)
+            (record_of (meaning before.world.rules) before.world ItsEvent) refl was),
+      )
 
       by_end : (r : Result Replied WorkEnd) → RepliedAs (meaning before.world.rules) faults before after claim given r
-          → (r ≡ Err end.OutOfMemory → ⊥) → HaveGrown before.world after.world (noted_of learnt claim.tid)
-      by_end (Ok replied.Recorded) ends some = grown ends.2
-      by_end (Ok replied.Released) ends some = grown ends.2
-      by_end (Ok replied.Down) ends some = absurd (fell-not_none meaning lawful faults before after is ItsEvent ends.1 none)
+          → (r ≡ Err end.OutOfMemory → ⊥) → Appended before.world after.world (noted_of learnt claim.tid)
+      by_end (Ok replied.Recorded) ends some = appended ends.2
+      by_end (Ok replied.Released) ends some = appended ends.2
+      by_end (Ok replied.Down) ends some =
+          let fell = fell-was_cut meaning lawful faults before after is ItsEvent ends.1 (noted_of learnt claim.tid) lists in (false, fell.cut)
       by_end (Err end.Stale) ends some = absurd (both_ways (stands_out before.world claim) ends.0 stands)
       by_end (Err end.OutOfMemory) ends some = absurd (some refl)
+
+  -- a reply to a claim that does not stand leaves all as it is
+  pub stale-replied : stands_out before.world claim ≡ false → (result : Result Replied WorkEnd)
+      → RepliedAs (meaning before.world.rules) faults before after claim given result → (result ≡ Err end.OutOfMemory → ⊥) → after ≡ before
+  stale-replied stale (Ok replied.Recorded) did other = absurd (both_ways (stands_out before.world claim) stale did.0)
+  stale-replied stale (Ok replied.Released) did other = absurd (both_ways (stands_out before.world claim) stale did.0)
+  stale-replied stale (Ok replied.Down) did other = absurd (both_ways (stands_out before.world claim) stale did.0)
+  stale-replied stale (Err end.Stale) did other = did.1
+  stale-replied stale (Err end.OutOfMemory) did other = absurd (other refl)

@@ -29,7 +29,7 @@ use Rattle.trfc_protocol.specs.Meaning.{Meaning}
 use Rattle.trfc_protocol.specs.Offered.{answer_to, is_offered_inbound, is_offered_outbound, may_arrive, offers_received_now}
 use Rattle.trfc_protocol.specs.RecordOf.{Writing, record_if, record_of, record_of_answer, record_of_answered, record_of_arrival, record_of_confirmation, record_of_ending, record_of_failure, record_of_loss, record_of_reply, record_of_run, record_of_work}
 use Rattle.trfc_protocol.specs.Safe.{Safe}
-use Rattle.trfc_protocol.specs.Worlds.{claim_of, committed_by, committed_unit, is_up, log_of, log_or_none, offers_now, one_fall_more, rest_of, state_down, state_of, state_with, up_or_not, with_claim, with_fall, with_record}
+use Rattle.trfc_protocol.specs.Worlds.{claim_of, committed_by, committed_unit, is_up, log_of, log_or_none, offers_now, one_fall_more, rest_of, rest_or_none, state_down, state_of, state_with, up_or_not, with_claim, with_fall, with_record}
 use Rattle.trfc_protocol.proofs.RecordLemmas.{MayWrite-record, each-record}
 use Rattle.trfc_protocol.proofs.SafeLemmas.{committed_unit-is}
 use Rattle.trfc_protocol.proofs.WorldLemmas.{at_each_state, is_up-known, joins-with_state, state_of-elsewhere, state_of-here}
@@ -268,6 +268,13 @@ module _ {R : Type 0} (world : World R) (system : ℕ) (up : is_up world system 
       at_each_state world system (state_with next) known.0 known.1 (λ s found. up_or_not found ≡ is_up world s) (sym (ap up_or_not known.1))
       (λ other differs. refl)
 
+  -- and what each may find
+  record-rest : (next : Record) (other : ℕ) → rest_of (with_record world system next) other ≡ rest_of world other
+  record-rest next =
+      let known = is_up-known world system up in
+      at_each_state world system (state_with next) known.0 known.1 (λ s found. rest_or_none found ≡ rest_of world s) (sym (ap rest_or_none known.1))
+      (λ other differs. refl)
+
   -- and the state of each that is down
   down-differs : (other : ℕ) → is_up world other ≡ false → other ≢ system
   down-differs other down same = both_ways (is_up world system) (sym (ap (is_up world) same) ∙ down) up
@@ -346,6 +353,9 @@ module _ {R : Type 0} (rules : Meaning) (lawful : IsLawful rules) (world : World
   same_up : (other : ℕ) → is_up Claimed other ≡ is_up world other
   same_up other = ap (λ systems. up_or_not (state_of systems other)) (claims_systems rules world e)
 
+  same_rest : (other : ℕ) → rest_of Claimed other ≡ rest_of world other
+  same_rest other = ap (λ systems. rest_or_none (state_of systems other)) (claims_systems rules world e)
+
   claimed_committed : (tid : TidOf) → committed_unit rules Claimed tid ≡ committed_unit rules world tid
   claimed_committed tid =
       ap (λ systems. unit_named tid (rules.committed tid.system (log_or_none (state_of systems tid.system)))) (claims_systems rules world e)
@@ -355,6 +365,12 @@ module _ {R : Type 0} (rules : Meaning) (lawful : IsLawful rules) (world : World
   written-up (Some it) is other =
       let up = (MayWrite-record rules lawful world safe e it is).up in
       record-up Claimed it.system (same_up it.system ∙ up) it.next other ∙ same_up other
+
+  written-rest : (found : Option Writing) → record_of rules world e ≡ found → (other : ℕ) → rest_of (written found Claimed) other ≡ rest_of world other
+  written-rest None is other = same_rest other
+  written-rest (Some it) is other =
+      let up = (MayWrite-record rules lawful world safe e it is).up in
+      record-rest Claimed it.system (same_up it.system ∙ up) it.next other ∙ same_rest other
 
   written-down : (found : Option Writing) → record_of rules world e ≡ found → (other : ℕ) → is_up world other ≡ false
       → state_of (written found Claimed).systems other ≡ state_of world.systems other
@@ -367,6 +383,10 @@ module _ {R : Type 0} (rules : Meaning) (lawful : IsLawful rules) (world : World
   -- leaves which systems are up
   pub step-up : (other : ℕ) → is_up (happens rules world e) other ≡ is_up world other
   step-up other = ap (λ (w : World R). is_up w other) (happens-step e step) ∙ written-up (record_of rules world e) refl other
+
+  -- and what each may find
+  pub step-rest : (other : ℕ) → rest_of (happens rules world e) other ≡ rest_of world other
+  step-rest other = ap (λ (w : World R). rest_of w other) (happens-step e step) ∙ written-rest (record_of rules world e) refl other
 
   -- and the state of each that is down
   pub step-down : (other : ℕ) → is_up world other ≡ false → state_of (happens rules world e).systems other ≡ state_of world.systems other

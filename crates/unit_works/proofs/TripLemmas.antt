@@ -1,8 +1,8 @@
--- What is appended as a unit is delivered, shipped whole and confirmed, where no system fell.
+-- What is appended as a unit is delivered, shipped and confirmed, until a system falls.
 use Rattle.std.specs.Prelude.{Contains, filter}
 use Rattle.std.specs.List.{filter_map}
 use Rattle.std.specs.Option.{option_map_or}
-use Rattle.std.proofs.Common.{◌≡◌, ◌==◌, ◌&&◌, ℕ, not, Bool, true, false, cond, Option, Some, None, List, [], ◌++◌, inl, inr, refl, sym, ap, subst, ◌∙◌}
+use Rattle.std.proofs.Common.{◌≡◌, ◌==◌, ◌&&◌, ℕ, not, Bool, true, false, cond, Option, Some, None, List, [], ◌∷◌, ◌++◌, inl, inr, refl, sym, ap, subst, ◌∙◌}
 use Rattle.std.proofs.lemmas.Bool.{and_from, and_parts, both_ways, cases_Bool, false_from_ne_true, not-true}
 use Rattle.std.proofs.lemmas.List.Elements.{All-contains}
 use Rattle.ale_base.specs.Tid.{TidOf, is_tid}
@@ -45,23 +45,28 @@ use Rattle.unit_landscape.specs.Calls.{is_refused, reply_event, stands_out, was_
 use Rattle.wires.specs.declared.letter.Letter.{Letter}
 use Rattle.wires.specs.declared.letter.Letter.TheVariants.{Whole, LostRequest, LostReply, Twice, LostConfirmation}
 use Rattle.unit_works.specs.Events.{arrives_under, is_answered_under, is_confirmed_under, told_of}
-use Rattle.unit_works.specs.Trips.{HaveGrown, NoneFell, back_of, closing, confirmation, forgot, is_done, is_due, learnt_under, noted_of, one_at, shipment, taken_in}
-use Rattle.unit_works.specs.steps.Arriving.{ClaimsAre, HasAnswered, HasArrived, HasDelivered, Says, Tells, accepted, back_under, event_of, run_held, run_of}
+use Rattle.unit_works.specs.Trips.{Appended, AppendedAs, HaveGrown, Wholly, back_of, closing, confirmation, forgot, is_done, is_due, learnt_under, noted_of, one_at, shipment, taken_in}
+use Rattle.unit_works.specs.steps.Arriving.{AnsweredSo, ArrivedSo, ClaimsAre, HasAnswered, HasArrived, HasDelivered, Says, Tells, accepted, back_under, delivery, event_of, run_held, run_of}
+use Rattle.unit_works.specs.steps.Claims.{WasCut}
 use Rattle.unit_works.specs.steps.Confirming.{sent_to}
-use Rattle.unit_works.specs.steps.Ending.{HasFinished, IsRun, run_at}
+use Rattle.unit_works.specs.steps.Ending.{FinishedSo, IsRun, run_at}
 use Rattle.unit_works.proofs.ClaimLemmas.{found-last, held-out, without-last}
-use Rattle.unit_works.proofs.LogLemmas.{NoneCounts, among-behind, grown-on, grown-same, grown-then_none, same-grown, listed-behind, offers-log, read-same, record-here}
+use Rattle.unit_works.proofs.GrowthLemmas.{appended-on, cut-still, was_cut-then, wholly-on, wholly-same, wholly-then_none}
+use Rattle.unit_works.proofs.LogLemmas.{EachIs, NoneCounts, among-behind, each-first, each-next, same-grown, listed-behind, offers-log, read-same, record-here}
 
 -- ---- a unit arrives, and is answered
 
 -- a unit arrived, and once more, where nothing came of it
 pub arrived-twice : {R : Type 0} (rules : Meaning) (before between after : World R) (unit : AleUnit) (given : Arrival)
-    → HasArrived rules before between unit given → HaveGrown between after [] × (after.claims ≡ between.claims) → HasArrived rules before after unit given
-arrived-twice rules before between after unit given first second = record {
-  tells = first.tells;
-  grew = grown-then_none before between after (accepted (answer_to rules before unit) unit) first.grew second.0;
-  claims = subst (λ c. ClaimsAre c before.claims given) (sym second.1) first.claims;
-}
+    → ArrivedSo rules before between unit given → Wholly between after [] × (after.claims ≡ between.claims) → ArrivedSo rules before after unit given
+arrived-twice rules before between after unit given first second = elim first [
+  | inl arrived ↦ inl (record {
+    tells = arrived.tells;
+    grew = wholly-then_none before between after (accepted (answer_to rules before unit) unit) arrived.grew second.0;
+    claims = subst (λ c. ClaimsAre c before.claims given) (sym second.1) arrived.claims;
+  })
+  | inr fell ↦ inr (was_cut-then before between after (accepted (answer_to rules before unit) unit) fell.0 second.0 second.1, fell.1)
+]
 
 -- the reply to an arrival that begins no run
 abbrev pub reply_at : Arrival → Reply
@@ -76,7 +81,7 @@ module _ {R : Type 0} (world : World R) (unit : AleUnit) (given : Answer) (other
   at_once : (its : Answer) (told : Reply) → given ≡ its → run_of its unit ≡ [] → world.claims ≡ others → Says (back_of its) unit.tid told
       → HasAnswered world world unit given others told
   at_once its told same none claims says = subst (λ a. HasAnswered world world unit a others told) (sym same) (record {
-    grew = subst (HaveGrown world world) (sym none) (grown-same world world (λ system. refl));
+    grew = subst (Wholly world world) (sym none) (wholly-same world world refl);
     claims = claims;
     says = says;
   })
@@ -105,19 +110,25 @@ module _ {R : Type 0} (rules : Meaning) (before : World R) (unit : AleUnit) (giv
     kind = refl;
   }
 
-  -- it is answered once the run has ended
+  -- it is answered once the run has ended, unless its receiver fell then
   pub answered-run : committed_unit rules before unit.tid ≡ Some unit → (after : World R) (how : Finished) (told : Reply)
-      → HasFinished rules before after claim (run_held claim) how
-      → ((tid : TidOf) → IsRun Direct tid how → Says (Some core.Done) tid told) → HasAnswered before after unit given others told
-  answered-run committed after how told finished says = subst (λ a. HasAnswered before after unit a others told) (sym tells.0) (record {
-    grew = subst (HaveGrown before after)
-        (ap (λ t. run_at claim.system (committed_unit rules before t)) tells.1 ∙ ap (run_at claim.system) committed
-        ∙ ap (λ s. one_at s (log.Direct unit)) tells.2)
-        finished.grew;
-    claims = finished.claims ∙ ap (filter (λ (h : Held). not (h.number == claim.number))) claims.0
-        ∙ without-last claim.number others (run_held claim) refl claims.1;
-    says = says unit.tid (subst (λ t. IsRun Direct t how) tells.1 finished.run);
-  })
+      → FinishedSo rules before after claim (run_held claim) how
+      → ((tid : TidOf) → IsRun Direct tid how → Says (Some core.Done) tid told) → AnsweredSo before after unit given others told
+  answered-run committed after how told ends says =
+      subst (λ a. AnsweredSo before after unit a others told) (sym tells.0) (elim ends [
+        | inl finished ↦ inl (record {
+          grew = subst (Wholly before after) its_run finished.grew;
+          claims = finished.claims ∙ ap (filter (λ (h : Held). not (h.number == claim.number))) claims.0
+              ∙ without-last claim.number others (run_held claim) refl claims.1;
+          says = says unit.tid (subst (λ t. IsRun Direct t how) tells.1 finished.run);
+        })
+        | inr fell ↦ inr (subst (WasCut before after) its_run fell.0)
+      ])
+    where
+      its_run : run_at claim.system (committed_unit rules before claim.tid) ≡ run_of answer.Run unit
+      its_run =
+          ap (λ t. run_at claim.system (committed_unit rules before t)) tells.1 ∙ ap (run_at claim.system) committed
+          ∙ ap (λ s. one_at s (log.Direct unit)) tells.2
 
 -- ---- what the answers say
 
@@ -175,7 +186,7 @@ taken-parts answer.Down unit = refl
 pub delivered-lost : {R : Type 0} (rules : Meaning) (world : World R) (claim : OutClaim) (unit : AleUnit) (letter : Letter) (given : Answer) (told : Reply)
     → arrives_under letter ≡ false → told ≡ reply.Lost → HasDelivered rules world world claim unit letter given told
 delivered-lost rules world claim unit letter given told lost same = subst (HasDelivered rules world world claim unit letter given) (sym same) (record {
-  grew = subst (HaveGrown world world) (sym (ap (λ b. cond b (taken_in given unit) []) lost)) (grown-same world world (λ system. refl));
+  grew = subst (Wholly world world) (sym (ap (λ b. cond b (taken_in given unit) []) lost)) (wholly-same world world refl);
   claims = refl;
   event = sym (ap (λ b. event_of (cond b (back_of given) None) claim.number) lost);
 })
@@ -205,7 +216,8 @@ module _ {R : Type 0} (rules : Meaning) (after : World R) (claim : OutClaim) (un
   event-said None reply.SysFail says done refused = absurd says
 
 module _ {R : Type 0} (rules later : Meaning) (before between after : World R) (claim : OutClaim) (unit : AleUnit) (its : unit.tid ≡ claim.tid)
-    (same : later ≡ rules) (named : committed_unit later after claim.tid ≡ Some unit) (none : NoneFell before after) where
+    (same : later ≡ rules) (named : committed_unit later after claim.tid ≡ Some unit)
+    (ups : (system : ℕ) → is_up after system ≡ is_up before system) where
   -- a unit that was taken in last is among those received
   behind : (next : Record) → taken_by next ≡ Some unit → HaveGrown before after (one_at unit.receiver next)
       → is_among unit.tid (received (log_of after unit.receiver)) ≡ true
@@ -232,7 +244,7 @@ module _ {R : Type 0} (rules later : Meaning) (before between after : World R) (
       let up : is_up before unit.receiver ≡ true = parts.0 in
       let logs : log_of after unit.receiver ≡ log_of before unit.receiver = same-grown before after grew unit.receiver in
       let offers : offers_now later after unit.receiver unit.function ≡ false =
-      offers-log later after unit.receiver unit.function (none unit.receiver up)
+      offers-log later after unit.receiver unit.function (ups unit.receiver ∙ up)
       ∙ ap (λ (r : Meaning). r.offers unit.receiver (log_of after unit.receiver) unit.function) same
       ∙ ap (λ l. rules.offers unit.receiver l unit.function) logs
       ∙ sym (offers-log rules before unit.receiver unit.function up) ∙ parts.2 in
@@ -245,11 +257,12 @@ module _ {R : Type 0} (rules later : Meaning) (before between after : World R) (
       → HasDelivered later before after claim unit letter (answer_to rules before unit) told
   delivered-on letter came told arrives first second =
       let given : Answer = answer_to rules before unit in
-      let grew : HaveGrown before after (taken_in given unit) =
-      subst (HaveGrown before after) (taken-parts given unit)
-      (grown-on before between after (accepted given unit) (run_of given unit) first.grew second.grew) in
+      let all : Wholly before after (taken_in given unit) =
+      subst (Wholly before after) (taken-parts given unit)
+      (wholly-on before between after (accepted given unit) (run_of given unit) first.grew second.grew) in
+      let grew : HaveGrown before after (taken_in given unit) = all.grew in
       record {
-        grew = subst (HaveGrown before after) (sym (ap (λ b. cond b (taken_in given unit) []) arrives)) grew;
+        grew = subst (Wholly before after) (sym (ap (λ b. cond b (taken_in given unit) []) arrives)) all;
         claims = second.claims;
         event =
             event-said later after claim unit its (back_of given) told second.says
@@ -267,6 +280,28 @@ module _ {R : Type 0} (rules later : Meaning) (before between after : World R) (
       refused-is answer.Known is = cc
       refused-is answer.Busy is = cc
       refused-is answer.Down is = cc
+
+module _ {R : Type 0} (rules : Meaning) (before between after : World R) (unit : AleUnit) (given : Answer) (letter : Letter)
+    (arrives : arrives_under letter ≡ true) where
+  delivery-parts : accepted given unit ++ run_of given unit ≡ delivery letter given unit
+  delivery-parts = taken-parts given unit ∙ sym (ap (λ b. cond b (taken_in given unit) []) arrives)
+
+  -- its receiver fell as it was to take it in
+  pub delivered-first : WasCut before between (accepted given unit) → after ≡ between → WasCut before after (delivery letter given unit)
+  delivered-first fell same = record {
+    cut = subst (λ xs. AppendedAs before after xs false) delivery-parts
+        (cut-still before between after (accepted given unit) (run_of given unit) fell.cut (wholly-same between after same));
+    claims = ap (λ (w : World R). w.claims) same ∙ fell.claims;
+  }
+
+  -- or as the run of it was to end
+  pub delivered-run : Wholly before between (accepted given unit) → WasCut between after (run_of given unit)
+      → WasCut before after (delivery letter given unit)
+  delivered-run first fell = record {
+    cut = subst (λ xs. AppendedAs before after xs false) delivery-parts
+        (appended-on before between after (accepted given unit) (run_of given unit) first false fell.cut);
+    claims = fell.claims;
+  }
 
 -- ---- the sender learns of it
 
@@ -323,7 +358,7 @@ grown-read : {R T : Type 0} (of : Record → Option T) (before after : World R) 
     → (system : ℕ) → filter_map of (log_of after system) ≡ filter_map of (log_of before system)
 grown-read of before after added grew none system = ap (filter_map of) (grew system) ∙ read-same of system added none (log_of before system)
 
--- ---- a unit is shipped whole
+-- ---- a unit is shipped
 
 -- a unit that is claimed to be shipped is of a sender that is up, and not done, not ended and not forgotten
 record IsOpen {R : Type 0} (world : World R) (unit : AleUnit) : Type 0 where
@@ -383,12 +418,16 @@ and-not : (b c : Bool) → c ≡ false → (b && c) ≡ false
 and-not true c is = is
 and-not false c is = refl
 
-module _ {R : Type 0} (rules : Meaning) (lawful : IsLawful rules) (before delivered replied confirmed : World R) (safe : Safe rules before)
+-- what a sender notes it appends itself
+noted-here : (learnt : Option CoreAnswer) (tid : TidOf) → EachIs (λ it. it.system ≡ tid.system) (noted_of learnt tid)
+noted-here (Some core.Done) tid = (refl, tt)
+noted-here (Some core.SysFail) tid = (refl, tt)
+noted-here (Some core.Busy) tid = tt
+noted-here None tid = (refl, tt)
+
+module _ {R : Type 0} (rules : Meaning) (lawful : IsLawful rules) (before delivered : World R) (safe : Safe rules before)
     (claim : OutClaim) (stands : stands_out before claim ≡ true) (unit : AleUnit) (named : committed_unit rules before claim.tid ≡ Some unit)
-    (letter : Letter)
-    (first : HaveGrown before delivered (cond (arrives_under letter) (taken_in (answer_to rules before unit) unit) []))
-    (second : HaveGrown delivered replied (noted_of (learnt_under letter (answer_to rules before unit)) claim.tid))
-    (stays : NoneFell before replied) where
+    (letter : Letter) where
   abbrev Given : Answer
   Given = answer_to rules before unit
 
@@ -396,80 +435,133 @@ module _ {R : Type 0} (rules : Meaning) (lawful : IsLawful rules) (before delive
   Learnt = learnt_under letter (answer_to rules before unit)
 
   abbrev Taken : List Writing
-  Taken = cond (arrives_under letter) (taken_in (answer_to rules before unit) unit) []
+  Taken = delivery letter (answer_to rules before unit) unit
+
+  abbrev Closing : List Writing
+  Closing = cond (is_confirmed_under letter && is_done Learnt) (closing unit) []
 
   its : unit.tid ≡ claim.tid
   its = (committed_unit-is rules lawful before safe claim.tid unit named).1
 
-  noted : HaveGrown delivered replied (noted_of Learnt unit.tid)
-  noted = subst (λ t. HaveGrown delivered replied (noted_of Learnt t)) (sym its) second
-
   open_ : IsOpen before unit
   open_ = claimed-open rules lawful before safe claim stands unit named
 
-  not-ended : is_listed unit.tid (ended_in (log_of replied unit.tid.system)) ≡ false
-  not-ended =
-      ap (is_listed unit.tid) (grown-read ended_by delivered replied (noted_of Learnt unit.tid) noted (noted-none ended_by unit.tid refl refl refl Learnt)
-      unit.tid.system
-      ∙ grown-read ended_by before delivered Taken first
-      (if-none ended_by (arrives_under letter) (taken_in Given unit) (taken-none ended_by unit refl refl Given)) unit.tid.system)
-      ∙ open_.not_ended
+  -- what was taken in says of no unit that it is done
+  taken-counts : {T : Type 0} (of : Record → Option T) → of (log.Accept unit) ≡ None → of (log.Direct unit) ≡ None → NoneCounts of Taken
+  taken-counts of accept direct = if-none of (arrives_under letter) (taken_in Given unit) (taken-none of unit accept direct Given)
 
-  not-forgot : forgot replied unit ≡ false
-  not-forgot =
-      ap (is_listed unit.tid) (grown-read forgotten_by delivered replied (noted_of Learnt unit.tid) noted
-      (noted-none forgotten_by unit.tid refl refl refl Learnt) unit.receiver
-      ∙ grown-read forgotten_by before delivered Taken first
-      (if-none forgotten_by (arrives_under letter) (taken_in Given unit) (taken-none forgotten_by unit refl refl Given)) unit.receiver)
-      ∙ open_.not_forgot
+  -- a unit that is not done is not unconfirmed
+  undone-not : (world : World R) → is_listed unit.tid (done_in (log_of world unit.tid.system)) ≡ false
+      → (is_up world claim.tid.system && is_unconfirmed claim.tid (log_of world claim.tid.system)) ≡ false
+  undone-not world undone =
+      and-not (is_up world claim.tid.system) (is_unconfirmed claim.tid (log_of world claim.tid.system))
+      (ap (λ b. b && not (is_listed claim.tid (ended_in (log_of world claim.tid.system))))
+      (subst (λ (t : TidOf). is_listed t (done_in (log_of world t.system)) ≡ false) its undone))
 
-  -- where the sender learnt that the unit is done, its confirmation is due
-  due : is_done Learnt ≡ true → is_due replied unit ≡ true
-  due is =
-      let learnt = done-is Learnt is in
-      let up = stays unit.tid.system open_.up in
-      let receiver = stays unit.receiver (done-up rules before unit (done-back (is_answered_under letter) (back_of Given) learnt)) in
-      let grew : HaveGrown delivered replied (one_at unit.tid.system (log.Done unit.tid)) =
-      subst (λ l. HaveGrown delivered replied (noted_of l unit.tid)) learnt noted in
-      let done : is_listed unit.tid (done_in (log_of replied unit.tid.system)) ≡ true =
-      ap (λ l. is_listed unit.tid (done_in l))
-      (grew unit.tid.system ∙ ap (λ l. log_of delivered unit.tid.system ++ l) (record-here unit.tid.system (log.Done unit.tid)))
-      ∙ ap (is_listed unit.tid) (filter_map-Some done_by (log_of delivered unit.tid.system) (log.Done unit.tid) unit.tid refl)
-      ∙ listed-behind unit.tid (done_in (log_of delivered unit.tid.system)) in
-      and_from (is_up replied unit.tid.system && is_up replied unit.receiver) (is_unconfirmed unit.tid (log_of replied unit.tid.system))
-      (and_from (is_up replied unit.tid.system) (is_up replied unit.receiver) up receiver)
-      (and_from (is_listed unit.tid (done_in (log_of replied unit.tid.system))) (not (is_listed unit.tid (ended_in (log_of replied unit.tid.system)))) done
-      (ap not not-ended))
+  -- its receiver fell as it was delivered, and then nothing happened
+  pub shipped-cut : WasCut before delivered Taken → (replied confirmed : World R) → replied ≡ delivered
+      → ((is_up replied claim.tid.system && is_unconfirmed claim.tid (log_of replied claim.tid.system)) ≡ false → confirmed ≡ replied)
+      → Appended before confirmed (shipment letter (answer_to rules before unit) unit)
+  shipped-cut fell replied confirmed still same = (
+    false,
+    cut-still before delivered confirmed (Taken ++ noted_of Learnt unit.tid) Closing
+        (cut-still before delivered delivered Taken (noted_of Learnt unit.tid) fell.cut (wholly-same delivered delivered refl))
+        (wholly-same delivered confirmed (same undone ∙ still)),
+  )
+    where
+      undone : (is_up replied claim.tid.system && is_unconfirmed claim.tid (log_of replied claim.tid.system)) ≡ false
+      undone =
+          let cut = fell.cut in
+          let at = cut.4 in
+          let none : NoneCounts done_by cut.0 =
+          each-first (λ it. done_by it.next ≡ None) cut.0 (cut.2 ∷ cut.1)
+          (subst (EachIs (λ it. done_by it.next ≡ None)) cut.3 (taken-counts done_by refl refl)) in
+          undone-not replied
+          (ap (λ (w : World R). is_listed unit.tid (done_in (log_of w unit.tid.system))) still
+          ∙ ap (is_listed unit.tid) (grown-read done_by before delivered cut.0 at.grew none unit.tid.system)
+          ∙ open_.not_done)
 
-  -- and else it is not done
-  undone : is_done Learnt ≡ false → is_listed claim.tid (done_in (log_of replied claim.tid.system)) ≡ false
-  undone is =
-      subst (λ (t : TidOf). is_listed t (done_in (log_of replied t.system)) ≡ false) its
-      (ap (is_listed unit.tid) (grown-read done_by delivered replied (noted_of Learnt unit.tid) noted (undone-none unit.tid Learnt is) unit.tid.system
-      ∙ grown-read done_by before delivered Taken first
-      (if-none done_by (arrives_under letter) (taken_in Given unit) (taken-none done_by unit refl refl Given)) unit.tid.system)
-      ∙ open_.not_done)
+  module _ (replied confirmed : World R) (first : Wholly before delivered Taken) where
+    module _ (second : Wholly delivered replied (noted_of Learnt unit.tid)) where
+      not-ended : is_listed unit.tid (ended_in (log_of replied unit.tid.system)) ≡ false
+      not-ended =
+          ap (is_listed unit.tid) (grown-read ended_by delivered replied (noted_of Learnt unit.tid) second.grew
+          (noted-none ended_by unit.tid refl refl refl Learnt) unit.tid.system
+          ∙ grown-read ended_by before delivered Taken first.grew (taken-counts ended_by refl refl) unit.tid.system)
+          ∙ open_.not_ended
 
-  -- the records of the whole shipment
-  pub grown-shipped : (is_due replied unit ≡ true
-      → HaveGrown replied confirmed (cond (is_confirmed_under letter) (confirmation Whole (forgot replied unit) unit) []))
-      → ((is_up replied claim.tid.system && is_unconfirmed claim.tid (log_of replied claim.tid.system)) ≡ false → HaveGrown replied confirmed [])
-      → HaveGrown before confirmed (shipment letter (answer_to rules before unit) unit)
-  grown-shipped sent same =
-      grown-on before replied confirmed (Taken ++ noted_of Learnt unit.tid)
-      (cond (is_confirmed_under letter && is_done Learnt) (closing unit) [])
-      (grown-on before delivered replied Taken (noted_of Learnt unit.tid) first noted)
-      (elim (cases_Bool (is_done Learnt)) [
-        | inl is ↦
-            subst (HaveGrown replied confirmed)
-            (ap (λ b. cond (is_confirmed_under letter) (confirmation Whole b unit) []) not-forgot
-            ∙ sym (closing-if (is_confirmed_under letter) (is_done Learnt) (closing unit) is))
-            (sent (due is))
-        | inr other ↦
-            subst (HaveGrown replied confirmed) (sym (closing-not (is_confirmed_under letter) (is_done Learnt) (closing unit) other))
-            (same (and-not (is_up replied claim.tid.system) (is_unconfirmed claim.tid (log_of replied claim.tid.system))
-            (ap (λ b. b && not (is_listed claim.tid (ended_in (log_of replied claim.tid.system)))) (undone other))))
-      ])
+      not-forgot : forgot replied unit ≡ false
+      not-forgot =
+          ap (is_listed unit.tid) (grown-read forgotten_by delivered replied (noted_of Learnt unit.tid) second.grew
+          (noted-none forgotten_by unit.tid refl refl refl Learnt) unit.receiver
+          ∙ grown-read forgotten_by before delivered Taken first.grew (taken-counts forgotten_by refl refl) unit.receiver)
+          ∙ open_.not_forgot
+
+      still-up : (system : ℕ) → is_up before system ≡ true → is_up replied system ≡ true
+      still-up system up = (second.stand system).0 ∙ (first.stand system).0 ∙ up
+
+      -- where the sender learnt that the unit is done, its confirmation is due
+      due : is_done Learnt ≡ true → is_due replied unit ≡ true
+      due is =
+          let learnt = done-is Learnt is in
+          let up = still-up unit.tid.system open_.up in
+          let receiver = still-up unit.receiver (done-up rules before unit (done-back (is_answered_under letter) (back_of Given) learnt)) in
+          let grew : HaveGrown delivered replied (one_at unit.tid.system (log.Done unit.tid)) =
+          subst (λ l. HaveGrown delivered replied (noted_of l unit.tid)) learnt second.grew in
+          let done : is_listed unit.tid (done_in (log_of replied unit.tid.system)) ≡ true =
+          ap (λ l. is_listed unit.tid (done_in l))
+          (grew unit.tid.system ∙ ap (λ l. log_of delivered unit.tid.system ++ l) (record-here unit.tid.system (log.Done unit.tid)))
+          ∙ ap (is_listed unit.tid) (filter_map-Some done_by (log_of delivered unit.tid.system) (log.Done unit.tid) unit.tid refl)
+          ∙ listed-behind unit.tid (done_in (log_of delivered unit.tid.system)) in
+          and_from (is_up replied unit.tid.system && is_up replied unit.receiver) (is_unconfirmed unit.tid (log_of replied unit.tid.system))
+          (and_from (is_up replied unit.tid.system) (is_up replied unit.receiver) up receiver)
+          (and_from (is_listed unit.tid (done_in (log_of replied unit.tid.system))) (not (is_listed unit.tid (ended_in (log_of replied unit.tid.system)))) done
+          (ap not not-ended))
+
+      -- and else it is not done
+      undone : is_done Learnt ≡ false → is_listed unit.tid (done_in (log_of replied unit.tid.system)) ≡ false
+      undone is =
+          ap (is_listed unit.tid) (grown-read done_by delivered replied (noted_of Learnt unit.tid) second.grew (undone-none unit.tid Learnt is) unit.tid.system
+          ∙ grown-read done_by before delivered Taken first.grew (taken-counts done_by refl refl) unit.tid.system)
+          ∙ open_.not_done
+
+    -- the records of the whole shipment, or those before the one at which a system fell
+    pub shipped-noted : (whole : Bool) → AppendedAs delivered replied (noted_of Learnt claim.tid) whole
+        → (is_due replied unit ≡ true
+        → Appended replied confirmed (cond (is_confirmed_under letter) (confirmation Whole (forgot replied unit) unit) []))
+        → ((is_up replied claim.tid.system && is_unconfirmed claim.tid (log_of replied claim.tid.system)) ≡ false → confirmed ≡ replied)
+        → Appended before confirmed (shipment letter (answer_to rules before unit) unit)
+    shipped-noted true second sent same =
+        let noted : Wholly delivered replied (noted_of Learnt unit.tid) = subst (λ t. Wholly delivered replied (noted_of Learnt t)) (sym its) second in
+        let last : Appended replied confirmed Closing =
+        elim (cases_Bool (is_done Learnt)) [
+          | inl is ↦
+              subst (Appended replied confirmed)
+              (ap (λ b. cond (is_confirmed_under letter) (confirmation Whole b unit) []) (not-forgot noted)
+              ∙ sym (closing-if (is_confirmed_under letter) (is_done Learnt) (closing unit) is))
+              (sent (due noted is))
+          | inr other ↦
+              subst (Appended replied confirmed) (sym (closing-not (is_confirmed_under letter) (is_done Learnt) (closing unit) other))
+              (true, wholly-same replied confirmed (same (undone-not replied (undone noted other))))
+        ] in (
+          last.0,
+          appended-on before replied confirmed (Taken ++ noted_of Learnt unit.tid) Closing
+              (wholly-on before delivered replied Taken (noted_of Learnt unit.tid) first noted) last.0 last.1,
+        )
+    shipped-noted false second sent same =
+        let noted : AppendedAs delivered replied (noted_of Learnt unit.tid) false =
+        subst (λ t. AppendedAs delivered replied (noted_of Learnt t) false) (sym its) second in
+        let cut = second.4 in
+        let here : second.2.system ≡ claim.tid.system =
+        each-next (λ it. it.system ≡ claim.tid.system) second.0 second.2 second.1
+        (subst (EachIs (λ it. it.system ≡ claim.tid.system)) second.3 (noted-here Learnt claim.tid)) in
+        let down : is_up replied claim.tid.system ≡ false = subst (λ s. is_up replied s ≡ false) here cut.fell in (
+          false,
+          cut-still before replied confirmed (Taken ++ noted_of Learnt unit.tid) Closing
+              (appended-on before delivered replied Taken (noted_of Learnt unit.tid) first false noted)
+              (wholly-same replied confirmed
+              (same (ap (λ b. b && is_unconfirmed claim.tid (log_of replied claim.tid.system)) down))),
+        )
 
 -- ---- a unit is confirmed
 
@@ -485,27 +577,39 @@ sent-none : (unit : AleUnit) (forgotten : Bool) → NoneCounts ended_by (sent_to
 sent-none unit true = tt
 sent-none unit false = (refl, tt)
 
-module _ {R : Type 0} (before sent : World R) (tid : TidOf) (unit : AleUnit) (its : unit.tid ≡ tid) (due : is_due before unit ≡ true)
-    (grew : HaveGrown before sent (sent_to (forgot before unit) unit)) where
-  -- a unit that is sent its confirmation is not ended yet
-  pub sent-lasts : is_listed tid (ended_in (log_of sent tid.system)) ≡ false
-  sent-lasts =
-      let parts = due-parts before unit due in
-      let lasts = and_parts (is_listed unit.tid (done_in (log_of before unit.tid.system))) (not (is_listed unit.tid (ended_in (log_of before unit.tid.system))))
-      parts.2 in
-      subst (λ (t : TidOf). is_listed t (ended_in (log_of sent t.system)) ≡ false) its
-      (ap (is_listed unit.tid) (grown-read ended_by before sent (sent_to (forgot before unit) unit) grew (sent-none unit (forgot before unit)) unit.tid.system)
-      ∙ not-true (is_listed unit.tid (ended_in (log_of before unit.tid.system))) lasts.1)
+module _ {R : Type 0} (before sent : World R) (tid : TidOf) (unit : AleUnit) where
+  module _ (its : unit.tid ≡ tid) (due : is_due before unit ≡ true) (first : Wholly before sent (sent_to (forgot before unit) unit)) where
+    -- a unit that is sent its confirmation is not ended yet
+    pub sent-lasts : is_listed tid (ended_in (log_of sent tid.system)) ≡ false
+    sent-lasts =
+        let parts = due-parts before unit due in
+        let lasts = and_parts (is_listed unit.tid (done_in (log_of before unit.tid.system)))
+        (not (is_listed unit.tid (ended_in (log_of before unit.tid.system)))) parts.2 in
+        subst (λ (t : TidOf). is_listed t (ended_in (log_of sent t.system)) ≡ false) its
+        (ap (is_listed unit.tid)
+        (grown-read ended_by before sent (sent_to (forgot before unit) unit) first.grew (sent-none unit (forgot before unit)) unit.tid.system)
+        ∙ not-true (is_listed unit.tid (ended_in (log_of before unit.tid.system))) lasts.1)
 
-  pub sent-up : NoneFell before sent → is_up sent tid.system ≡ true
-  sent-up none = let parts = due-parts before unit due in none tid.system (subst (λ (t : TidOf). is_up before t.system ≡ true) its parts.0)
+    pub sent-up : is_up sent tid.system ≡ true
+    sent-up =
+        let parts = due-parts before unit due in
+        (first.stand tid.system).0 ∙ subst (λ (t : TidOf). is_up before t.system ≡ true) its parts.0
 
-  -- the records of the whole confirmation
-  pub grown-confirmed : (ended : World R) → HaveGrown sent ended (one_at tid.system (log.Ended tid))
-      → HaveGrown before ended (confirmation Whole (forgot before unit) unit)
-  grown-confirmed ended last =
-      grown-on before sent ended (sent_to (forgot before unit) unit) (one_at unit.tid.system (log.Ended unit.tid)) grew
-      (subst (λ (t : TidOf). HaveGrown sent ended (one_at t.system (log.Ended t))) (sym its) last)
+    -- the records of the whole confirmation, or that of the receiver alone where the sender fell
+    pub confirmed-ended : (ended : World R) → Appended sent ended (one_at tid.system (log.Ended tid))
+        → Appended before ended (confirmation Whole (forgot before unit) unit)
+    confirmed-ended ended last = (
+      last.0,
+      appended-on before sent ended (sent_to (forgot before unit) unit) (one_at unit.tid.system (log.Ended unit.tid)) first last.0
+          (subst (λ (t : TidOf). AppendedAs sent ended (one_at t.system (log.Ended t)) last.0) (sym its) last.1),
+    )
+
+  -- where the receiver fell, nothing is appended
+  pub confirmed-cut : AppendedAs before sent (sent_to (forgot before unit) unit) false → Appended before sent (confirmation Whole (forgot before unit) unit)
+  confirmed-cut cut = (
+    false,
+    cut-still before sent sent (sent_to (forgot before unit) unit) (one_at unit.tid.system (log.Ended unit.tid)) cut (wholly-same sent sent refl),
+  )
 
 -- a unit of an id is due where both its systems are up and the id is unconfirmed
 pub due-of : {R : Type 0} (world : World R) (tid : TidOf) (unit : AleUnit) → unit.tid ≡ tid → is_up world unit.receiver ≡ true

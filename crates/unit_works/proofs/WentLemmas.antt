@@ -4,9 +4,9 @@ use Rattle.std.specs.List.{list_all}
 use Rattle.std.specs.Option.{unwrap_or}
 use Rattle.std.proofs.Common.{◌≡◌, ◌≢◌, ◌≤◌, ◌-◌, ◌^◌, ℕ, Bool, true, false, ◌&&◌, Option, Some, None, List, [], ◌∷◌, ◌++◌, inl, inr, refl, sym, ap, subst, ◌∙◌, arith}
 use Rattle.std.proofs.lemmas.Bool.{and_parts, and_from, both_ways, cases_Bool, cases_eq}
+use Rattle.std.proofs.lemmas.List.{get_or-set_other}
 use Rattle.std.proofs.lemmas.List.Folds.{list_all-append}
 use Rattle.ale_base.specs.Tid.{TidOf}
-use Rattle.unit_core.specs.declared.ale_unit.AleUnit.{AleUnit}
 use Rattle.unit_core.specs.declared.records.Record.{Record}
 use Rattle.unit_codec.specs.Entries.{entry_with}
 use Rattle.trfc_protocol.specs.declared.event.Event.{Event}
@@ -23,14 +23,16 @@ use Rattle.trfc_protocol.proofs.WorldLemmas.{is_up-known, state_of-least}
 use Rattle.system_journals.specs.declared.journals.SystemJournals.{SystemJournals}
 use Rattle.system_journals.specs.Changes.{OnlyAt}
 use Rattle.system_journals.specs.OnDisk.{full_at, last_moment, later, moment_of, next_moment}
-use Rattle.kept_world.specs.Kept.{KeptOf}
+use Rattle.kept_world.specs.Kept.{KeptOf, overrun_at}
+use Rattle.kept_world.specs.Overruns.{overrun_in}
 use Rattle.unit_landscape.specs.Ends.{NoFaults, Happened, Failed, FellBehind, Stays, FellInstead, IsShort, Overflowed}
 use Rattle.unit_landscape.specs.Kept.{IsLandscape}
 use Rattle.unit_landscape.specs.Writes.{IsTooLong, MomentsAs}
 use Rattle.unit_landscape.proofs.EndsLemmas.{falls-up}
 use Rattle.unit_works.specs.Events.{is_works_record, is_works_rest}
-use Rattle.unit_works.specs.Went.{HasCause, HasNotFallen, HasRisen, IsUnfit, StaysDown, WentOn}
+use Rattle.unit_works.specs.Went.{HasCause, HasNotFallen, HasRisen, HaveWorksBehind, IsUnfit, StaysDown, WentOn}
 use Rattle.unit_works.proofs.FellLemmas.{fell-failed, fell-full, fell-up}
+use Rattle.unit_works.proofs.LogLemmas.{works-event, works-on, works-same}
 use Rattle.unit_works.proofs.StateLemmas.{IsOfWorks, fall-committed, fall-down, fall-is_down, fall-log, fall-only, fall-rest, is_step, step-committed, step-down, step-sent, step-up, step-works}
 
 -- ---- one after the other
@@ -78,8 +80,7 @@ all-wider may might (e ∷ events) wider each =
 module _ {R A V : Type 0} (meaning : R → Meaning) (faults : V → ℕ → ℕ) (before between after : KeptOf R A V) (system : ℕ) where
   -- a record that did not fit does not where its system stays down
   unfit-still : (rules : after.world.rules ≡ between.world.rules)
-      → ((tid : TidOf) (unit : AleUnit) → committed_unit (meaning between.world.rules) between.world tid ≡ Some unit
-      → committed_unit (meaning after.world.rules) after.world tid ≡ Some unit)
+      → ((tid : TidOf) → committed_unit (meaning after.world.rules) after.world tid ≡ committed_unit (meaning between.world.rules) between.world tid)
       → StaysDown between after system → IsUnfit meaning faults before between system → IsUnfit meaning faults before after system
   unfit-still rules committed stays unfit =
       let long = unfit.long in
@@ -88,7 +89,7 @@ module _ {R A V : Type 0} (meaning : R → Meaning) (faults : V → ℕ → ℕ)
         works = unfit.works;
         may = ap (λ (r : R). may_follow (meaning r) system (log_of after.world system) unfit.next) rules
             ∙ ap (λ l. may_follow (meaning between.world.rules) system l unfit.next) stays.log ∙ unfit.may;
-        sent = λ unit takes. committed unit.tid unit (unfit.sent unit takes);
+        sent = λ unit takes. committed unit.tid ∙ unfit.sent unit takes;
         size = unfit.size;
         long = record {
           journal = long.journal;
@@ -96,11 +97,12 @@ module _ {R A V : Type 0} (meaning : R → Meaning) (faults : V → ℕ → ℕ)
           long = long.long ∙ ap (λ m. full_at long.journal (entry_with m unfit.next)) (sym stays.moment);
           over = long.over;
         };
+        told = stays.overrun ∙ unfit.told;
       }
 
   -- a record that does not fit at last did not
   unfit-last : IsUnfit meaning faults between after system → IsUnfit meaning faults before after system
-  unfit-last unfit = record { next = unfit.next; works = unfit.works; may = unfit.may; sent = unfit.sent; size = unfit.size; long = unfit.long }
+  unfit-last unfit = record { next = unfit.next; works = unfit.works; may = unfit.may; sent = unfit.sent; size = unfit.size; long = unfit.long; told = unfit.told }
 
   -- a system that fell at last did so for its cause
   cause-last : (rest : Option Record) → HasNotFallen (faults before.vols (system - 1)) (faults between.vols (system - 1))
@@ -111,8 +113,7 @@ module _ {R A V : Type 0} (meaning : R → Meaning) (faults : V → ℕ → ℕ)
 
   -- so did one that fell before, and stays down
   cause-first : (rest : Option Record) → (rules : after.world.rules ≡ between.world.rules)
-      → ((tid : TidOf) (unit : AleUnit) → committed_unit (meaning between.world.rules) between.world tid ≡ Some unit
-      → committed_unit (meaning after.world.rules) after.world tid ≡ Some unit)
+      → ((tid : TidOf) → committed_unit (meaning after.world.rules) after.world tid ≡ committed_unit (meaning between.world.rules) between.world tid)
       → HasNotFallen (faults between.vols (system - 1)) (faults after.vols (system - 1)) → StaysDown between after system
       → HasCause meaning faults before between system rest → HasCause meaning faults before after system rest
   cause-first (Some next) rules committed holds stays cause =
@@ -131,11 +132,12 @@ module _ {R A V : Type 0} (meaning : R → Meaning) (faults : V → ℕ → ℕ)
     each = refl;
     world = refl;
     rules = refl;
-    committed = λ tid unit named. named;
+    logs = works-same kept.world kept.world (λ system. refl);
+    committed = λ tid. refl;
     moment = refl;
     counts = λ place. inl (omega arith);
     unharmed = λ system least up. refl;
-    stays = λ system least down. record { down = down; rest = refl; log = refl; journal = refl; moment = refl };
+    stays = λ system least down. record { down = down; rest = refl; log = refl; journal = refl; moment = refl; overrun = refl };
     falls = λ is system up down. absurd (both_ways (is_up kept.world system) down up);
   }
 
@@ -149,6 +151,7 @@ module _ {R A V : Type 0} (meaning : R → Meaning) (faults : V → ℕ → ℕ)
     each = went.each;
     world = went.world;
     rules = went.rules;
+    logs = went.logs;
     committed = went.committed;
     moment = went.moment;
     counts = went.counts;
@@ -166,7 +169,8 @@ module _ {R A V : Type 0} (meaning : R → Meaning) (faults : V → ℕ → ℕ)
     each = list_all-append may first.events second.events ∙ and_from (list_all may first.events) (list_all may second.events) first.each second.each;
     world = second.world ∙ ap (λ (w : World R). run meaning w second.events) first.world ∙ sym (run-append meaning before.world first.events second.events);
     rules = second.rules ∙ first.rules;
-    committed = λ tid unit named. second.committed tid unit (first.committed tid unit named);
+    logs = works-on before.world between.world after.world first.logs second.logs;
+    committed = λ tid. second.committed tid ∙ first.committed tid;
     moment = second.moment ∙ first.moment;
     unharmed = λ system least up. elim (cases_Bool (is_up between.world system)) [
       | inl still ↦ second.unharmed system least up ∙ first.unharmed system least still
@@ -177,7 +181,14 @@ module _ {R A V : Type 0} (meaning : R → Meaning) (faults : V → ℕ → ℕ)
     stays = λ system least down.
         let one = first.stays system least down in
         let two = second.stays system least one.down in
-        record { down = two.down; rest = two.rest ∙ one.rest; log = two.log ∙ one.log; journal = two.journal ∙ one.journal; moment = two.moment ∙ one.moment };
+        record {
+          down = two.down;
+          rest = two.rest ∙ one.rest;
+          log = two.log ∙ one.log;
+          journal = two.journal ∙ one.journal;
+          moment = two.moment ∙ one.moment;
+          overrun = two.overrun ∙ one.overrun;
+        };
     falls = λ is system up down. elim (cases_Bool (is_up between.world system)) [
       | inl still ↦ cause-last meaning faults before between after system (rest_of after.world system) (first.counts (system - 1))
           (second.falls is system still down)
@@ -197,6 +208,7 @@ module _ {R A V : Type 0} (meaning : R → Meaning) (faults : V → ℕ → ℕ)
     each = all-wider may might went.events wider went.each;
     world = went.world;
     rules = went.rules;
+    logs = went.logs;
     committed = went.committed;
     moment = went.moment;
     counts = went.counts;
@@ -232,14 +244,19 @@ module _ {R A V : Type 0} (meaning : R → Meaning) (lawful : (r : R) → IsLawf
 
   same-state : (other : ℕ) → is_up before.world other ≡ false → state_of after.world.systems other ≡ state_of before.world.systems other
       → slice_get after.journals.journals (other - 1) ≡ slice_get before.journals.journals (other - 1)
-      → next_moment after.journals (other - 1) ≡ next_moment before.journals (other - 1) → StaysDown before after other
-  same-state other down state journal moment = record {
+      → next_moment after.journals (other - 1) ≡ next_moment before.journals (other - 1) → overrun_at after other ≡ overrun_at before other
+      → StaysDown before after other
+  same-state other down state journal moment overrun = record {
     down = ap up_or_not state ∙ down;
     rest = ap rest_or_none state;
     log = ap log_or_none state;
     journal = journal;
     moment = moment;
+    overrun = overrun;
   }
+
+  same-overrun : after.overruns ≡ before.overruns → (other : ℕ) → overrun_at after other ≡ overrun_at before other
+  same-overrun same other = ap (λ all. overrun_in all other) same
 
   same-journals : after.journals ≡ before.journals → (other : ℕ)
       → (slice_get after.journals.journals (other - 1) ≡ slice_get before.journals.journals (other - 1))
@@ -259,9 +276,8 @@ module _ {R A V : Type 0} (meaning : R → Meaning) (lawful : (r : R) → IsLawf
 
   by-rules : (rules : after.world.rules ≡ before.world.rules) → ((tid : TidOf)
       → committed_unit (meaning before.world.rules) after.world tid ≡ committed_unit (meaning before.world.rules) before.world tid)
-      → (tid : TidOf) (unit : AleUnit) → committed_unit (meaning before.world.rules) before.world tid ≡ Some unit
-      → committed_unit (meaning after.world.rules) after.world tid ≡ Some unit
-  by-rules rules same tid unit named = ap (λ (r : R). committed_unit (meaning r) after.world tid) rules ∙ same tid ∙ named
+      → (tid : TidOf) → committed_unit (meaning after.world.rules) after.world tid ≡ committed_unit (meaning before.world.rules) before.world tid
+  by-rules rules same tid = ap (λ (r : R). committed_unit (meaning r) after.world tid) rules ∙ same tid
 
   moments-moment : (found : Option Writing) → MomentsAs before.journals after.journals found → moment_of after.journals ≡ moment_of before.journals
   moments-moment None same = ap (λ (j : SystemJournals). moment_of j) same
@@ -275,6 +291,8 @@ module _ {R A V : Type 0} (meaning : R → Meaning) (lawful : (r : R) → IsLawf
     each = and_from (may e) true is_may refl;
     world = did.world;
     rules = (Safe-step meaning lawful before.world after.world e is.safe did.world).0;
+    logs = subst (HaveWorksBehind before.world) (sym did.world)
+        (works-event (meaning before.world.rules) (lawful before.world.rules) before.world is.safe e step);
     committed = by-rules (Safe-step meaning lawful before.world after.world e is.safe did.world).0
         (λ tid. ap (λ (w : World R). committed_unit (meaning before.world.rules) w tid) did.world
         ∙ step-committed (meaning before.world.rules) (lawful before.world.rules) before.world is.safe e step tid);
@@ -285,7 +303,8 @@ module _ {R A V : Type 0} (meaning : R → Meaning) (lawful : (r : R) → IsLawf
         let journals = moments-still e (record_of (meaning before.world.rules) before.world e) refl did.moments other least down in
         same-state other down
         (ap (λ (w : World R). state_of w.systems other) did.world
-        ∙ step-down (meaning before.world.rules) (lawful before.world.rules) before.world is.safe e step other down) journals.0 journals.1;
+        ∙ step-down (meaning before.world.rules) (lawful before.world.rules) before.world is.safe e step other down) journals.0 journals.1
+        (same-overrun did.overruns other);
     falls = λ is_whole other up down.
         absurd (both_ways (is_up before.world other)
         (sym (step-up (meaning before.world.rules) (lawful before.world.rules) before.world is.safe e step other)
@@ -299,13 +318,14 @@ module _ {R A V : Type 0} (meaning : R → Meaning) (lawful : (r : R) → IsLawf
     each = refl;
     world = did.world;
     rules = ap (λ (w : World R). w.rules) did.world;
+    logs = works-same before.world after.world (λ system. ap (λ (w : World R). log_of w system) did.world);
     committed = by-rules (ap (λ (w : World R). w.rules) did.world) (λ tid. ap (λ (w : World R). committed_unit (meaning before.world.rules) w tid) did.world);
     moment = ap (λ (j : SystemJournals). moment_of j) did.journals;
     unharmed = λ other least up. did.no_faults (other - 1);
     counts = counted-same did.no_faults;
     stays = λ other least down.
         let journals = same-journals did.journals other in
-        same-state other down (ap (λ (w : World R). state_of w.systems other) did.world) journals.0 journals.1;
+        same-state other down (ap (λ (w : World R). state_of w.systems other) did.world) journals.0 journals.1 (same-overrun did.overruns other);
     falls = λ is_whole other up down. absurd (both_ways (is_up before.world other) (sym (ap (λ (w : World R). is_up w other) did.world) ∙ down) up);
   }
 
@@ -313,14 +333,18 @@ module _ {R A V : Type 0} (meaning : R → Meaning) (lawful : (r : R) → IsLawf
     -- a system fell
     one-fall : (whole : Bool) (system : ℕ) (rest : Option Record) → is_works_rest rest ≡ true → is_up before.world system ≡ true
         → after.world ≡ happens (meaning before.world.rules) before.world (Fall system rest) → after.world ≡ with_fall before.world system rest
-        → after.journals ≡ before.journals → ((place : ℕ) → HasNotFallen (faults before.vols place) (faults after.vols place))
+        → after.journals ≡ before.journals
+        → ((other : ℕ) → 1 ≤ other → is_up before.world other ≡ false → overrun_at after other ≡ overrun_at before other)
+        → ((place : ℕ) → HasNotFallen (faults before.vols place) (faults after.vols place))
         → ((other : ℕ) → 1 ≤ other → is_up after.world other ≡ true → faults after.vols (other - 1) ≡ faults before.vols (other - 1))
         → HasCause meaning faults before after system rest → WentOn meaning faults may whole before after
-    one-fall whole system rest works up world fall journals counts unharmed cause = record {
+    one-fall whole system rest works up world fall journals overruns counts unharmed cause = record {
       events = Fall system rest ∷ [];
       each = and_from (may (Fall system rest)) true (falls system rest works) refl;
       world = world;
       rules = (Safe-step meaning lawful before.world after.world (Fall system rest) is.safe world).0;
+      logs = works-same before.world after.world
+          (λ other. ap (λ (w : World R). log_of w other) fall ∙ fall-log before.world system up rest other);
       committed = by-rules (Safe-step meaning lawful before.world after.world (Fall system rest) is.safe world).0
           (λ tid. ap (λ (w : World R). committed_unit (meaning before.world.rules) w tid) fall
           ∙ fall-committed before.world system up rest (meaning before.world.rules) tid);
@@ -329,7 +353,8 @@ module _ {R A V : Type 0} (meaning : R → Meaning) (lawful : (r : R) → IsLawf
       counts = counts;
       stays = λ other least down.
           let same = same-journals journals other in
-          same-state other down (ap (λ (w : World R). state_of w.systems other) fall ∙ fall-down before.world system up rest other down) same.0 same.1;
+          same-state other down (ap (λ (w : World R). state_of w.systems other) fall ∙ fall-down before.world system up rest other down) same.0 same.1
+          (overruns other least down);
       falls = λ is_whole other was down.
           let its : other ≡ system = fall-only before.world system up rest other was (sym (ap (λ (w : World R). is_up w other) fall) ∙ down) in
           subst (λ s. HasCause meaning faults before after s (rest_of after.world s)) (sym its)
@@ -390,10 +415,11 @@ module _ {R A V : Type 0} (meaning : R → Meaning) (lawful : (r : R) → IsLawf
           sent = λ unit takes.
               by-rules rules
               (λ tid. ap (λ (w : World R). committed_unit (meaning before.world.rules) w tid) fall
-              ∙ fall-committed before.world it.system up None (meaning before.world.rules) tid) unit.tid unit
-              (step-sent (meaning before.world.rules) (lawful before.world.rules) before.world is.safe e it writes unit takes);
+              ∙ fall-committed before.world it.system up None (meaning before.world.rules) tid) unit.tid
+              ∙ (step-sent (meaning before.world.rules) (lawful before.world.rules) before.world is.safe e it writes unit takes);
           size = did.size;
           long = subst (λ (j : SystemJournals). IsTooLong j it did.size) (sym did.journals) did.long;
+          told = did.told;
         }
 
     pub went-fell : (whole : Bool) (e : Event) → is_step e ≡ true → FellInstead (meaning before.world.rules) faults before after e
@@ -405,10 +431,12 @@ module _ {R A V : Type 0} (meaning : R → Meaning) (lawful : (r : R) → IsLawf
           | inl failed ↦
               one-fall whole it.system (Some it.next) (works-of e it step did.1) up failed.world
               (fell-failed meaning lawful faults before after is e did failed)
-              failed.journals (failed-counts it failed)
+              failed.journals (λ other least down. same-overrun failed.overruns other) (failed-counts it failed)
               (failed-unharmed it up failed (fell-failed meaning lawful faults before after is e did failed)) (failed-risen it failed)
           | inr full ↦
               one-fall whole it.system None refl up full.world (fell-full meaning lawful faults before after is e did full) full.journals
+              (λ other least down. ap (λ all. overrun_in all other) full.overruns
+              ∙ get_or-set_other before.overruns (it.system - 1) (other - 1) (Some full.size) None (places-differ it.system other up least down))
               (λ place. inl (omega (arith, ap (λ (vols : V). faults vols place) full.vols)))
               (λ other least still. ap (λ (vols : V). faults vols (other - 1)) full.vols)
               (unfit e it step did.1 up (fell-full meaning lawful faults before after is e did full) full)
@@ -432,6 +460,8 @@ module _ {R A V : Type 0} (meaning : R → Meaning) (lawful : (r : R) → IsLawf
           each = and_from (may e) (may (Fall it.system None) && true) is_may (and_from (may (Fall it.system None)) true (falls it.system None refl) refl);
           world = by;
           rules = (Safe-step meaning lawful between after.world (Fall it.system None) first.1 by).0 ∙ first.0;
+          logs = works-on before.world between after.world (works-event rules law before.world is.safe e step)
+              (works-same between after.world (λ other. ap (λ (w : World R). log_of w other) fall ∙ fall-log between it.system still None other));
           committed = by-rules ((Safe-step meaning lawful between after.world (Fall it.system None) first.1 by).0 ∙ first.0)
               (λ tid. ap (λ (w : World R). committed_unit rules w tid) fall ∙ fall-committed between it.system still None rules tid
               ∙ step-committed rules law before.world is.safe e step tid);
@@ -445,7 +475,7 @@ module _ {R A V : Type 0} (meaning : R → Meaning) (lawful : (r : R) → IsLawf
               same-state other down
               (ap (λ (w : World R). state_of w.systems other) fall
               ∙ fall-down between it.system still None other (step-up rules law before.world is.safe e step other ∙ down)
-              ∙ step-down rules law before.world is.safe e step other down) journals.0 journals.1;
+              ∙ step-down rules law before.world is.safe e step other down) journals.0 journals.1 (same-overrun did.overruns other);
           falls = λ is_whole. absurd (cc);
         }
 

@@ -2,7 +2,7 @@
 use Rattle.std.specs.Prelude.{Result, Ok, Err, IfOk, IsErr, OnOk}
 use Rattle.ale_base.specs.declared.out_of_memory.OutOfMemory.{OutOfMemory}
 use Rattle.std.specs.Result.{is_ok}
-use Rattle.std.proofs.Common.{◌≡◌, ◌+◌, ◌≤◌, ℕ, Bool, true, not, cond, Option, Some, List, [], ◌&&◌, inl, inr, refl, sym, ap, subst, ◌∙◌, arith, false}
+use Rattle.std.proofs.Common.{◌≡◌, ◌≤◌, ◌+◌, ℕ, Bool, true, not, cond, Option, Some, List, [], ◌&&◌, inl, inr, refl, sym, ap, subst, ◌∙◌, arith, false}
 use Rattle.std.proofs.lemmas.Bool.{cases_Bool}
 use Rattle.std.proofs.lemmas.Option.{same_Some}
 use Rattle.ale_base.specs.Tid.{TidOf}
@@ -17,6 +17,7 @@ use Rattle.system_tables.specs.OfLog.{is_unconfirmed}
 use Rattle.trfc_protocol.specs.declared.answer.Answer.{Answer}
 use Rattle.trfc_protocol.specs.declared.event.CoreAnswer.{CoreAnswer}
 use Rattle.trfc_protocol.specs.declared.held.Held.{Held}
+use Rattle.trfc_protocol.specs.declared.held.HeldKind.TheVariants.{In}
 use Rattle.trfc_protocol.specs.Legal.{IsLawful}
 use Rattle.trfc_protocol.specs.Meaning.{Meaning}
 use Rattle.trfc_protocol.specs.Offered.{answer_to, offers_received_now}
@@ -36,28 +37,29 @@ use Rattle.unit_landscape.specs.declared.answers.Finished.TheVariants as finishe
 use Rattle.unit_landscape.specs.declared.claims.InClaim.{InClaim}
 use Rattle.unit_landscape.specs.declared.claims.OutClaim.{OutClaim}
 use Rattle.unit_landscape.specs.declared.answers.Confirmed.{Confirmed}
+use Rattle.unit_landscape.specs.declared.answers.Confirmed.TheVariants.{Down}
 use Rattle.unit_landscape.specs.Appending.{HoldsIn}
-use Rattle.unit_landscape.specs.Calls.{is_on, is_out, reply_event, stands_out}
+use Rattle.unit_landscape.specs.Calls.{is_on, is_out, reply_event, stands_in, stands_out}
 use Rattle.unit_landscape.specs.Kept.{IsLandscape}
 use Rattle.wires.specs.declared.letter.Letter.{Letter}
 use Rattle.wires.specs.declared.letter.Letter.TheVariants.{Whole}
 use Rattle.wires.specs.Wires.{letters_left, next_letter}
-use Rattle.unit_works.specs.Claims.{AreOrGone}
+use Rattle.unit_works.specs.Claims.{AreOrGone, NoneAdded}
 use Rattle.unit_works.specs.Events.{arrives_under, is_answered_under, is_arrival, is_confirmation, is_confirmed_under, is_confirming, is_delivery, is_end, is_claim, is_run, is_execution, is_lost, is_reply, is_shipping, is_work, told_of}
 use Rattle.unit_works.specs.Finished.{finished_in}
-use Rattle.unit_works.specs.Acts.{GrewBy, HasShipped}
-use Rattle.unit_works.specs.Trips.{HaveGrown, NoneFell, confirmation, execution, forgot, is_due, learnt_under, may_ship, noted_of, one_at, shipment}
+use Rattle.unit_works.specs.Acts.{HasShipped}
+use Rattle.unit_works.specs.Trips.{Appended, AppendedAs, Wholly, confirmation, execution, forgot, is_due, learnt_under, may_ship, noted_of, one_at, shipment}
 use Rattle.unit_works.specs.Worked.{HasTaken, HaveEnded, Lines, Worked}
-use Rattle.unit_works.specs.Works.{ExecutedAs, ShippedAs}
-use Rattle.unit_works.specs.steps.Arriving.{ClaimsAre, ClaimsCome, ClaimsLeft, HasAnswered, HasArrived, HasDelivered, IsAnswered, Tells, event_of, run_held}
-use Rattle.unit_works.specs.steps.Confirming.{HasSent}
+use Rattle.unit_works.specs.Works.{ClaimExecutedAs, ClaimShippedAs, ExecutedAs, ShippedAs}
+use Rattle.unit_works.specs.steps.Arriving.{AnsweredSo, ArrivedSo, ClaimsAre, ClaimsCome, ClaimsLeft, DeliveredSo, IsAnswered, Tells, event_of, run_held}
+use Rattle.unit_works.specs.steps.Confirming.{SentSo}
 use Rattle.unit_works.specs.steps.Claiming.{IsExecuted, IsShipped, in_held}
 use Rattle.unit_works.specs.steps.Claims.{AreWith, AreWithOut}
-use Rattle.unit_works.specs.steps.Ending.{HasFinished, ended_by}
-use Rattle.unit_works.proofs.ClaimLemmas.{found-last}
-use Rattle.unit_works.proofs.GrowthLemmas.{none-first, none-second}
-use Rattle.unit_works.proofs.LogLemmas.{grown-from_none, grown-same}
-use Rattle.unit_works.proofs.TripLemmas.{arrived-twice, delivered-on, event-told, grown-confirmed, grown-shipped, sent-lasts, sent-up}
+use Rattle.unit_works.specs.steps.Ending.{FinishedSo, ended_by, worked_by}
+use Rattle.unit_works.proofs.ArrivingLemmas.{claimed-committed}
+use Rattle.unit_works.proofs.ClaimLemmas.{claimed-executes, claimed-ships, found-last, stands-gone}
+use Rattle.unit_works.proofs.GrowthLemmas.{appended-on}
+use Rattle.unit_works.proofs.TripLemmas.{arrived-twice, confirmed-cut, confirmed-ended, delivered-first, delivered-on, delivered-run, event-told, sent-lasts, sent-up, shipped-cut, shipped-noted}
 use Rattle.unit_works.proofs.WentLemmas.{went-on, went-same, went-whole, went-wider}
 
 -- what the rules of a landscape mean
@@ -231,12 +233,13 @@ module _ {V : Type 0} (faults : V → ℕ → ℕ) where
       → Worked faults claimed after (is_shipping letter) true → IsAnswered claimed.world after.world n
       → ((others : List Held) → AreWithOut claimed.world.claims others claim → AreOrGone after.world.claims others)
       → ((unit : AleUnit) → committed_unit (meaning claimed.world.rules) claimed.world claim.tid ≡ Some unit
-      → GrewBy claimed after (shipment letter (answer_to (meaning claimed.world.rules) claimed.world unit) unit))
+      → Appended claimed.world after.world (shipment letter (answer_to (meaning claimed.world.rules) claimed.world unit) unit))
       → ShippedAs faults before after lines lines_after system (Ok (Some n))
   shipped before claimed after lines lines_after system claim tid letter n went_claim count is its next taken went answered claims grew = (
     tid,
     is.first ∙ ap Some (sym its),
-    subst (HasShipped faults before after lines lines_after tid) next (record {
+    appended.0,
+    subst (λ l. HasShipped faults before after lines lines_after tid l appended.0) next (record {
       unit = is.unit;
       committed = ap (committed_unit (meaning before.world.rules) before.world) its ∙ is.committed;
       may = ap (may_ship (meaning before.world.rules) before.world) its ∙ is.may;
@@ -244,12 +247,11 @@ module _ {V : Type 0} (faults : V → ℕ → ℕ) where
       taken = taken;
       went = on faults (is_shipping letter) true before claimed after (wider faults is_claim (is_shipping letter) true before claimed (claim-ships letter)
           went_claim) went;
-      grew = λ none.
-          grown-from_none before.world claimed.world after.world (shipment letter (answer_to (meaning before.world.rules) before.world is.unit) is.unit) is.grew
-          (subst (λ a. HaveGrown claimed.world after.world (shipment letter a is.unit))
-          (ap (λ (r : ModelRules). answer_to (meaning r) claimed.world is.unit) went_claim.rules ∙ is.answers)
-          (grew is.unit (went_claim.committed claim.tid is.unit is.committed)
-          (none-second meaning faults is_claim true before claimed after went_claim none)));
+      grew = appended-on before.world claimed.world after.world [] (shipment letter (answer_to (meaning before.world.rules) before.world is.unit) is.unit)
+          is.grew
+          appended.0
+          (subst (λ a. AppendedAs claimed.world after.world (shipment letter a is.unit) appended.0)
+          (ap (λ (r : ModelRules). answer_to (meaning r) claimed.world is.unit) went_claim.rules ∙ is.answers) appended.1);
     }),
     record {
       finished = let more = answered.count in omega (arith, count, more);
@@ -257,6 +259,9 @@ module _ {V : Type 0} (faults : V → ℕ → ℕ) where
     },
     answered.few,
   )
+    where
+      appended : Appended claimed.world after.world (shipment letter (answer_to (meaning claimed.world.rules) claimed.world is.unit) is.unit)
+      appended = grew is.unit (went_claim.committed claim.tid ∙ is.committed)
 
   -- a unit that was claimed and executed
   pub executed : (before claimed after : KeptOf ModelRules DocumentTables V) (system : ℕ) (claim : InClaim) (given : Finished)
@@ -264,33 +269,12 @@ module _ {V : Type 0} (faults : V → ℕ → ℕ) where
       → IsExecuted (meaning before.world.rules) before.world claimed.world system claim
       → Worked faults claimed after is_end true → finished_in after.world ≡ finished_in claimed.world + ended_by given
       → ((others : List Held) → AreWith claimed.world.claims others claim → AreOrGone after.world.claims others)
-      → ((held : Held) → HoldsIn claimed.world claim held → NoneFell claimed.world after.world
-      → HasFinished (meaning claimed.world.rules) claimed.world after.world claim held given)
+      → ((held : Held) → HoldsIn claimed.world claim held → FinishedSo (meaning claimed.world.rules) claimed.world after.world claim held given)
       → (n : ℕ) → n ≡ ended_by given → ExecutedAs faults before after system (Ok (Some n))
-  executed before claimed after system claim given went_run count is went more claims grew n told = (
-    claim.tid,
-    is.first,
-    record {
-      may = is.may;
-      went = on faults is_execution true before claimed after (wider faults is_run is_execution true before claimed run-executes went_run)
-          (wider faults is_end is_execution true claimed after end-executes went);
-      grew = λ none.
-          let ended = grew (in_held claim) holds (none-second meaning faults is_run true before claimed after went_run none) in
-          grown-from_none before.world claimed.world after.world
-          (execution (offers_received_now (meaning before.world.rules) before.world system claim.tid) system claim.tid) is.grew
-          (subst (HaveGrown claimed.world after.world)
-          (ap (λ (r : ModelRules). execution (offers_received_now (meaning r) claimed.world claim.system claim.tid) claim.system claim.tid) went_run.rules
-          ∙ ap (λ s. execution (offers_received_now (meaning before.world.rules) claimed.world s claim.tid) s claim.tid) is.here
-          ∙ ap (λ b. execution b system claim.tid) is.offers)
-          ended.grew);
-    },
-    record {
-      finished = omega (arith, count, more, told);
-      claims = claims before.world.claims
-          (record { held = in_held claim; its = record { number = refl; tid = refl; kind = refl }; fresh = is.fresh; are = inl is.claims });
-    },
-    subst (λ k. k ≤ 1) (sym told) (few given),
-  )
+  executed before claimed after system claim given went_run count is went more claims grew n told = elim (grew (in_held claim) holds) [
+    | inl ended ↦ made true ended.grew (told ∙ ended.ended)
+    | inr fell ↦ let cut = fell.0 in made false cut.cut (told ∙ fell.1)
+  ]
     where
       holds : HoldsIn claimed.world claim (in_held claim)
       holds = record {
@@ -299,10 +283,30 @@ module _ {V : Type 0} (faults : V → ℕ → ℕ) where
         kind = refl;
       }
 
-      few : (f : Finished) → ended_by f ≤ 1
-      few (finished.Executed receipt) = omega arith
-      few finished.Failed = omega arith
-      few finished.Down = omega arith
+      made : (whole : Bool) → AppendedAs claimed.world after.world (worked_by (meaning claimed.world.rules) claimed.world (in_held claim) In) whole
+          → n ≡ cond whole 1 0 → ExecutedAs faults before after system (Ok (Some n))
+      made whole appended ends = (
+        claim.tid,
+        is.first,
+        whole,
+        record {
+          may = is.may;
+          went = on faults is_execution true before claimed after (wider faults is_run is_execution true before claimed run-executes went_run)
+              (wider faults is_end is_execution true claimed after end-executes went);
+          grew = appended-on before.world claimed.world after.world []
+              (execution (offers_received_now (meaning before.world.rules) before.world system claim.tid) system claim.tid) is.grew whole
+              (subst (λ xs. AppendedAs claimed.world after.world xs whole)
+              (ap (λ (r : ModelRules). execution (offers_received_now (meaning r) claimed.world claim.system claim.tid) claim.system claim.tid) went_run.rules
+              ∙ ap (λ s. execution (offers_received_now (meaning before.world.rules) claimed.world s claim.tid) s claim.tid) is.here
+              ∙ ap (λ b. execution b system claim.tid) is.offers) appended);
+        },
+        record {
+          finished = omega (arith, count, more, told);
+          claims = claims before.world.claims
+              (record { held = in_held claim; its = record { number = refl; tid = refl; kind = refl }; fresh = is.fresh; are = inl is.claims });
+        },
+        ends,
+      )
 
   -- where memory is wanting, what was done is work
   pub shipped-short : (before after : KeptOf ModelRules DocumentTables V) (lines lines_after : Lines) (system : ℕ) (result : Result (Option ℕ) OutOfMemory)
@@ -315,6 +319,86 @@ module _ {V : Type 0} (faults : V → ℕ → ℕ) where
       → Worked faults before after is_execution false → ExecutedAs faults before after system result
   executed-short before after system (Ok found) short went = absurd (cc)
   executed-short before after system (Err why) short went = went
+
+  -- the unit of a claim that was made before was shipped
+  pub claim-shipped : (before after : KeptOf ModelRules DocumentTables V) (lines lines_after : Lines) (claim : OutClaim) (tid : TidOf) (letter : Letter) (n : ℕ)
+      → IsLandscape meaning before.world → stands_out before.world claim ≡ true
+      → tid ≡ claim.tid → letter ≡ next_letter (letters_left lines tid) → HasTaken tid lines lines_after
+      → Worked faults before after (is_shipping letter) true → IsAnswered before.world after.world n
+      → NoneAdded before.world.claims after.world.claims
+      → ((unit : AleUnit) → committed_unit (meaning before.world.rules) before.world claim.tid ≡ Some unit
+      → Appended before.world after.world (shipment letter (answer_to (meaning before.world.rules) before.world unit) unit))
+      → ClaimShippedAs faults before after lines lines_after claim (Ok (Some n))
+  claim-shipped before after lines lines_after claim tid letter n is stands its next taken went answered fewer grew = (
+    stands,
+    λ moves.
+        let unit = claimed-committed meaning is_lawful before is claim stands in
+        let appended = grew unit.0 unit.1 in (
+          appended.0,
+          subst (λ t. HasShipped faults before after lines lines_after t (next_letter (letters_left lines t)) appended.0) its
+              (subst (λ l. HasShipped faults before after lines lines_after tid l appended.0) next (record {
+                unit = unit.0;
+                committed = ap (committed_unit (meaning before.world.rules) before.world) its ∙ unit.1;
+                may = ap (may_ship (meaning before.world.rules) before.world) its
+                    ∙ claimed-ships (meaning before.world.rules) (is_lawful before.world.rules) before.world is.safe claim stands moves;
+                next = next;
+                taken = taken;
+                went = went;
+                grew = appended.1;
+              })),
+        ),
+    answered.count,
+    fewer,
+    answered.few,
+  )
+
+  pub claim-shipped-short : (before after : KeptOf ModelRules DocumentTables V) (lines lines_after : Lines) (claim : OutClaim)
+      (result : Result (Option ℕ) OutOfMemory) → IsErr result
+      → Worked faults before after is_work false → ClaimShippedAs faults before after lines lines_after claim result
+  claim-shipped-short before after lines lines_after claim (Ok found) short went = absurd (cc)
+  claim-shipped-short before after lines lines_after claim (Err why) short went = went
+
+  -- the unit of a claim that was made before was executed
+  pub claim-executed : (before after : KeptOf ModelRules DocumentTables V) (claim : InClaim) (given : Finished) (n : ℕ)
+      → IsLandscape meaning before.world
+      → (stands_in before.world claim ≡ false → after ≡ before)
+      → Worked faults before after is_end true → finished_in after.world ≡ finished_in before.world + ended_by given
+      → NoneAdded before.world.claims after.world.claims
+      → ((held : Held) → HoldsIn before.world claim held → FinishedSo (meaning before.world.rules) before.world after.world claim held given)
+      → n ≡ ended_by given → ClaimExecutedAs faults before after claim (Ok n)
+  claim-executed before after claim given n is stale went more fewer grew told = (
+    stale,
+    λ held holds kind moves.
+        let its = ap (worked_by (meaning before.world.rules) before.world held) kind in
+        let may = claimed-executes (meaning before.world.rules) (is_lawful before.world.rules) before.world is.safe claim held holds kind moves in
+        let wide = wider faults is_end is_execution true before after end-executes went in
+        elim (grew held holds) [
+          | inl ended ↦ (
+            true,
+            record { may = may; went = wide; grew = subst (λ xs. AppendedAs before.world after.world xs true) its ended.grew },
+            told ∙ ended.ended,
+          )
+          | inr fell ↦
+              let cut = fell.0 in (
+                false,
+                record { may = may; went = wide; grew = subst (λ xs. AppendedAs before.world after.world xs false) its cut.cut },
+                told ∙ fell.1,
+              )
+        ],
+    more ∙ ap (λ k. finished_in before.world + k) (sym told),
+    fewer,
+    subst (λ k. k ≤ 1) (sym told) (few given),
+  )
+    where
+      few : (given : Finished) → ended_by given ≤ 1
+      few (finished.Executed receipt) = omega arith
+      few finished.Failed = omega arith
+      few finished.Down = omega arith
+
+  pub claim-executed-short : (before after : KeptOf ModelRules DocumentTables V) (claim : InClaim) (result : Result ℕ OutOfMemory) → IsErr result
+      → Worked faults before after is_execution false → ClaimExecutedAs faults before after claim result
+  claim-executed-short before after claim (Ok n) short went = absurd (cc)
+  claim-executed-short before after claim (Err why) short went = went
 
 pub claim-works : (e : Event) → is_claim e ≡ true → is_work e ≡ true
 claim-works (event.Claim tid) is = refl
@@ -351,95 +435,114 @@ module _ {V : Type 0} (faults : V → ℕ → ℕ) (letter : Letter) where
 module _ {V : Type 0} (faults : V → ℕ → ℕ) where
   -- a unit that arrived twice
   pub arrived-on : (before between after : KeptOf ModelRules DocumentTables V) (tid : TidOf) (sent : AleUnit) (given : Arrival)
-      → Worked faults before between is_arrival true → Worked faults between after is_arrival true
       → committed_unit (meaning before.world.rules) before.world tid ≡ Some sent
-      → (NoneFell before.world between.world → HasArrived (meaning before.world.rules) before.world between.world sent given)
-      → (NoneFell between.world after.world → HaveGrown between.world after.world [] × (after.world.claims ≡ between.world.claims))
-      → NoneFell before.world after.world → (unit : AleUnit) → committed_unit (meaning before.world.rules) before.world tid ≡ Some unit
-      → HasArrived (meaning before.world.rules) before.world after.world unit given
-  arrived-on before between after tid sent given went_first went_second committed first second none unit named =
-      subst (λ (u : AleUnit). HasArrived (meaning before.world.rules) before.world after.world u given) (same_Some sent unit (sym committed ∙ named))
-      (arrived-twice (meaning before.world.rules) before.world between.world after.world sent given
-      (first (none-first meaning faults is_arrival true before between after went_second none))
-      (second (none-second meaning faults is_arrival true before between after went_first none)))
+      → ArrivedSo (meaning before.world.rules) before.world between.world sent given
+      → Wholly between.world after.world [] × (after.world.claims ≡ between.world.claims)
+      → (unit : AleUnit) → committed_unit (meaning before.world.rules) before.world tid ≡ Some unit
+      → ArrivedSo (meaning before.world.rules) before.world after.world unit given
+  arrived-on before between after tid sent given committed first second unit named =
+      subst (λ (u : AleUnit). ArrivedSo (meaning before.world.rules) before.world after.world u given) (same_Some sent unit (sym committed ∙ named))
+      (arrived-twice (meaning before.world.rules) before.world between.world after.world sent given first second)
 
   -- a unit that arrived, and was answered
   pub delivered : {T : Type 0} (before between after : KeptOf ModelRules DocumentTables V) (claim : OutClaim) (letter : Letter) (came : Arrival)
       (result : Result T OutOfMemory) (told : T → Reply)
       → IsLandscape meaning before.world → arrives_under letter ≡ true
       → Worked faults before between is_arrival true → Worked faults between after is_end (is_ok result)
-      → (NoneFell before.world between.world → (unit : AleUnit) → committed_unit (meaning before.world.rules) before.world claim.tid ≡ Some unit
-      → HasArrived (meaning before.world.rules) before.world between.world unit came)
+      → ((unit : AleUnit) → committed_unit (meaning before.world.rules) before.world claim.tid ≡ Some unit
+      → ArrivedSo (meaning before.world.rules) before.world between.world unit came)
       → ((unit : AleUnit) (given : Answer) (others : List Held) → committed_unit (meaning between.world.rules) between.world unit.tid ≡ Some unit
       → Tells given unit came → ClaimsAre between.world.claims others came
-      → IfOk result (λ answered. NoneFell between.world after.world → HasAnswered between.world after.world unit given others (told answered)))
-      → IfOk result (λ answered. NoneFell before.world after.world → (unit : AleUnit)
+      → IfOk result (λ answered. AnsweredSo between.world after.world unit given others (told answered)))
+      → (came ≡ arrival.Down → after ≡ between)
+      → IfOk result (λ answered. (unit : AleUnit)
       → committed_unit (meaning before.world.rules) before.world claim.tid ≡ Some unit
-      → HasDelivered (meaning after.world.rules) before.world after.world claim unit letter (answer_to (meaning before.world.rules) before.world unit)
+      → DeliveredSo (meaning after.world.rules) before.world after.world claim unit letter (answer_to (meaning before.world.rules) before.world unit)
       (told answered))
-  delivered before between after claim letter came (Err why) told is arrives went_first went_second first second = tt
-  delivered before between after claim letter came (Ok answered) told is arrives went_first went_second first second = λ none unit named.
+  delivered before between after claim letter came (Err why) told is arrives went_first went_second first second idle = tt
+  delivered before between after claim letter came (Ok answered) told is arrives went_first went_second first second idle = λ unit named.
       let its : unit.tid ≡ claim.tid =
       (committed_unit-is (meaning before.world.rules) (is_lawful before.world.rules) before.world is.safe claim.tid unit named).1 in
-      let arrived = first (none-first meaning faults is_end true before between after went_second none) unit named in
-      let named_then = went_first.committed claim.tid unit named in
-      delivered-on (meaning before.world.rules) (meaning after.world.rules) before.world between.world after.world claim unit its
-      (ap meaning (went_second.rules ∙ went_first.rules)) (went_second.committed claim.tid unit named_then) none letter came (told answered) arrives arrived
-      (second unit (answer_to (meaning before.world.rules) before.world unit) before.world.claims
-      (subst (λ t. committed_unit (meaning between.world.rules) between.world t ≡ Some unit) (sym its) named_then) arrived.tells arrived.claims
-      (none-second meaning faults is_arrival true before between after went_first none))
+      let given = answer_to (meaning before.world.rules) before.world unit in
+      let named_then = went_first.committed claim.tid ∙ named in
+      elim (first unit named) [
+        | inl arrived ↦ elim (second unit given before.world.claims
+            (subst (λ t. committed_unit (meaning between.world.rules) between.world t ≡ Some unit) (sym its) named_then) arrived.tells arrived.claims) [
+              | inl replied ↦
+                  inl (delivered-on (meaning before.world.rules) (meaning after.world.rules) before.world between.world after.world claim unit its
+                  (ap meaning (went_second.rules ∙ went_first.rules)) (went_second.committed claim.tid ∙ named_then)
+                  (λ s. let later = replied.grew in let sooner = arrived.grew in (later.stand s).0 ∙ (sooner.stand s).0)
+                  letter came (told answered) arrives arrived replied)
+              | inr fell ↦
+                  inr (delivered-run (meaning before.world.rules) before.world between.world after.world unit given letter arrives arrived.grew fell)
+            ]
+        | inr fell ↦
+            inr (delivered-first (meaning before.world.rules) before.world between.world after.world unit given letter arrives fell.0
+            (ap (λ (k : KeptOf ModelRules DocumentTables V). k.world) (idle fell.1)))
+      ]
 
   -- a unit that was delivered, of which its sender learnt, and that was confirmed
-  pub shipped-grew : (before delivered replied confirmed : KeptOf ModelRules DocumentTables V) (claim : OutClaim) (letter : Letter) (given told : Reply)
+  pub shipped-appended : (before delivered replied confirmed : KeptOf ModelRules DocumentTables V) (claim : OutClaim) (letter : Letter) (given told : Reply)
       (tid : TidOf)
       → IsLandscape meaning before.world → stands_out before.world claim ≡ true → told ≡ told_of letter given → tid ≡ claim.tid
       → Worked faults before delivered (is_delivery letter) true → Worked faults delivered replied (is_reply told) true
-      → Worked faults replied confirmed (is_confirming letter) true
-      → (NoneFell before.world delivered.world → (unit : AleUnit) → committed_unit (meaning before.world.rules) before.world claim.tid ≡ Some unit
-      → HasDelivered (meaning delivered.world.rules) before.world delivered.world claim unit letter
+      → ((unit : AleUnit) → committed_unit (meaning before.world.rules) before.world claim.tid ≡ Some unit
+      → DeliveredSo (meaning delivered.world.rules) before.world delivered.world claim unit letter
       (answer_to (meaning before.world.rules) before.world unit) given)
       → ((learnt : Option CoreAnswer) → stands_out delivered.world claim ≡ true
       → reply_event (meaning delivered.world.rules) delivered.world claim told ≡ event_of learnt claim.number
-      → GrewBy delivered replied (noted_of learnt claim.tid))
+      → Appended delivered.world replied.world (noted_of learnt claim.tid))
+      → (stands_out delivered.world claim ≡ false → replied ≡ delivered)
       → ((unit : AleUnit) → committed_unit (meaning replied.world.rules) replied.world tid ≡ Some unit → is_due replied.world unit ≡ true
-      → GrewBy replied confirmed (cond (is_confirmed_under letter) (confirmation Whole (forgot replied.world unit) unit) []))
+      → Appended replied.world confirmed.world (cond (is_confirmed_under letter) (confirmation Whole (forgot replied.world unit) unit) []))
       → ((is_up replied.world tid.system && is_unconfirmed tid (log_of replied.world tid.system)) ≡ false → confirmed ≡ replied)
       → (unit : AleUnit) → committed_unit (meaning before.world.rules) before.world claim.tid ≡ Some unit
-      → GrewBy before confirmed (shipment letter (answer_to (meaning before.world.rules) before.world unit) unit)
-  shipped-grew before delivered replied confirmed claim letter given told tid is stands tells its went_first went_second went_third first second sent same unit
-      named none =
-      let none_third = none-second meaning faults (is_shipping letter) true before replied confirmed
-      (on faults (is_shipping letter) true before delivered replied
-      (wider faults (is_delivery letter) (is_shipping letter) true before delivered (delivery-ships letter) went_first)
-      (wider faults (is_reply (told_of letter given)) (is_shipping letter) true delivered replied (reply-ships letter given)
-      (subst (λ r. Worked faults delivered replied (is_reply r) true) tells went_second))) none in
-      let none_both = none-first meaning faults (is_confirming letter) true before replied confirmed went_third none in
-      let came = first (none-first meaning faults (is_reply told) true before delivered replied went_second none_both) unit named in
-      let stands_then : stands_out delivered.world claim ≡ true =
-      ap (λ claims. is_on claim.tid (claim_of claim.number claims) && is_out (claim_of claim.number claims)) came.claims ∙ stands in
-      let noted = second (learnt_under letter (answer_to (meaning before.world.rules) before.world unit)) stands_then
-      (ap (reply_event (meaning delivered.world.rules) delivered.world claim) tells
-      ∙ event-told (meaning delivered.world.rules) delivered.world claim letter (answer_to (meaning before.world.rules) before.world unit) given came.event)
-      (none-second meaning faults (is_delivery letter) true before delivered replied went_first none_both) in
-      grown-shipped (meaning before.world.rules) (is_lawful before.world.rules) before.world delivered.world replied.world confirmed.world is.safe
-      claim stands unit named letter came.grew noted none_both
-      (λ due. sent unit
-      (ap (committed_unit (meaning replied.world.rules) replied.world) its
-      ∙ went_second.committed claim.tid unit (went_first.committed claim.tid unit named)) due none_third)
-      (λ undone. grown-same replied.world confirmed.world (λ s. ap (λ (k : KeptOf ModelRules DocumentTables V). log_of k.world s)
-      (same (ap (λ (t : TidOf). is_up replied.world t.system && is_unconfirmed t (log_of replied.world t.system)) its ∙ undone))))
+      → Appended before.world confirmed.world (shipment letter (answer_to (meaning before.world.rules) before.world unit) unit)
+  shipped-appended before delivered replied confirmed claim letter given told tid is stands tells its went_first went_second first second stale sent same unit
+      named = elim (first unit named) [
+        | inl came ↦
+            let stands_then : stands_out delivered.world claim ≡ true =
+            ap (λ claims. is_on claim.tid (claim_of claim.number claims) && is_out (claim_of claim.number claims)) came.claims ∙ stands in
+            let noted = second (learnt_under letter (answer_to (meaning before.world.rules) before.world unit)) stands_then
+            (ap (reply_event (meaning delivered.world.rules) delivered.world claim) tells
+            ∙ event-told (meaning delivered.world.rules) delivered.world claim letter (answer_to (meaning before.world.rules) before.world unit) given
+            came.event) in
+            shipped-noted (meaning before.world.rules) (is_lawful before.world.rules) before.world delivered.world is.safe
+            claim stands unit named letter replied.world confirmed.world came.grew noted.0 noted.1
+            (λ due. sent unit
+            (ap (committed_unit (meaning replied.world.rules) replied.world) its
+            ∙ went_second.committed claim.tid ∙ went_first.committed claim.tid ∙ named) due)
+            unchanged
+        | inr fell ↦
+            shipped-cut (meaning before.world.rules) (is_lawful before.world.rules) before.world delivered.world is.safe
+            claim stands unit named letter fell replied.world confirmed.world
+            (ap (λ (k : KeptOf ModelRules DocumentTables V). k.world) (stale (stands-gone delivered.world claim fell.claims))) unchanged
+      ]
+    where
+      unchanged : (is_up replied.world claim.tid.system && is_unconfirmed claim.tid (log_of replied.world claim.tid.system)) ≡ false
+          → confirmed.world ≡ replied.world
+      unchanged undone =
+          ap (λ (k : KeptOf ModelRules DocumentTables V). k.world)
+          (same (ap (λ (t : TidOf). is_up replied.world t.system && is_unconfirmed t (log_of replied.world t.system)) its ∙ undone))
 
   -- a unit that was sent its confirmation, which was replied to
-  pub done-grew : (before sent ended : KeptOf ModelRules DocumentTables V) (tid : TidOf) (unit : AleUnit) (given : Confirmed)
-      → Worked faults before sent is_confirmation true → Worked faults sent ended is_confirmation true → is_due before.world unit ≡ true
-      → (NoneFell before.world sent.world → HasSent before.world sent.world tid unit given)
+  pub confirmed-done : (before sent ended : KeptOf ModelRules DocumentTables V) (tid : TidOf) (unit : AleUnit) (given : Confirmed)
+      → is_due before.world unit ≡ true → SentSo before.world sent.world tid unit given → (given ≡ Down → ⊥)
       → (is_up sent.world tid.system ≡ true → is_listed tid (ended_in (log_of sent.world tid.system)) ≡ false
-      → GrewBy sent ended (one_at tid.system (Ended tid)))
-      → GrewBy before ended (confirmation Whole (forgot before.world unit) unit)
-  done-grew before sent ended tid unit given went_first went_second due first second none =
-      let none_first = none-first meaning faults is_confirmation true before sent ended went_second none in
-      let came = first none_first in
-      grown-confirmed before.world sent.world tid unit came.its due came.grew ended.world
-      (second (sent-up before.world sent.world tid unit came.its due came.grew none_first)
-      (sent-lasts before.world sent.world tid unit came.its due came.grew)
-      (none-second meaning faults is_confirmation true before sent ended went_first none))
+      → Appended sent.world ended.world (one_at tid.system (Ended tid)))
+      → Appended before.world ended.world (confirmation Whole (forgot before.world unit) unit)
+  confirmed-done before sent ended tid unit given due first came second = elim first [
+    | inl has ↦
+        confirmed-ended before.world sent.world tid unit has.its due has.grew ended.world
+        (second (sent-up before.world sent.world tid unit has.its due has.grew) (sent-lasts before.world sent.world tid unit has.its due has.grew))
+    | inr fell ↦ absurd (came fell.1)
+  ]
+
+  -- nothing came back of it
+  pub confirmed-down : (before sent : KeptOf ModelRules DocumentTables V) (tid : TidOf) (unit : AleUnit) (given : Confirmed)
+      → SentSo before.world sent.world tid unit given → given ≡ Down
+      → Appended before.world sent.world (confirmation Whole (forgot before.world unit) unit)
+  confirmed-down before sent tid unit given first down = elim first [
+    | inl has ↦ absurd (has.came down)
+    | inr fell ↦ confirmed-cut before.world sent.world tid unit fell.0
+  ]

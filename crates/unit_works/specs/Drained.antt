@@ -1,11 +1,14 @@
 -- A drain: works are done until none is left.
-use Rattle.std.specs.Prelude.{◌≡◌, ◌≤◌, ℕ, false, Option, Some, None, List, Result, Ok, Err, true}
-use Rattle.std.specs.List.{list_any}
+use Rattle.std.specs.Prelude.{◌≡◌, ◌≤◌, ◌⊎◌, ℕ, Bool, false, Option, Some, None, List, [], Result, Ok, Err, true, filter}
+use Rattle.std.specs.List.{list_all, list_any}
 use Rattle.ale_base.specs.Tid.{TidOf}
+use Rattle.ale_base.specs.declared.way.Way.TheVariants.{Outgoing}
+use Rattle.unit_core.specs.Filters.{done_in, is_marked}
+use Rattle.unit_core.specs.Queues.{is_listed}
 use Rattle.ale_base.specs.declared.out_of_memory.OutOfMemory.{OutOfMemory}
 use Rattle.unit_core.specs.declared.ale_unit.AleUnit.{AleUnit}
 use Rattle.trfc_protocol.specs.declared.world.World.{World}
-use Rattle.trfc_protocol.specs.Worlds.{committed_unit}
+use Rattle.trfc_protocol.specs.Worlds.{committed_unit, log_of}
 use Rattle.trfc_protocol.specs.Offered.{is_offered_outbound, is_offered_inbound}
 use Rattle.kept_world.specs.Kept.{KeptOf}
 use Rattle.document_tables.specs.declared.document_tables.DocumentTables.{DocumentTables}
@@ -13,8 +16,8 @@ use Rattle.model_rules.specs.declared.model_rules.ModelRules.{ModelRules}
 use Rattle.model_rules.specs.Meaning.{model_meaning}
 use Rattle.unit_works.specs.Events.{is_work}
 use Rattle.unit_works.specs.Worked.{HaveEnded, HaveTaken, Lines, Worked}
-use Rattle.unit_works.specs.Acts.{Act, HaveActed, loses}
-use Rattle.unit_works.specs.Trips.{NoneFell, is_due}
+use Rattle.unit_works.specs.Acts.{Act, HaveActed, confirm, each_but_last_cut, execute, is_cut, loses, ship, takes}
+use Rattle.unit_works.specs.Trips.{is_due}
 
 -- no unit is offered at any system in either direction
 pub record IsIdle (world : World ModelRules) : Type 0 where
@@ -31,24 +34,56 @@ module _ {V : Type 0} (faults : V → ℕ → ℕ) (before : KeptOf ModelRules D
     pub acts : List Act
     pub did : HaveActed faults before lines acts after lines_after
 
-  -- Unless a system fell, each unit whose confirmation is due at the end lost it in one of these acts.
+  -- Each unit whose confirmation is due at the end lost it in one of these acts.
   abbrev pub AreLost : List Act → Type 0
-  AreLost acts = NoneFell before.world after.world → (unit : AleUnit)
+  AreLost acts = (unit : AleUnit)
       → committed_unit (model_meaning after.world.rules.systems) after.world unit.tid ≡ Some unit → is_due after.world unit ≡ true
       → list_any (loses unit.tid) acts ≡ true
 
-  -- Works were done until no unit is offered at any system in either direction, and so many runs and executions ended; unless a system
-  -- fell, no confirmation is due but those that were lost. Where memory is wanting, works were done.
+  -- Each unit takes a second letter only where a system fell in its act before: each of its acts but the last was cut. So it is where no
+  -- claim stood before.
+  abbrev pub AreOnce : List Act → Type 0
+  AreOnce acts = before.world.claims ≡ [] → (tid : TidOf) → each_but_last_cut (filter (takes tid) acts) ≡ true
+
+  -- Works were done until no unit is offered at any system in either direction, and so many runs and executions ended; no confirmation is
+  -- due but those that were lost, and each unit took one letter, and more only where a system fell. Where memory is wanting, works were
+  -- done.
   abbrev pub DrainedAs : Result ℕ OutOfMemory → Type 0
-  DrainedAs (Ok n) = (worked : HasWorked n) × IsIdle after.world × AreLost worked.acts
+  DrainedAs (Ok n) = (worked : HasWorked n) × IsIdle after.world × AreLost worked.acts × AreOnce worked.acts
   DrainedAs (Err short) = Worked faults before after is_work false
 
-  -- ---- what only private functions cite
+-- ---- what only private functions cite
+
+-- its sender says of a unit that it is done, or it marked it: it is not shipped any more
+abbrev pub IsSettled : World ModelRules → TidOf → Type 0
+IsSettled world tid =
+    (is_listed tid (done_in (log_of world tid.system)) ≡ true) ⊎ (is_marked Outgoing tid (log_of world tid.system) ≡ true)
+
+-- an act ships a unit, or executes one
+abbrev pub is_round : Act → Bool
+is_round (ship tid letter whole) = true
+is_round (execute system tid whole) = true
+is_round (confirm tid letter whole) = false
+
+module _ {V : Type 0} (faults : V → ℕ → ℕ) (before : KeptOf ModelRules DocumentTables V) (lines : Lines) (after : KeptOf ModelRules DocumentTables V)
+    (lines_after : Lines) where
+  -- a system fell in each of these acts in which a unit took a letter; or in each but the last, and its sender says that it is done or
+  -- marked
+  abbrev pub TakesOnce : List Act → TidOf → Type 0
+  TakesOnce acts tid =
+      (list_all is_cut (filter (takes tid) acts) ≡ true) ⊎ ((each_but_last_cut (filter (takes tid) acts) ≡ true) × IsSettled after.world tid)
+
+  -- Works were done, and each act ships a unit or executes one. Where no claim stood before, each unit took one letter, and one more only
+  -- where a system fell.
+  pub record HasGone (n : ℕ) : Type 0 where
+    pub worked : HasWorked faults before lines after lines_after n
+    pub ships : list_all is_round worked.acts ≡ true
+    pub once : before.world.claims ≡ [] → (tid : TidOf) → TakesOnce worked.acts tid
 
   -- Works were found, and at most so many runs and executions ended. Where none was found, nothing has changed, and this holds.
   abbrev pub Found : ℕ → Type 0 → Option ℕ → Type 0
   Found most nothing None = (after ≡ before) × (lines_after ≡ lines) × nothing
-  Found most nothing (Some n) = HasWorked n × (n ≤ most)
+  Found most nothing (Some n) = HasGone n × (n ≤ most)
 
   -- the same of a call; where memory is wanting, works were done
   abbrev pub FoundAs : ℕ → Type 0 → Result (Option ℕ) OutOfMemory → Type 0

@@ -1,5 +1,5 @@
 -- What acts append to the logs: a unit is shipped under a letter, executed at its receiver, or confirmed under a letter.
-use Rattle.std.specs.Prelude.{◌≡◌, ℕ, Bool, true, false, ◌==◌, ◌&&◌, Option, Some, None, List, [], ◌∷◌, ◌++◌, map, filter, if◌then◌else◌}
+use Rattle.std.specs.Prelude.{◌≡◌, ◌≢◌, ◌⊎◌, ℕ, Bool, true, false, ◌==◌, ◌&&◌, Option, Some, None, List, [], ◌∷◌, ◌++◌, map, filter, if◌then◌else◌}
 use Rattle.ale_base.specs.Tid.{TidOf}
 use Rattle.ale_base.specs.declared.mark.Mark.TheVariants.{Cpicerr, Sysfail}
 use Rattle.unit_core.specs.declared.ale_unit.AleUnit.{AleUnit}
@@ -14,7 +14,7 @@ use Rattle.trfc_protocol.specs.declared.answer.Answer.TheVariants as answer
 use Rattle.trfc_protocol.specs.declared.event.CoreAnswer.{CoreAnswer}
 use Rattle.trfc_protocol.specs.declared.event.CoreAnswer.TheVariants as reply
 use Rattle.trfc_protocol.specs.Meaning.{Meaning}
-use Rattle.trfc_protocol.specs.Worlds.{is_up, log_of, committed_by, committed_unit}
+use Rattle.trfc_protocol.specs.Worlds.{is_up, log_of, rest_of, committed_by, committed_unit}
 use Rattle.trfc_protocol.specs.Legal.{is_free_outbound, is_free_inbound}
 use Rattle.trfc_protocol.specs.Offered.{is_stopped_outbound, is_stopped_inbound, may_move}
 use Rattle.trfc_protocol.specs.RecordOf.{Writing}
@@ -29,9 +29,31 @@ records_at system added = map (λ (it : Writing). it.next) (filter (λ (it : Wri
 abbrev pub HaveGrown : {R : Type 0} → World R → World R → List Writing → Type 0
 HaveGrown before after added = (system : ℕ) → log_of after system ≡ log_of before system ++ records_at system added
 
--- no system fell: each that was up is up
-abbrev pub NoneFell : {R : Type 0} → World R → World R → Type 0
-NoneFell before after = (system : ℕ) → is_up before system ≡ true → is_up after system ≡ true
+-- These records were appended, one after the other, and no system fell: each is up or down as before, and may find what it might.
+pub record Wholly {R : Type 0} (before after : World R) (added : List Writing) : Type 0 where
+  pub grew : HaveGrown before after added
+  pub stand : (system : ℕ) → (is_up after system ≡ is_up before system) × (rest_of after system ≡ rest_of before system)
+
+-- These records were appended, one after the other, and a system fell as it was to append one more: it may find that one, or nothing. All
+-- other systems are up or down as before, and may find what they might.
+pub record CutAt {R : Type 0} (before after : World R) (done : List Writing) (next : Writing) : Type 0 where
+  pub grew : HaveGrown before after done
+  pub up : is_up before next.system ≡ true
+  pub fell : is_up after next.system ≡ false
+  pub rest : (rest_of after next.system ≡ None) ⊎ (rest_of after next.system ≡ Some next.next)
+  pub others : (system : ℕ) → system ≢ next.system
+      → (is_up after system ≡ is_up before system) × (rest_of after system ≡ rest_of before system)
+
+-- Of these records, in this order, all were appended: that was whole. Or it was cut, where a system fell as it was to append one of them:
+-- those before it were appended, and none behind it.
+abbrev pub AppendedAs : {R : Type 0} → World R → World R → List Writing → Bool → Type 0
+AppendedAs before after added true = Wholly before after added
+AppendedAs before after added false =
+    (done : List Writing) × (rest : List Writing) × (next : Writing) × (added ≡ done ++ next ∷ rest) × CutAt before after done next
+
+-- the same, whether it was whole or cut
+abbrev pub Appended : {R : Type 0} → World R → World R → List Writing → Type 0
+Appended before after added = (whole : Bool) × AppendedAs before after added whole
 
 -- one record more at a system
 abbrev pub one_at : ℕ → Record → List Writing

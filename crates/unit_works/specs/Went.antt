@@ -1,17 +1,18 @@
 -- A landscape goes on by events.
-use Rattle.std.specs.Prelude.{◌≡◌, ◌≤◌, ◌<◌, ◌⊎◌, ◌-◌, ◌^◌, ℕ, Bool, true, false, Option, Some, None, List, slice_get}
+use Rattle.std.specs.Prelude.{◌≡◌, ◌≤◌, ◌<◌, ◌⊎◌, ◌-◌, ◌^◌, ℕ, Bool, true, false, Option, Some, None, List, ◌++◌, slice_get}
 use Rattle.std.specs.List.{list_all}
 use Rattle.ale_base.specs.Tid.{TidOf}
 use Rattle.unit_core.specs.declared.ale_unit.AleUnit.{AleUnit}
 use Rattle.unit_core.specs.declared.records.Record.{Record}
 use Rattle.unit_core.specs.Filters.{taken_by}
 use Rattle.trfc_protocol.specs.declared.event.Event.{Event}
+use Rattle.trfc_protocol.specs.declared.world.World.{World}
 use Rattle.trfc_protocol.specs.Happens.{run}
 use Rattle.trfc_protocol.specs.Meaning.{Meaning}
 use Rattle.trfc_protocol.specs.Legal.{may_follow}
 use Rattle.trfc_protocol.specs.Worlds.{committed_unit, is_up, log_of, rest_of}
 use Rattle.system_journals.specs.OnDisk.{moment_of, next_moment}
-use Rattle.kept_world.specs.Kept.{KeptOf}
+use Rattle.kept_world.specs.Kept.{KeptOf, overrun_at}
 use Rattle.unit_landscape.specs.Writes.{IsTooLong}
 use Rattle.unit_works.specs.Events.{is_works_record}
 
@@ -25,7 +26,7 @@ HasRisen before after = (before < after) ⊎ (2 ^ 64 - 1 ≤ after)
 
 module _ {R A V : Type 0} (meaning : R → Meaning) (faults : V → ℕ → ℕ) (before after : KeptOf R A V) (system : ℕ) where
   -- A record that a work appends is too long for the volume of a system: it may follow the log there, and a unit that it takes in was
-  -- committed.
+  -- committed. The landscape keeps how long the volume would have been.
   pub record IsUnfit : Type 0 where
     pub next : Record
     pub works : is_works_record next ≡ true
@@ -33,22 +34,29 @@ module _ {R A V : Type 0} (meaning : R → Meaning) (faults : V → ℕ → ℕ)
     pub sent : (unit : AleUnit) → taken_by next ≡ Some unit → committed_unit (meaning after.world.rules) after.world unit.tid ≡ Some unit
     pub size : ℕ
     pub long : IsTooLong after.journals (record { system = system; next = next }) size
+    pub told : overrun_at after system ≡ Some size
 
   -- why a system is down that was up: its volume failed as it was to write a record, which it may find, or a record did not fit on it
   abbrev pub HasCause : Option Record → Type 0
   HasCause (Some next) = HasRisen (faults before.vols (system - 1)) (faults after.vols (system - 1))
   HasCause None = IsUnfit
 
--- a system is down as it was before, with its log, what it may find and its journal
+-- a system is down as it was before, with its log, what it may find, its journal, and what is kept of its length
 pub record StaysDown {R A V : Type 0} (before after : KeptOf R A V) (system : ℕ) : Type 0 where
   pub down : is_up after.world system ≡ false
   pub rest : rest_of after.world system ≡ rest_of before.world system
   pub log : log_of after.world system ≡ log_of before.world system
   pub journal : slice_get after.journals.journals (system - 1) ≡ slice_get before.journals.journals (system - 1)
   pub moment : next_moment after.journals (system - 1) ≡ next_moment before.journals (system - 1)
+  pub overrun : overrun_at after system ≡ overrun_at before system
 
--- A landscape went on by events that may happen: its world is the one that these make of the one before, by the same rules, and each unit
--- that was committed still is. The moment that is set is as before. No count of faults fell, and none of a system that is up has changed.
+-- each log is the one before with records behind it that works append
+abbrev pub HaveWorksBehind : {R : Type 0} → World R → World R → Type 0
+HaveWorksBehind before after = (system : ℕ)
+    → (added : List Record) × (log_of after system ≡ log_of before system ++ added) × (list_all is_works_record added ≡ true)
+
+-- A landscape went on by events that may happen: its world is the one that these make of the one before, by the same rules. Each log is the
+-- one before with records of works behind it, and the units that are committed are those that were. The moment that is set is as before. No count of faults fell, and none of a system that is up has changed.
 -- Systems that were down stay so; and where the work is whole, those that fell had a cause.
 pub record WentOn {R A V : Type 0} (meaning : R → Meaning) (faults : V → ℕ → ℕ) (may : Event → Bool) (whole : Bool) (before after : KeptOf R A V) : Type 0
   where
@@ -56,8 +64,8 @@ pub record WentOn {R A V : Type 0} (meaning : R → Meaning) (faults : V → ℕ
     pub each : list_all may events ≡ true
     pub world : after.world ≡ run meaning before.world events
     pub rules : after.world.rules ≡ before.world.rules
-    pub committed : (tid : TidOf) (unit : AleUnit) → committed_unit (meaning before.world.rules) before.world tid ≡ Some unit
-        → committed_unit (meaning after.world.rules) after.world tid ≡ Some unit
+    pub logs : HaveWorksBehind before.world after.world
+    pub committed : (tid : TidOf) → committed_unit (meaning after.world.rules) after.world tid ≡ committed_unit (meaning before.world.rules) before.world tid
     pub moment : moment_of after.journals ≡ moment_of before.journals
     pub counts : (place : ℕ) → HasNotFallen (faults before.vols place) (faults after.vols place)
     pub unharmed : (system : ℕ) → 1 ≤ system → is_up after.world system ≡ true → faults after.vols (system - 1) ≡ faults before.vols (system - 1)

@@ -15,6 +15,13 @@ use Rattle.unit_works.specs.Finished.{finished_in}
 use Rattle.unit_works.specs.Went.{WentOn}
 use Rattle.unit_works.specs.Claims.{AreOrGone}
 
+-- claims were made or given up, and nothing else
+pub record HaveOnlyClaimed {R A V : Type 0} (before after : KeptOf R A V) : Type 0 where
+  pub world : after.world ≡ record before.world { claims = after.world.claims; next_number = after.world.next_number }
+  pub journals : after.journals ≡ before.journals
+  pub vols : after.vols ≡ before.vols
+  pub overruns : after.overruns ≡ before.overruns
+
 -- what is kept of the letters that are left of units
 abbrev pub Lines : Type 0
 Lines = List ((ℕ × ℕ) × List Letter)

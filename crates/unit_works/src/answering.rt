@@ -1,6 +1,6 @@
 //! A shipment is answered: a run that it began ends, and what its receiver replies comes to its claim.
 
-ghost use Rattle.std.specs.Prelude.{◌≡◌, ◌≤◌, ◌+◌, List, Option, Some, true, false, IfOk, OnOk};
+ghost use Rattle.std.specs.Prelude.{◌≡◌, ◌≤◌, ◌+◌, List, Option, Some, true, false, IfOk, IfSome, OnOk};
 ghost use Rattle.std.specs.Result.{is_ok};
 ghost use Rattle.ale_base.specs.Tid.{TidOf};
 ghost use Rattle.unit_core.specs.declared.ale_unit.AleUnit.{AleUnit};
@@ -12,23 +12,24 @@ ghost use Rattle.trfc_protocol.specs.declared.held.HeldKind.TheVariants.{Direct}
 ghost use Rattle.trfc_protocol.specs.Offered.{answer_to};
 ghost use Rattle.trfc_protocol.specs.Worlds.{committed_unit};
 ghost use Rattle.model_rules.specs.Meaning.{model_meaning};
+ghost use Rattle.unit_landscape.specs.declared.answers.Arrival.TheVariants.{Down};
 ghost use Rattle.unit_landscape.specs.Calls.{reply_event, stands_out};
-ghost use Rattle.unit_works.specs.Acts.{GrewBy};
-ghost use Rattle.unit_works.specs.Claims.{AreOrGone};
+ghost use Rattle.landscape.specs.Working.{IsPreparedFor};
+ghost use Rattle.unit_works.specs.Claims.{AreOrGone, NoneAdded};
 ghost use Rattle.unit_works.specs.Events.{arrives_under, is_delivery, is_end, is_reply};
 ghost use Rattle.unit_works.specs.Finished.{finished_in};
-ghost use Rattle.unit_works.specs.Trips.{NoneFell, noted_of};
+ghost use Rattle.unit_works.specs.Trips.{Appended, noted_of};
 ghost use Rattle.unit_works.specs.Worked.{Worked};
-ghost use Rattle.unit_works.specs.steps.Arriving.{ClaimsAre, ClaimsLeft, HasAnswered, HasDelivered, IsAnswered, Says, Tells, event_of};
+ghost use Rattle.unit_works.specs.steps.Arriving.{AnsweredSo, ClaimsAre, ClaimsLeft, DeliveredSo, IsAnswered, IsReadyFor, Says, Tells, event_of};
 ghost use Rattle.unit_works.specs.steps.Claims.{AreWithOut};
 ghost use Rattle.unit_works.specs.steps.Ending.{IsRun, ended_by};
 
 use crate::arriving::arrive_under;
 use crate::ending::{ended_by, finish};
-use crate::falls::Falls;
 use crate::letters::arrives_under;
 use ale_base::OutOfMemory;
 use ale_volumes::Volumes;
+use inbound_post::Prepared;
 use landscape::Landscape;
 use std::alloc::Global;
 use unit_landscape::{Arrival, Finished, OutClaim, Reply, WorkEnd};
@@ -45,17 +46,18 @@ pub(crate) struct Answered {
 pub(crate) fn deliver<V: Volumes>(
     alloc: Global,
     landscape: &mut Landscape<V>,
-    falls: &mut Falls,
     claim: &OutClaim,
     letter: Letter,
+    ready: Option<Prepared>,
 ) -> Result<Answered, OutOfMemory>
     requires stands { stands_out landscape.old.world claim.now ≡ true }
+    requires ready { IfSome ready (λ prepared. IsPreparedFor landscape.old.world claim.now.tid prepared.postings) }
     ensures went { Worked V.faults landscape.old landscape.new (is_delivery letter) (is_ok result) }
     ensures answered { IfOk result (λ answered. IsAnswered landscape.old.world landscape.new.world answered.finished) }
     ensures claims { OnOk result (AreOrGone landscape.new.world.claims landscape.old.world.claims) }
-    ensures grew { IfOk result (λ answered. NoneFell landscape.old.world landscape.new.world → (unit : AleUnit)
+    ensures grew { IfOk result (λ answered. (unit : AleUnit)
         → committed_unit (model_meaning landscape.old.world.rules.systems) landscape.old.world claim.now.tid ≡ Some unit
-        → HasDelivered (model_meaning landscape.new.world.rules.systems) landscape.old.world landscape.new.world claim.now unit letter
+        → DeliveredSo (model_meaning landscape.new.world.rules.systems) landscape.old.world landscape.new.world claim.now unit letter
         (answer_to (model_meaning landscape.old.world.rules.systems) landscape.old.world unit) answered.given) }
 {
     let _ = landscape.world();
@@ -65,17 +67,18 @@ pub(crate) fn deliver<V: Volumes>(
             finished: 0,
         });
     }
-    let arrival = arrive_under(landscape, falls, claim, letter)?;
-    answer_of(alloc, landscape, falls, arrival)
+    let arrival = arrive_under(landscape, claim, letter)?;
+    answer_of(alloc, landscape, arrival, ready)
 }
 
 /// What a receiver replies to an arrival, once the run that it began has ended.
 fn answer_of<V: Volumes>(
     alloc: Global,
     landscape: &mut Landscape<V>,
-    falls: &mut Falls,
     arrival: Arrival,
+    ready: Option<Prepared>,
 ) -> Result<Answered, OutOfMemory>
+    requires ready { IfSome ready (λ prepared. IsReadyFor landscape.old.world prepared.postings arrival) }
     ensures went { Worked V.faults landscape.old landscape.new is_end (is_ok result) }
     ensures answered { IfOk result (λ answered. IsAnswered landscape.old.world landscape.new.world answered.finished) }
     ensures claims { (others : List Held) → ClaimsLeft landscape.old.world.claims others arrival
@@ -83,14 +86,14 @@ fn answer_of<V: Volumes>(
     ensures grew { (unit : AleUnit) (given : Answer) (others : List Held)
         → committed_unit (model_meaning landscape.old.world.rules.systems) landscape.old.world unit.tid ≡ Some unit → Tells given unit arrival
         → ClaimsAre landscape.old.world.claims others arrival
-        → IfOk result (λ answered. NoneFell landscape.old.world landscape.new.world
-        → HasAnswered landscape.old.world landscape.new.world unit given others answered.given) }
+        → IfOk result (λ answered. AnsweredSo landscape.old.world landscape.new.world unit given others answered.given) }
+    ensures idle { arrival ≡ Down → landscape.new ≡ landscape.old }
 {
     match arrival {
         Arrival::New(receipt) => Ok(at_once(Reply::Done(receipt))),
         Arrival::Known(receipt) => Ok(at_once(Reply::Done(receipt))),
         Arrival::Run(claim) => {
-            let finished = finish(alloc, landscape, falls, claim)?;
+            let finished = finish(alloc, landscape, claim, ready)?;
             Ok(after_run(finished))
         }
         Arrival::Busy => Ok(at_once(Reply::Busy)),
@@ -134,9 +137,11 @@ pub(crate) fn reply<V: Volumes>(
     ensures finished { OnOk result (finished_in landscape.new.world ≡ finished_in landscape.old.world) }
     ensures claims { (others : List Held) → AreWithOut landscape.old.world.claims others claim
         → OnOk result (AreOrGone landscape.new.world.claims others) }
+    ensures fewer { OnOk result (NoneAdded landscape.old.world.claims landscape.new.world.claims) }
     ensures grew { (learnt : Option CoreAnswer) → stands_out landscape.old.world claim ≡ true
         → reply_event (model_meaning landscape.old.world.rules.systems) landscape.old.world claim given ≡ event_of learnt claim.number
-        → OnOk result (GrewBy landscape.old landscape.new (noted_of learnt claim.tid)) }
+        → OnOk result (Appended landscape.old.world landscape.new.world (noted_of learnt claim.tid)) }
+    ensures stale { stands_out landscape.old.world claim ≡ false → OnOk result (landscape.new ≡ landscape.old) }
 {
     let _ = landscape.world();
     match landscape.reply(claim, given) {

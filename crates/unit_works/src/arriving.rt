@@ -10,11 +10,10 @@ ghost use Rattle.model_rules.specs.Meaning.{model_meaning};
 ghost use Rattle.unit_works.specs.Claims.{AreOrGone};
 ghost use Rattle.unit_works.specs.Events.{is_arrival};
 ghost use Rattle.unit_works.specs.Finished.{finished_in};
-ghost use Rattle.unit_works.specs.Trips.{HaveGrown, NoneFell};
+ghost use Rattle.unit_works.specs.Trips.{Wholly};
 ghost use Rattle.unit_works.specs.Worked.{Worked};
-ghost use Rattle.unit_works.specs.steps.Arriving.{BeginsNone, BringsNothing, ClaimsCome, ClaimsLeft, HasArrived, is_twice};
+ghost use Rattle.unit_works.specs.steps.Arriving.{ArrivedSo, BeginsNone, BeginsOn, BringsNothing, ClaimsCome, ClaimsLeft, is_twice};
 
-use crate::falls::{Append, Falls};
 use crate::letters::is_twice;
 use ale_base::OutOfMemory;
 use ale_volumes::Volumes;
@@ -26,7 +25,6 @@ use wires::Letter;
 /// The unit of a claim arrives, under a letter that lets it. How it is answered at first: what becomes of it as it arrives twice is dropped.
 pub(crate) fn arrive_under<V: Volumes>(
     landscape: &mut Landscape<V>,
-    falls: &mut Falls,
     claim: &OutClaim,
     letter: Letter,
 ) -> Result<Arrival, OutOfMemory>
@@ -34,14 +32,14 @@ pub(crate) fn arrive_under<V: Volumes>(
     ensures went { Worked V.faults landscape.old landscape.new is_arrival (is_ok result) }
     ensures finished { OnOk result (finished_in landscape.new.world ≡ finished_in landscape.old.world) }
     ensures claims { IfOk result (ClaimsLeft landscape.new.world.claims landscape.old.world.claims) }
-    ensures grew { IfOk result (λ given. NoneFell landscape.old.world landscape.new.world → (unit : UnitOf)
+    ensures run { IfOk result (BeginsOn claim.now.tid) }
+    ensures grew { IfOk result (λ given. (unit : UnitOf)
         → committed_unit (model_meaning landscape.old.world.rules.systems) landscape.old.world claim.now.tid ≡ Some unit
-        → HasArrived (model_meaning landscape.old.world.rules.systems) landscape.old.world landscape.new.world unit given) }
+        → ArrivedSo (model_meaning landscape.old.world.rules.systems) landscape.old.world landscape.new.world unit given) }
 {
     let unit = unit_of(landscape, claim)?;
     let first = arrive(landscape, claim, &unit)?;
-    falls.note(landscape, claim.tid(), Append::Accept);
-    arrive_again(landscape, falls, claim, &unit, letter)?;
+    arrive_again(landscape, claim, &unit, letter)?;
     Ok(first)
 }
 
@@ -70,8 +68,8 @@ fn arrive<V: Volumes>(
     ensures finished { OnOk result (finished_in landscape.new.world ≡ finished_in landscape.old.world) }
     ensures arrived { IfOk result (Arrived (model_meaning landscape.old.world.rules.systems) V.faults landscape.old landscape.new unit.now) }
     ensures claims { IfOk result (ClaimsCome landscape.old.world.claims landscape.new.world.claims) }
-    ensures grew { IfOk result (λ given. NoneFell landscape.old.world landscape.new.world
-        → HasArrived (model_meaning landscape.old.world.rules.systems) landscape.old.world landscape.new.world unit.now given) }
+    ensures run { IfOk result (BeginsOn unit.now.tid) }
+    ensures grew { IfOk result (ArrivedSo (model_meaning landscape.old.world.rules.systems) landscape.old.world landscape.new.world unit.now) }
     ensures none { IfOk result (λ given. BringsNothing (model_meaning landscape.old.world.rules.systems) landscape.old.world claim.now unit.now
         → BeginsNone given) }
     ensures again { OnOk result (stands_out landscape.new.world claim.now ≡ true
@@ -84,7 +82,6 @@ fn arrive<V: Volumes>(
 /// The unit of a claim arrives once more, where it does so under a letter and its claim still stands. Its answer is dropped.
 fn arrive_again<V: Volumes>(
     landscape: &mut Landscape<V>,
-    falls: &mut Falls,
     claim: &OutClaim,
     unit: &AleUnit,
     letter: Letter,
@@ -94,14 +91,12 @@ fn arrive_again<V: Volumes>(
     ensures went { Worked V.faults landscape.old landscape.new is_arrival (is_ok result) }
     ensures finished { OnOk result (finished_in landscape.new.world ≡ finished_in landscape.old.world) }
     ensures claims { OnOk result (AreOrGone landscape.new.world.claims landscape.old.world.claims) }
-    ensures grew { OnOk result (NoneFell landscape.old.world landscape.new.world
-        → HaveGrown landscape.old.world landscape.new.world [] × (landscape.new.world.claims ≡ landscape.old.world.claims)) }
+    ensures grew { OnOk result (Wholly landscape.old.world landscape.new.world [] × (landscape.new.world.claims ≡ landscape.old.world.claims)) }
     ensures arrived { OnOk result (is_twice letter ≡ true → stands_out landscape.old.world claim.now ≡ true
         → (given : ArrivalOf) × Arrived (model_meaning landscape.old.world.rules.systems) V.faults landscape.old landscape.new unit.now given) }
 {
     if is_twice(letter) && landscape.holds(claim) {
         let _second = arrive(landscape, claim, unit)?;
-        falls.note(landscape, claim.tid(), Append::Accept);
     }
     Ok(())
 }

@@ -1,8 +1,9 @@
 //! A unit that is done is confirmed.
 
 ghost use Rattle.std.specs.Prelude.{◌≡◌, ◌&&◌, Some, [], true, false, IfOk, OnOk, if◌then◌else◌};
+ghost use Rattle.std.specs.List.{IsDistinct};
 ghost use Rattle.std.specs.Result.{is_ok};
-ghost use Rattle.ale_base.specs.Tid.{TidOf};
+ghost use Rattle.ale_base.specs.Tid.{TidOf, is_tid};
 ghost use Rattle.unit_core.specs.declared.ale_unit.AleUnit.{AleUnit};
 ghost use Rattle.unit_core.specs.declared.records.Record.TheVariants.{Ended};
 ghost use Rattle.unit_core.specs.Filters.{done_in, ended_in};
@@ -11,17 +12,15 @@ ghost use Rattle.system_tables.specs.OfLog.{is_unconfirmed};
 ghost use Rattle.trfc_protocol.specs.Worlds.{committed_unit, is_up, log_of};
 ghost use Rattle.unit_landscape.specs.Calls.{is_forgotten};
 ghost use Rattle.model_rules.specs.Meaning.{model_meaning};
-ghost use Rattle.unit_works.specs.Acts.{GrewBy};
 ghost use Rattle.unit_works.specs.Events.{is_confirmation, is_confirmed_under, is_confirming, is_sent_under};
 ghost use Rattle.unit_works.specs.Finished.{finished_in};
-ghost use Rattle.unit_works.specs.Trips.{NoneFell, confirmation, forgot, is_due, one_at};
+ghost use Rattle.unit_works.specs.Trips.{Appended, confirmation, forgot, is_due, one_at};
 ghost use Rattle.unit_works.specs.Worked.{HaveEnded, Worked};
-ghost use Rattle.unit_works.specs.steps.Confirming.{Forgets, HasSent, IsDueOf};
+ghost use Rattle.unit_works.specs.steps.Confirming.{Forgets, IsDueOf, SentSo};
 ghost use Rattle.unit_works.specs.steps.Rounds.{VisitedSo};
 ghost use Rattle.wires.specs.declared.letter.Letter.TheVariants.{Whole};
 ghost use Rattle.wires.specs.Wires.{letters_left, next_letter};
 
-use crate::falls::{Append, Falls};
 use crate::letters::{is_confirmed_under, is_sent_under};
 use ale_base::{OutOfMemory, Tid};
 use ale_volumes::Volumes;
@@ -30,9 +29,9 @@ use unit_landscape::{Closed, Confirmed};
 use wires::{Letter, Wires};
 
 /// Sends the confirmation of a unit that is done and not ended, and then the reply to it. Nothing changes where it is not done or ended,
-/// or one of its systems is down. Where it is done and not ended, both its systems are up and none falls, the logs grow by exactly the
-/// record of the receiver, unless it has forgotten the unit before, and that of the sender. After an `Err` the confirmation may have come
-/// to the receiver.
+/// or one of its systems is down. Where it is done and not ended and both its systems are up, the logs grow by exactly the record of the
+/// receiver, unless it has forgotten the unit before, and that of the sender; where one of them falls as it is to append its record, the
+/// records before that one stand, and none behind it. After an `Err` the confirmation may have come to the receiver.
 pub fn confirm<V: Volumes>(landscape: &mut Landscape<V>, tid: Tid) -> Result<(), OutOfMemory>
     ensures went { Worked V.faults landscape.old landscape.new is_confirmation (is_ok result) }
     ensures ended { OnOk result (HaveEnded V.faults landscape.old landscape.new 0) }
@@ -40,52 +39,28 @@ pub fn confirm<V: Volumes>(landscape: &mut Landscape<V>, tid: Tid) -> Result<(),
         → landscape.new ≡ landscape.old }
     ensures due { (unit : AleUnit) → committed_unit (model_meaning landscape.old.world.rules.systems) landscape.old.world tid ≡ Some unit
         → is_due landscape.old.world unit ≡ true
-        → OnOk result (GrewBy landscape.old landscape.new (confirmation Whole (forgot landscape.old.world unit) unit)) }
-{
-    let mut falls = Falls::new(landscape);
-    confirm_noted(landscape, &mut falls, tid)
-}
-
-/// The same, and falls are noted.
-fn confirm_noted<V: Volumes>(
-    landscape: &mut Landscape<V>,
-    falls: &mut Falls,
-    tid: Tid,
-) -> Result<(), OutOfMemory>
-    ensures went { Worked V.faults landscape.old landscape.new is_confirmation (is_ok result) }
-    ensures ended { OnOk result (HaveEnded V.faults landscape.old landscape.new 0) }
-    ensures same { (is_up landscape.old.world tid.system && is_unconfirmed tid (log_of landscape.old.world tid.system)) ≡ false
-        → landscape.new ≡ landscape.old }
-    ensures due { (unit : AleUnit) → committed_unit (model_meaning landscape.old.world.rules.systems) landscape.old.world tid ≡ Some unit
-        → is_due landscape.old.world unit ≡ true
-        → OnOk result (GrewBy landscape.old landscape.new (confirmation Whole (forgot landscape.old.world unit) unit)) }
+        → OnOk result (Appended landscape.old.world landscape.new.world (confirmation Whole (forgot landscape.old.world unit) unit)) }
 {
     let _ = landscape.world();
     if !landscape.is_unconfirmed(tid) {
         return Ok(());
     }
-    confirm_done(landscape, falls, tid)
+    confirm_done(landscape, tid)
 }
 
 /// The same of a unit that is done.
-fn confirm_done<V: Volumes>(
-    landscape: &mut Landscape<V>,
-    falls: &mut Falls,
-    tid: Tid,
-) -> Result<(), OutOfMemory>
+fn confirm_done<V: Volumes>(landscape: &mut Landscape<V>, tid: Tid) -> Result<(), OutOfMemory>
     requires done { is_listed tid (done_in (log_of landscape.old.world tid.system)) ≡ true }
     ensures went { Worked V.faults landscape.old landscape.new is_confirmation (is_ok result) }
     ensures ended { OnOk result (HaveEnded V.faults landscape.old landscape.new 0) }
     ensures due { (unit : AleUnit) → committed_unit (model_meaning landscape.old.world.rules.systems) landscape.old.world tid ≡ Some unit
         → is_due landscape.old.world unit ≡ true
-        → OnOk result (GrewBy landscape.old landscape.new (confirmation Whole (forgot landscape.old.world unit) unit)) }
+        → OnOk result (Appended landscape.old.world landscape.new.world (confirmation Whole (forgot landscape.old.world unit) unit)) }
 {
     let confirmed = send(landscape, tid)?;
-    falls.note(landscape, tid, Append::Forget);
     match confirmed {
         Confirmed::Forgotten | Confirmed::Already => {
             let _closed = end(landscape, tid)?;
-            falls.note(landscape, tid, Append::Ended);
             Ok(())
         }
         Confirmed::Down => Ok(()),
@@ -99,8 +74,7 @@ fn send<V: Volumes>(landscape: &mut Landscape<V>, tid: Tid) -> Result<Confirmed,
     ensures ended { OnOk result (HaveEnded V.faults landscape.old landscape.new 0) }
     ensures sent { (unit : AleUnit) → committed_unit (model_meaning landscape.old.world.rules.systems) landscape.old.world tid ≡ Some unit
         → is_up landscape.old.world unit.receiver ≡ true
-        → IfOk result (λ given. NoneFell landscape.old.world landscape.new.world
-        → HasSent landscape.old.world landscape.new.world tid unit given) }
+        → IfOk result (SentSo landscape.old.world landscape.new.world tid unit) }
     ensures forgets { IfOk result (Forgets (model_meaning landscape.new.world.rules.systems) landscape.new.world tid) }
 {
     let _ = landscape.world();
@@ -113,7 +87,7 @@ fn end<V: Volumes>(landscape: &mut Landscape<V>, tid: Tid) -> Result<Closed, Out
     ensures went { Worked V.faults landscape.old landscape.new is_confirmation (is_ok result) }
     ensures ended { OnOk result (HaveEnded V.faults landscape.old landscape.new 0) }
     ensures grew { is_up landscape.old.world tid.system ≡ true → is_listed tid (ended_in (log_of landscape.old.world tid.system)) ≡ false
-        → OnOk result (GrewBy landscape.old landscape.new (one_at tid.system (Ended tid))) }
+        → OnOk result (Appended landscape.old.world landscape.new.world (one_at tid.system (Ended tid))) }
 {
     let _ = landscape.world();
     landscape.ended(tid)
@@ -122,7 +96,6 @@ fn end<V: Volumes>(landscape: &mut Landscape<V>, tid: Tid) -> Result<Closed, Out
 /// Confirms a unit under a letter: nothing is sent where its confirmation is lost.
 pub(crate) fn confirm_under<V: Volumes>(
     landscape: &mut Landscape<V>,
-    falls: &mut Falls,
     tid: Tid,
     letter: Letter,
 ) -> Result<(), OutOfMemory>
@@ -132,26 +105,26 @@ pub(crate) fn confirm_under<V: Volumes>(
         → landscape.new ≡ landscape.old }
     ensures due { (unit : AleUnit) → committed_unit (model_meaning landscape.old.world.rules.systems) landscape.old.world tid ≡ Some unit
         → is_due landscape.old.world unit ≡ true
-        → OnOk result (GrewBy landscape.old landscape.new
+        → OnOk result (Appended landscape.old.world landscape.new.world
         (if is_confirmed_under letter then confirmation Whole (forgot landscape.old.world unit) unit else [])) }
 {
     if !is_confirmed_under(letter) {
         return Ok(());
     }
-    confirm_noted(landscape, falls, tid)
+    confirm(landscape, tid)
 }
 
-/// Confirms units that are done and not ended, each under its next letter.
+/// Confirms units that are done and not ended, each once, under its next letter.
 pub(crate) fn confirm_each<V: Volumes>(
     landscape: &mut Landscape<V>,
     wires: &mut Wires,
-    falls: &mut Falls,
     tids: &[Tid],
 ) -> Result<(), OutOfMemory>
+    requires apart { IsDistinct is_tid tids.now }
     ensures { VisitedSo V.faults landscape.old wires.old landscape.new wires.new (λ (other : TidOf). is_listed other tids.now ≡ true) result }
 {
     for tid in tids {
-        confirm_due(landscape, wires, falls, *tid)?;
+        confirm_due(landscape, wires, *tid)?;
     }
     Ok(())
 }
@@ -161,17 +134,17 @@ pub(crate) fn confirm_each<V: Volumes>(
 fn confirm_due<V: Volumes>(
     landscape: &mut Landscape<V>,
     wires: &mut Wires,
-    falls: &mut Falls,
     tid: Tid,
 ) -> Result<(), OutOfMemory>
     ensures worked { VisitedSo V.faults landscape.old wires.old landscape.new wires.new (λ (other : TidOf). other ≡ tid) result }
     ensures lost { is_sent_under (next_letter (letters_left wires.old tid)) ≡ false → landscape.new ≡ landscape.old }
 {
+    let _ = landscape.world();
     if !is_due(landscape, tid) {
         return Ok(());
     }
     let letter = wires.take(tid);
-    confirm_sent(landscape, falls, tid, letter)
+    confirm_sent(landscape, tid, letter)
 }
 
 /// Whether a unit is done and not ended, and both its systems are up.
@@ -192,7 +165,6 @@ fn is_due<V: Volumes>(landscape: &Landscape<V>, tid: Tid) -> bool
 /// Confirms a unit, unless its confirmation is lost under a letter.
 fn confirm_sent<V: Volumes>(
     landscape: &mut Landscape<V>,
-    falls: &mut Falls,
     tid: Tid,
     letter: Letter,
 ) -> Result<(), OutOfMemory>
@@ -201,10 +173,10 @@ fn confirm_sent<V: Volumes>(
     ensures lost { is_sent_under letter ≡ false → landscape.new ≡ landscape.old }
     ensures due { (unit : AleUnit) → committed_unit (model_meaning landscape.old.world.rules.systems) landscape.old.world tid ≡ Some unit
         → is_due landscape.old.world unit ≡ true
-        → OnOk result (GrewBy landscape.old landscape.new (confirmation letter (forgot landscape.old.world unit) unit)) }
+        → OnOk result (Appended landscape.old.world landscape.new.world (confirmation letter (forgot landscape.old.world unit) unit)) }
 {
     if !is_sent_under(letter) {
         return Ok(());
     }
-    confirm_noted(landscape, falls, tid)
+    confirm(landscape, tid)
 }

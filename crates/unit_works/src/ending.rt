@@ -1,20 +1,19 @@
 //! The work of a claim ends, with what is prepared of the documents of its unit.
 
-ghost use Rattle.std.specs.Prelude.{◌≡◌, ◌+◌, List, IsNone, IfOk, IfSome};
+ghost use Rattle.std.specs.Prelude.{◌≡◌, ◌+◌, false, List, IsNone, IfOk, IfSome, OnOk};
 ghost use Rattle.std.specs.Result.{is_ok};
 ghost use Rattle.trfc_protocol.specs.declared.held.Held.{Held};
 ghost use Rattle.unit_landscape.specs.Appending.{HoldsIn};
+ghost use Rattle.unit_landscape.specs.Calls.{stands_in};
 ghost use Rattle.landscape.specs.Working.{IsPreparedFor};
 ghost use Rattle.model_rules.specs.Meaning.{model_meaning};
-ghost use Rattle.unit_works.specs.Claims.{AreOrGone};
+ghost use Rattle.unit_works.specs.Claims.{AreOrGone, NoneAdded};
 ghost use Rattle.unit_works.specs.Events.{is_end};
 ghost use Rattle.unit_works.specs.Finished.{finished_in};
-ghost use Rattle.unit_works.specs.Trips.{NoneFell};
 ghost use Rattle.unit_works.specs.Worked.{Worked};
 ghost use Rattle.unit_works.specs.steps.Claims.{AreWith};
-ghost use Rattle.unit_works.specs.steps.Ending.{HasFinished, IsDownFor, ended_by};
+ghost use Rattle.unit_works.specs.steps.Ending.{FinishedSo, IsDownFor, ended_by};
 
-use crate::falls::{Append, Falls};
 use ale_base::{OutOfMemory, Tid};
 use ale_volumes::Volumes;
 use inbound_post::Prepared;
@@ -27,24 +26,48 @@ use unit_landscape::{Finished, InClaim, WorkEnd};
 pub(crate) fn finish<V: Volumes>(
     alloc: Global,
     landscape: &mut Landscape<V>,
-    falls: &mut Falls,
     claim: InClaim,
+    ready: Option<Prepared>,
 ) -> Result<Finished, OutOfMemory>
+    requires ready { IfSome ready (λ prepared. IsPreparedFor landscape.old.world claim.tid prepared.postings) }
     ensures went { Worked V.faults landscape.old landscape.new is_end (is_ok result) }
     ensures finished { IfOk result (λ given. finished_in landscape.new.world ≡ finished_in landscape.old.world + ended_by given) }
     ensures claims { (others : List Held) → AreWith landscape.old.world.claims others claim
         → IfOk result (λ given. AreOrGone landscape.new.world.claims others) }
+    ensures fewer { OnOk result (NoneAdded landscape.old.world.claims landscape.new.world.claims) }
+    ensures stale { stands_in landscape.old.world claim ≡ false → OnOk result (landscape.new ≡ landscape.old) }
     ensures grew { (held : Held) → HoldsIn landscape.old.world claim held
-        → IfOk result (λ given. NoneFell landscape.old.world landscape.new.world
-        → HasFinished (model_meaning landscape.old.world.rules.systems) landscape.old.world landscape.new.world claim held given) }
+        → IfOk result (FinishedSo (model_meaning landscape.old.world.rules.systems) landscape.old.world landscape.new.world claim held) }
 {
     let tid = claim.tid();
-    let finished = finish_prepared(alloc, landscape, claim)?;
-    falls.note(landscape, tid, Append::Work);
+    let finished = finish_ready(alloc, landscape, claim, ready)?;
     Ok(finished)
 }
 
-/// The same, with what is prepared for it.
+/// The same, with what was prepared for it, or is prepared now.
+fn finish_ready<V: Volumes>(
+    alloc: Global,
+    landscape: &mut Landscape<V>,
+    claim: InClaim,
+    ready: Option<Prepared>,
+) -> Result<Finished, OutOfMemory>
+    requires ready { IfSome ready (λ prepared. IsPreparedFor landscape.old.world claim.tid prepared.postings) }
+    ensures went { Worked V.faults landscape.old landscape.new is_end (is_ok result) }
+    ensures finished { IfOk result (λ given. finished_in landscape.new.world ≡ finished_in landscape.old.world + ended_by given) }
+    ensures claims { (others : List Held) → AreWith landscape.old.world.claims others claim
+        → IfOk result (λ given. AreOrGone landscape.new.world.claims others) }
+    ensures fewer { OnOk result (NoneAdded landscape.old.world.claims landscape.new.world.claims) }
+    ensures stale { stands_in landscape.old.world claim ≡ false → OnOk result (landscape.new ≡ landscape.old) }
+    ensures grew { (held : Held) → HoldsIn landscape.old.world claim held
+        → IfOk result (FinishedSo (model_meaning landscape.old.world.rules.systems) landscape.old.world landscape.new.world claim held) }
+{
+    match ready {
+        Some(prepared) => finish_with(landscape, claim, prepared),
+        None => finish_prepared(alloc, landscape, claim),
+    }
+}
+
+/// The same, with what is prepared for it now.
 fn finish_prepared<V: Volumes>(
     alloc: Global,
     landscape: &mut Landscape<V>,
@@ -54,9 +77,10 @@ fn finish_prepared<V: Volumes>(
     ensures finished { IfOk result (λ given. finished_in landscape.new.world ≡ finished_in landscape.old.world + ended_by given) }
     ensures claims { (others : List Held) → AreWith landscape.old.world.claims others claim
         → IfOk result (λ given. AreOrGone landscape.new.world.claims others) }
+    ensures fewer { OnOk result (NoneAdded landscape.old.world.claims landscape.new.world.claims) }
+    ensures stale { stands_in landscape.old.world claim ≡ false → OnOk result (landscape.new ≡ landscape.old) }
     ensures grew { (held : Held) → HoldsIn landscape.old.world claim held
-        → IfOk result (λ given. NoneFell landscape.old.world landscape.new.world
-        → HasFinished (model_meaning landscape.old.world.rules.systems) landscape.old.world landscape.new.world claim held given) }
+        → IfOk result (FinishedSo (model_meaning landscape.old.world.rules.systems) landscape.old.world landscape.new.world claim held) }
 {
     match prepared_for(alloc, landscape, claim.tid())? {
         None => Ok(not_finished(landscape, claim)),
@@ -87,9 +111,10 @@ fn finish_with<V: Volumes>(
     ensures finished { IfOk result (λ given. finished_in landscape.new.world ≡ finished_in landscape.old.world + ended_by given) }
     ensures claims { (others : List Held) → AreWith landscape.old.world.claims others claim
         → IfOk result (λ given. AreOrGone landscape.new.world.claims others) }
+    ensures fewer { OnOk result (NoneAdded landscape.old.world.claims landscape.new.world.claims) }
+    ensures stale { stands_in landscape.old.world claim ≡ false → OnOk result (landscape.new ≡ landscape.old) }
     ensures grew { (held : Held) → HoldsIn landscape.old.world claim held
-        → IfOk result (λ given. NoneFell landscape.old.world landscape.new.world
-        → HasFinished (model_meaning landscape.old.world.rules.systems) landscape.old.world landscape.new.world claim held given) }
+        → IfOk result (FinishedSo (model_meaning landscape.old.world.rules.systems) landscape.old.world landscape.new.world claim held) }
 {
     let _ = landscape.world();
     match landscape.finish(claim, prepared) {

@@ -1,11 +1,11 @@
 //! The works of a drain: units are shipped under letters, executed and confirmed, until none is left.
 //!
-//! Contract: a landscape goes on by events that a letter lets happen, so many runs and executions end, and no claim is added; where no
-//! system falls, the logs grow by exactly the records that the letter lets through; a drain is a list of such acts, and ends where no unit
-//! is offered at any system in either direction and, where no system fell, no confirmation is due but those that were lost. The definitions
-//! are in `specs/`: `Events` (which events are works), `Went` (how a landscape goes on), `Finished` (how many runs and executions have
-//! ended), `Trips` (what is appended), `Acts` (a unit is shipped, executed or confirmed, and lists of that), `Works` (the first unit that
-//! is offered is shipped, or executed) and `Drained`.
+//! Contract: a landscape goes on by events that a letter lets happen, so many runs and executions end, and no claim is added; the logs grow
+//! by exactly the records that the letter lets through, or by those before the one at which a system fell; a drain is a list of such acts,
+//! in which each unit takes one letter, and more only where a system fell, and ends where no unit is offered at any system in either
+//! direction, and no confirmation is due but those that were lost. The definitions are in `specs/`: `Events` (which events are works),
+//! `Went` (how a landscape goes on), `Finished` (how many runs and executions have ended), `Trips` (what is appended), `Acts` (a unit is
+//! shipped, executed or confirmed, and lists of that), `Works` (the first unit that is offered is shipped, or executed) and `Drained`.
 #![tactic(auto)]
 
 mod answering;
@@ -14,14 +14,11 @@ mod confirming;
 mod draining;
 mod ending;
 mod executing;
-mod falls;
-mod lengths;
 mod letters;
 mod rounds;
 mod shipping;
-mod writable;
 
 pub use confirming::confirm;
-pub use draining::{Drained, drain};
-pub use executing::execute_next;
-pub use shipping::ship_next;
+pub use draining::{confirm_all, go_rounds};
+pub use executing::{claim_to_execute, execute_claimed, execute_next};
+pub use shipping::{claim_to_ship, ship_claimed, ship_next};

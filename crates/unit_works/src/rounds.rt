@@ -4,9 +4,8 @@ ghost use Rattle.std.specs.Prelude.{◌≡◌, ◌≤◌, IfSome};
 ghost use Rattle.unit_works.specs.Drained.{FoundAs, IsIdle};
 ghost use Rattle.unit_works.specs.steps.Rounds.{NothingAt, NothingTo, joined};
 
-use crate::executing::execute_first;
-use crate::falls::Falls;
-use crate::shipping::ship_first;
+use crate::executing::execute_next;
+use crate::shipping::ship_next;
 use ale_base::{OutOfMemory, SystemNo};
 use ale_volumes::Volumes;
 use landscape::Landscape;
@@ -19,11 +18,10 @@ pub(crate) fn go_round<V: Volumes>(
     alloc: Global,
     landscape: &mut Landscape<V>,
     wires: &mut Wires,
-    falls: &mut Falls,
 ) -> Result<Option<u64>, OutOfMemory>
     ensures { FoundAs V.faults landscape.old wires.old landscape.new wires.new 32 (IsIdle landscape.old.world) result }
 {
-    let found = visit_all(alloc, landscape, wires, falls)?;
+    let found = visit_all(alloc, landscape, wires)?;
     let _ = landscape.world();
     Ok(found)
 }
@@ -33,7 +31,6 @@ fn visit_all<V: Volumes>(
     alloc: Global,
     landscape: &mut Landscape<V>,
     wires: &mut Wires,
-    falls: &mut Falls,
 ) -> Result<Option<u64>, OutOfMemory>
     ensures { FoundAs V.faults landscape.old wires.old landscape.new wires.new 32 (NothingTo landscape.old.world 16) result }
 {
@@ -42,7 +39,7 @@ fn visit_all<V: Volumes>(
         let Some(system) = SystemNo::of(number + 1) else {
             unreachable!()
         };
-        let here = visit(alloc, landscape, wires, falls, system)?;
+        let here = visit(alloc, landscape, wires, system)?;
         found = joined(found, here);
     }
     Ok(found)
@@ -54,13 +51,12 @@ fn visit<V: Volumes>(
     alloc: Global,
     landscape: &mut Landscape<V>,
     wires: &mut Wires,
-    falls: &mut Falls,
     system: SystemNo,
 ) -> Result<Option<u64>, OutOfMemory>
     ensures { FoundAs V.faults landscape.old wires.old landscape.new wires.new 2 (NothingAt landscape.old.world system) result }
 {
-    let shipped = ship_first(alloc, landscape, wires, falls, system)?;
-    let executed = execute_first(alloc, landscape, falls, system)?;
+    let shipped = ship_next(alloc, landscape, wires, system)?;
+    let executed = execute_next(alloc, landscape, system)?;
     Ok(joined(shipped, executed))
 }
 

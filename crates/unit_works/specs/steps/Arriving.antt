@@ -1,5 +1,5 @@
 -- A unit that is shipped arrives, and may arrive once more.
-use Rattle.std.specs.Prelude.{◌≡◌, ◌+◌, ◌≤◌, ⊤, ℕ, Bool, true, false, List, ◌∷◌, [], ◌++◌, Option, None, Some, if◌then◌else◌}
+use Rattle.std.specs.Prelude.{◌≡◌, ◌⊎◌, ◌+◌, ◌≤◌, ⊤, ℕ, Bool, true, false, List, ◌∷◌, [], ◌++◌, Option, None, Some, if◌then◌else◌}
 use Rattle.ale_base.specs.Tid.{TidOf}
 use Rattle.unit_core.specs.declared.ale_unit.AleUnit.{AleUnit}
 use Rattle.trfc_protocol.specs.declared.answer.Answer.TheVariants as answer
@@ -13,6 +13,9 @@ use Rattle.unit_landscape.specs.declared.answers.Arrival.{Arrival}
 use Rattle.unit_landscape.specs.declared.answers.Arrival.TheVariants.{New, Run, Known, Busy, SysFail, Down}
 use Rattle.unit_landscape.specs.declared.claims.InClaim.{InClaim}
 use Rattle.unit_landscape.specs.declared.claims.OutClaim.{OutClaim}
+use Rattle.inbound_post.specs.declared.prepared.DocPosting.{DocPosting}
+use Rattle.model_rules.specs.declared.model_rules.ModelRules.{ModelRules}
+use Rattle.landscape.specs.Working.{IsPreparedFor}
 use Rattle.wires.specs.declared.letter.Letter.{Letter}
 use Rattle.wires.specs.declared.letter.Letter.TheVariants.{Twice}
 use Rattle.unit_core.specs.declared.records.Record.TheVariants as log
@@ -28,9 +31,9 @@ use Rattle.unit_landscape.specs.declared.answers.Reply.TheVariants as reply
 use Rattle.unit_landscape.specs.Calls.{reply_event}
 use Rattle.unit_works.specs.Claims.{AreOrGone}
 use Rattle.unit_works.specs.Events.{arrives_under}
-use Rattle.unit_works.specs.Trips.{HaveGrown, back_of, one_at, taken_in}
+use Rattle.unit_works.specs.Trips.{Wholly, back_of, one_at, taken_in}
 use Rattle.unit_works.specs.Finished.{finished_in}
-use Rattle.unit_works.specs.steps.Claims.{AreWith}
+use Rattle.unit_works.specs.steps.Claims.{AreWith, WasCut}
 
 -- a claim to run a unit as it arrives, as a world keeps it
 abbrev pub run_held : InClaim → Held
@@ -58,6 +61,16 @@ ClaimsLeft claims others Down = AreOrGone claims others
 abbrev pub BeginsNone : Arrival → Type 0
 BeginsNone (Run claim) = ⊥
 BeginsNone _ = ⊤
+
+-- a run that an arrival begins is of the unit of this id
+abbrev pub BeginsOn : TidOf → Arrival → Type 0
+BeginsOn tid (Run claim) = claim.tid ≡ tid
+BeginsOn tid _ = ⊤
+
+-- these are the postings of the unit of a run that an arrival begins
+abbrev pub IsReadyFor : World ModelRules → List DocPosting → Arrival → Type 0
+IsReadyFor world postings (Run claim) = IsPreparedFor world claim.tid postings
+IsReadyFor world postings _ = ⊤
 
 -- a unit, which its sender committed, is not taken in and begins no run where it arrives
 pub record BringsNothing {R : Type 0} (rules : Meaning) (world : World R) (claim : OutClaim) (unit : AleUnit) : Type 0 where
@@ -108,8 +121,13 @@ ClaimsAre claims others Down = claims ≡ others
 -- a unit arrived, and no system fell
 pub record HasArrived {R : Type 0} (rules : Meaning) (before after : World R) (unit : AleUnit) (given : Arrival) : Type 0 where
   pub tells : Tells (answer_to rules before unit) unit given
-  pub grew : HaveGrown before after (accepted (answer_to rules before unit) unit)
+  pub grew : Wholly before after (accepted (answer_to rules before unit) unit)
   pub claims : ClaimsAre after.claims before.claims given
+
+-- a unit arrived, or its receiver fell as it was to take it in: nothing comes back
+abbrev pub ArrivedSo : {R : Type 0} → Meaning → World R → World R → AleUnit → Arrival → Type 0
+ArrivedSo rules before after unit given =
+    HasArrived rules before after unit given ⊎ (WasCut before after (accepted (answer_to rules before unit) unit) × (given ≡ Down))
 
 -- a reply says what came back of a unit
 abbrev pub Says : Option CoreAnswer → TidOf → Reply → Type 0
@@ -121,9 +139,13 @@ Says _ tid _ = ⊥
 
 -- the run ended that an arrival began that was answered so, if it did, and no system fell: this comes back
 pub record HasAnswered {R : Type 0} (before after : World R) (unit : AleUnit) (given : Answer) (others : List Held) (told : Reply) : Type 0 where
-  pub grew : HaveGrown before after (run_of given unit)
+  pub grew : Wholly before after (run_of given unit)
   pub claims : after.claims ≡ others
   pub says : Says (back_of given) unit.tid told
+
+-- the same, or its receiver fell as the run was to end
+abbrev pub AnsweredSo : {R : Type 0} → World R → World R → AleUnit → Answer → List Held → Reply → Type 0
+AnsweredSo before after unit given others told = HasAnswered before after unit given others told ⊎ WasCut before after (run_of given unit)
 
 -- which event it is that a sender learns so much
 abbrev pub event_of : Option CoreAnswer → ℕ → Event
@@ -134,9 +156,18 @@ event_of None number = event.LoseReply number
 abbrev pub back_under : Letter → Answer → Option CoreAnswer
 back_under letter given = if arrives_under letter then back_of given else None
 
+-- what is appended as a unit is delivered under a letter: nothing where the request is lost
+abbrev pub delivery : Letter → Answer → AleUnit → List Writing
+delivery letter given unit = if arrives_under letter then taken_in given unit else []
+
 -- a unit was delivered under a letter, and no system fell: these records are appended, and this comes back
 pub record HasDelivered {R : Type 0} (rules : Meaning) (before after : World R) (claim : OutClaim) (unit : AleUnit) (letter : Letter) (given : Answer)
     (told : Reply) : Type 0 where
-  pub grew : HaveGrown before after (if arrives_under letter then taken_in given unit else [])
+  pub grew : Wholly before after (delivery letter given unit)
   pub claims : after.claims ≡ before.claims
   pub event : reply_event rules after claim told ≡ event_of (back_under letter given) claim.number
+
+-- the same, or its receiver fell as it was to append one of these records
+abbrev pub DeliveredSo : {R : Type 0} → Meaning → World R → World R → OutClaim → AleUnit → Letter → Answer → Reply → Type 0
+DeliveredSo rules before after claim unit letter given told =
+    HasDelivered rules before after claim unit letter given told ⊎ WasCut before after (delivery letter given unit)

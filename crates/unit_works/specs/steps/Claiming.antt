@@ -12,7 +12,7 @@ use Rattle.trfc_protocol.specs.declared.world.World.{World}
 use Rattle.unit_landscape.specs.declared.claims.OutClaim.{OutClaim}
 use Rattle.unit_landscape.specs.declared.claims.InClaim.{InClaim}
 use Rattle.unit_landscape.specs.Calls.{stands_out}
-use Rattle.unit_works.specs.Trips.{HaveGrown, may_execute, may_ship}
+use Rattle.unit_works.specs.Trips.{Wholly, may_execute, may_ship}
 use Rattle.unit_works.specs.steps.Claims.{out_held}
 
 -- the first unit that is offered outbound at a system was claimed to be shipped, and no other
@@ -25,7 +25,7 @@ pub record IsShipped {R : Type 0} (rules : Meaning) (before after : World R) (sy
   pub committed : committed_unit rules before claim.tid ≡ Some unit
   pub may : may_ship rules before claim.tid ≡ true
   pub answers : answer_to rules after unit ≡ answer_to rules before unit
-  pub grew : HaveGrown before after []
+  pub grew : Wholly before after []
 
 -- a claim to execute a unit that was taken in, as a world keeps it
 abbrev pub in_held : InClaim → Held
@@ -39,4 +39,4 @@ pub record IsExecuted {R : Type 0} (rules : Meaning) (before after : World R) (s
   pub here : claim.system ≡ system
   pub may : may_execute before system claim.tid ≡ true
   pub offers : offers_received_now rules after system claim.tid ≡ offers_received_now rules before system claim.tid
-  pub grew : HaveGrown before after []
+  pub grew : Wholly before after []

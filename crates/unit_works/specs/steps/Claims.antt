@@ -5,7 +5,10 @@ use Rattle.trfc_protocol.specs.declared.held.HeldKind.TheVariants.{Out}
 use Rattle.trfc_protocol.specs.Worlds.{claim_of, is_kind}
 use Rattle.unit_landscape.specs.declared.claims.OutClaim.{OutClaim}
 use Rattle.unit_landscape.specs.declared.claims.InClaim.{InClaim}
+use Rattle.trfc_protocol.specs.declared.world.World.{World}
+use Rattle.trfc_protocol.specs.RecordOf.{Writing}
 use Rattle.unit_works.specs.Claims.{AreOrGone}
+use Rattle.unit_works.specs.Trips.{AppendedAs}
 
 -- a claim to ship a unit, as a world keeps it
 abbrev pub out_held : OutClaim → Held
@@ -28,3 +31,8 @@ pub record AreWith (claims others : List Held) (claim : InClaim) : Type 0 where
 pub record AreWithOut (claims others : List Held) (claim : OutClaim) : Type 0 where
   pub fresh : claim_of claim.number others ≡ None
   pub are : AreOrGone claims (others ++ out_held claim ∷ [])
+
+-- a system fell as it was to append one of these records, and no claims are left
+pub record WasCut {R : Type 0} (before after : World R) (added : List Writing) : Type 0 where
+  pub cut : AppendedAs before after added false
+  pub claims : after.claims ≡ []

@@ -1,5 +1,5 @@
 -- The confirmation of a unit comes to its receiver.
-use Rattle.std.specs.Prelude.{◌≡◌, ⊤, Bool, true, Some, List, [], if◌then◌else◌}
+use Rattle.std.specs.Prelude.{◌≡◌, ◌⊎◌, ⊤, Bool, true, false, Some, List, [], if◌then◌else◌}
 use Rattle.ale_base.specs.Tid.{TidOf}
 use Rattle.unit_core.specs.declared.ale_unit.AleUnit.{AleUnit}
 use Rattle.unit_core.specs.declared.records.Record.TheVariants.{Forget}
@@ -10,7 +10,7 @@ use Rattle.trfc_protocol.specs.Worlds.{committed_unit}
 use Rattle.unit_landscape.specs.declared.answers.Confirmed.{Confirmed}
 use Rattle.unit_landscape.specs.declared.answers.Confirmed.TheVariants.{Forgotten, Already, Down}
 use Rattle.unit_landscape.specs.Calls.{is_forgotten}
-use Rattle.unit_works.specs.Trips.{HaveGrown, forgot, is_due, one_at}
+use Rattle.unit_works.specs.Trips.{AppendedAs, Wholly, forgot, is_due, one_at}
 
 -- the receiver of a unit has forgotten it, unless it is down
 abbrev pub Forgets : {R : Type 0} → Meaning → World R → TidOf → Confirmed → Type 0
@@ -25,8 +25,13 @@ sent_to forgotten unit = if forgotten then [] else one_at unit.receiver (Forget 
 -- a confirmation came to a receiver, and no system fell
 pub record HasSent {R : Type 0} (before after : World R) (tid : TidOf) (unit : AleUnit) (given : Confirmed) : Type 0 where
   pub its : unit.tid ≡ tid
-  pub grew : HaveGrown before after (sent_to (forgot before unit) unit)
+  pub grew : Wholly before after (sent_to (forgot before unit) unit)
   pub came : given ≡ Down → ⊥
+
+-- the same, or the receiver fell as it was to forget the id: nothing comes back
+abbrev pub SentSo : {R : Type 0} → World R → World R → TidOf → AleUnit → Confirmed → Type 0
+SentSo before after tid unit given =
+    HasSent before after tid unit given ⊎ (AppendedAs before after (sent_to (forgot before unit) unit) false × (given ≡ Down))
 
 -- a unit was committed, and its confirmation is due
 pub record IsDueOf {R : Type 0} (rules : Meaning) (world : World R) (tid : TidOf) : Type 0 where

@@ -1,5 +1,5 @@
 -- The work of a claim ends.
-use Rattle.std.specs.Prelude.{◌≡◌, ◌==◌, ⊤, ℕ, false, not, filter, List, [], Option, Some, None, Result, Ok, Err}
+use Rattle.std.specs.Prelude.{◌≡◌, ◌⊎◌, ◌==◌, ⊤, ℕ, false, not, filter, List, [], Option, Some, None, Result, Ok, Err}
 use Rattle.ale_base.specs.Tid.{TidOf}
 use Rattle.ale_base.specs.declared.out_of_memory.OutOfMemory.{OutOfMemory}
 use Rattle.unit_core.specs.declared.ale_unit.AleUnit.{AleUnit}
@@ -11,7 +11,8 @@ use Rattle.trfc_protocol.specs.declared.world.World.{World}
 use Rattle.trfc_protocol.specs.Offered.{offers_received_now}
 use Rattle.trfc_protocol.specs.RecordOf.{Writing}
 use Rattle.unit_landscape.specs.declared.claims.InClaim.{InClaim}
-use Rattle.unit_works.specs.Trips.{HaveGrown, execution, one_at}
+use Rattle.unit_works.specs.Trips.{Wholly, execution, one_at}
+use Rattle.unit_works.specs.steps.Claims.{WasCut}
 use Rattle.trfc_protocol.specs.Meaning.{Meaning}
 use Rattle.trfc_protocol.specs.Worlds.{committed_unit, is_up}
 use Rattle.unit_landscape.specs.declared.answers.Finished.{Finished}
@@ -54,6 +55,12 @@ IsRun _ tid _ = ⊤
 
 -- the work of a claim ended, and no system fell
 pub record HasFinished {R : Type 0} (rules : Meaning) (before after : World R) (claim : InClaim) (held : Held) (given : Finished) : Type 0 where
-  pub grew : HaveGrown before after (worked_by rules before held held.kind)
+  pub grew : Wholly before after (worked_by rules before held held.kind)
   pub claims : after.claims ≡ filter (λ (h : Held). not (h.number == claim.number)) before.claims
   pub run : IsRun held.kind claim.tid given
+  pub ended : ended_by given ≡ 1
+
+-- the same, or its system fell as it was to append that it did
+abbrev pub FinishedSo : {R : Type 0} → Meaning → World R → World R → InClaim → Held → Finished → Type 0
+FinishedSo rules before after claim held given =
+    HasFinished rules before after claim held given ⊎ (WasCut before after (worked_by rules before held held.kind) × (ended_by given ≡ 0))

@@ -21,11 +21,11 @@ pub returns-in-Down-clause-went : goal.returns-in-Down-clause-went
 returns-in-Down-clause-went g c = still g.V.Volumes.faults is_end true c.args.landscape.now c.args.landscape.now refl
 
 pub returns-in_ok-finished-in-Run-clause-grew : goal.returns-in_ok-finished-in-Run-clause-grew
-returns-in_ok-finished-in-Run-clause-grew g c = λ unit given others named tells claims none.
+returns-in_ok-finished-in-Run-clause-grew g c = λ unit given others named tells claims.
     let told = subst (Tells given unit) c.in-Run.is tells in
     let are = subst (ClaimsAre c.args.landscape.now.world.claims others) c.in-Run.is claims in
     answered-run (meaning c.args.landscape.now.world.rules) c.args.landscape.now.world unit given others c.in-Run.claim told are named
     c.finish.new.landscape.world c.in_ok-finished-in-Run.finished c.after_run.result.given
     (c.in_ok-finished-in-Run.ensures.grew (run_held c.in-Run.claim)
-    (run-holds (meaning c.args.landscape.now.world.rules) c.args.landscape.now.world unit given others c.in-Run.claim told are) none)
+    (run-holds (meaning c.args.landscape.now.world.rules) c.args.landscape.now.world unit given others c.in-Run.claim told are))
     c.after_run.ensures.says

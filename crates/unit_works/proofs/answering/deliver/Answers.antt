@@ -2,6 +2,7 @@ use Rattle.std.specs.Result.{is_ok}
 use Rattle.std.proofs.Common.{true, false, refl, sym, ◌∙◌}
 use Rattle.unit_works.specs.declared.answering.Answered.{Answered}
 use Rattle.unit_works.specs.Events.{is_arrival, is_delivery, is_end}
+use Rattle.unit_works.proofs.PreparedLemmas.{ready-arrived}
 use Rattle.unit_works.proofs.WorkedLemmas.{arrival-delivers, delivered, end-delivers, on, short-of, still, wider}
 use Rattle.unit_works.proofs.answering.deliver.Goals as goal
 
@@ -28,4 +29,13 @@ returns-clause-grew g c =
     delivered g.V.Volumes.faults c.args.landscape.now c.arrive_under.new.landscape c.answer_of.new.landscape c.args.claim.now c.args.letter
     c.in_ok-arrival.arrival c.answer_of.result (λ (answered : Answered). answered.given) c.world.ensures.safe
     (sym c.arrives_under.ensures ∙ c.if-not-arrives_under.false) c.in_ok-arrival.ensures.went c.answer_of.ensures.went c.in_ok-arrival.ensures.grew
-    c.answer_of.ensures.grew
+    c.answer_of.ensures.grew c.answer_of.ensures.idle
+
+pub answer_of-requires : goal.answer_of-requires
+answer_of-requires g c =
+    let went = c.in_ok-arrival.ensures.went in
+    record {
+      ready = ready-arrived c.args.landscape.now.world c.arrive_under.new.landscape.world c.args.claim.now.tid c.args.ready c.in_ok-arrival.arrival
+          went.logs
+          (went.committed c.args.claim.now.tid) c.requires.ready c.in_ok-arrival.ensures.run;
+    }

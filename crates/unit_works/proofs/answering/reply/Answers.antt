@@ -1,4 +1,4 @@
-use Rattle.unit_works.proofs.ReplyingLemmas.{claims-replied, finished-replied, grown-replied, went-replied, went-replied_short}
+use Rattle.unit_works.proofs.ReplyingLemmas.{fewer-replied, appended-replied, claims-replied, finished-replied, stale-replied, went-replied, went-replied_short}
 use Rattle.unit_works.proofs.WorkedLemmas.{meaning, is_lawful}
 use Rattle.unit_works.proofs.answering.reply.Goals as goal
 
@@ -39,10 +39,27 @@ returns-in-Err-OutOfMemory-clause-went g c =
 
 pub returns-in-Ok-clause-grew : goal.returns-in-Ok-clause-grew
 returns-in-Ok-clause-grew g c = λ learnt stands same.
-    grown-replied meaning is_lawful c.args.landscape.now c.world.ensures.safe c.args.claim c.args.given g.V.Volumes.faults c.reply.new.self learnt stands same
+    appended-replied meaning is_lawful c.args.landscape.now c.world.ensures.safe c.args.claim c.args.given g.V.Volumes.faults c.reply.new.self learnt stands
+    same
     c.reply.result c.reply.ensures.ends (λ short. let is = c.in-Ok.is in cc)
 
 pub returns-in-Err-Stale-clause-grew : goal.returns-in-Err-Stale-clause-grew
 returns-in-Err-Stale-clause-grew g c = λ learnt stands same.
-    grown-replied meaning is_lawful c.args.landscape.now c.world.ensures.safe c.args.claim c.args.given g.V.Volumes.faults c.reply.new.self learnt stands same
+    appended-replied meaning is_lawful c.args.landscape.now c.world.ensures.safe c.args.claim c.args.given g.V.Volumes.faults c.reply.new.self learnt stands
+    same
     c.reply.result c.reply.ensures.ends (λ short. let is = c.in-Err-Stale.is in let its = c.in-Err-Stale.field-0-is in cc)
+
+pub returns-in-Ok-clause-stale : goal.returns-in-Ok-clause-stale
+returns-in-Ok-clause-stale g c = λ stale.
+    stale-replied meaning is_lawful c.args.landscape.now c.world.ensures.safe c.args.claim c.args.given g.V.Volumes.faults c.reply.new.self stale
+    c.reply.result c.reply.ensures.ends (λ short. let is = c.in-Ok.is in cc)
+
+pub returns-in-Err-Stale-clause-stale : goal.returns-in-Err-Stale-clause-stale
+returns-in-Err-Stale-clause-stale g c = λ stale.
+    stale-replied meaning is_lawful c.args.landscape.now c.world.ensures.safe c.args.claim c.args.given g.V.Volumes.faults c.reply.new.self stale
+    c.reply.result c.reply.ensures.ends (λ short. let is = c.in-Err-Stale.is in let its = c.in-Err-Stale.field-0-is in cc)
+
+pub returns-in-Ok-clause-fewer : goal.returns-in-Ok-clause-fewer
+returns-in-Ok-clause-fewer g c =
+    fewer-replied meaning is_lawful c.args.landscape.now c.world.ensures.safe c.args.claim c.args.given g.V.Volumes.faults c.reply.new.self
+    c.reply.result c.reply.ensures.ends (λ short. let is = c.in-Ok.is in cc)

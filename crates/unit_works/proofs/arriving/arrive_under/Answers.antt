@@ -1,7 +1,10 @@
 use Rattle.std.specs.Result.{is_ok}
-use Rattle.std.proofs.Common.{true, false, refl}
+use Rattle.std.proofs.Common.{true, false, refl, subst}
+use Rattle.unit_core.proofs.TidLemmas.{unit_named-Some}
+use Rattle.trfc_protocol.specs.Worlds.{committed_by}
 use Rattle.unit_works.specs.Events.{is_arrival}
-use Rattle.unit_works.proofs.WorkedLemmas.{arrived-on, left-on, on, short-of, still}
+use Rattle.unit_works.specs.steps.Arriving.{BeginsOn}
+use Rattle.unit_works.proofs.WorkedLemmas.{arrived-on, left-on, meaning, on, short-of, still}
 use Rattle.unit_works.proofs.arriving.arrive_under.Goals as goal
 
 pub returns-in_err-arrive_again-clause-went : goal.returns-in_err-arrive_again-clause-went
@@ -27,5 +30,12 @@ returns-in_err-unit-clause-went g c = still g.V.Volumes.faults is_arrival (is_ok
 pub returns-clause-grew : goal.returns-clause-grew
 returns-clause-grew g c =
     arrived-on g.V.Volumes.faults c.args.landscape.now c.arrive.new.landscape c.arrive_again.new.landscape c.args.claim.now.tid c.in_ok-unit.unit
-    c.in_ok-first.first c.in_ok-first.ensures.went c.in_ok-arrive_again.ensures.went c.in_ok-unit.ensures c.in_ok-first.ensures.grew
+    c.in_ok-first.first c.in_ok-unit.ensures c.in_ok-first.ensures.grew
     c.in_ok-arrive_again.ensures.grew
+
+pub returns-clause-run : goal.returns-clause-run
+returns-clause-run g c =
+    let world = c.args.landscape.now.world in
+    let tid = c.args.claim.now.tid in
+    subst (λ t. BeginsOn t c.in_ok-first.first)
+    (unit_named-Some tid (committed_by (meaning world.rules) world tid.system) c.in_ok-unit.unit c.in_ok-unit.ensures).1 c.in_ok-first.ensures.run

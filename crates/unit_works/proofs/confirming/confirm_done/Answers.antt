@@ -1,7 +1,7 @@
-use Rattle.std.proofs.Common.{true, false}
+use Rattle.std.proofs.Common.{true, false, inl, inr}
 use Rattle.unit_works.specs.Events.{is_confirmation}
 use Rattle.unit_works.proofs.TripLemmas.{due-parts}
-use Rattle.unit_works.proofs.WorkedLemmas.{done-grew, ended-on, on, short-of}
+use Rattle.unit_works.proofs.WorkedLemmas.{confirmed-done, confirmed-down, ended-on, on, short-of}
 use Rattle.unit_works.proofs.confirming.confirm_done.Goals as goal
 
 pub returns-in_err-_closed-in-Forgotten-clause-went : goal.returns-in_err-_closed-in-Forgotten-clause-went
@@ -24,12 +24,12 @@ returns-in_ok-_closed-in-Forgotten-clause-ended g c =
 pub returns-in_ok-_closed-in-Forgotten-clause-due : goal.returns-in_ok-_closed-in-Forgotten-clause-due
 returns-in_ok-_closed-in-Forgotten-clause-due g c = λ unit named due.
     let parts = due-parts c.args.landscape.now.world unit due in
-    done-grew g.V.Volumes.faults c.args.landscape.now c.send.new.landscape c.end.new.landscape c.args.tid unit c.in_ok-confirmed.confirmed
-    c.in_ok-confirmed.ensures.went c.in_ok-_closed-in-Forgotten.ensures.went due (c.in_ok-confirmed.ensures.sent unit named parts.1)
+    confirmed-done g.V.Volumes.faults c.args.landscape.now c.send.new.landscape c.end.new.landscape c.args.tid unit c.in_ok-confirmed.confirmed
+    due (c.in_ok-confirmed.ensures.sent unit named parts.1) (λ down. elim c.in-Forgotten.is [ inl forgotten ↦ cc | inr already ↦ cc ])
     c.in_ok-_closed-in-Forgotten.ensures.grew
 
 pub returns-in-Down-clause-due : goal.returns-in-Down-clause-due
-returns-in-Down-clause-due g c = λ unit named due none.
+returns-in-Down-clause-due g c = λ unit named due.
     let parts = due-parts c.args.landscape.now.world unit due in
-    let sent = c.in_ok-confirmed.ensures.sent unit named parts.1 none in
-    absurd (sent.came c.in-Down.is)
+    confirmed-down g.V.Volumes.faults c.args.landscape.now c.send.new.landscape c.args.tid unit c.in_ok-confirmed.confirmed
+    (c.in_ok-confirmed.ensures.sent unit named parts.1) c.in-Down.is

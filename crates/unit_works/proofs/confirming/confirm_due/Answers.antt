@@ -8,7 +8,8 @@ use Rattle.unit_works.proofs.confirming.confirm_due.Goals as goal
 pub returns-clause-worked : goal.returns-clause-worked
 returns-clause-worked g c =
     visited-confirmed g.V.Volumes.faults c.args.landscape.now c.confirm_sent.new.landscape c.args.wires.now c.take-letter.new.self c.confirm_sent.result
-    c.confirm_sent.ensures.went c.confirm_sent.ensures.ended (taken-one c.args.tid c.args.wires.now c.take-letter.new.self c.take-letter.ensures.rest)
+    c.world.ensures.safe c.confirm_sent.ensures.went c.confirm_sent.ensures.ended
+    (taken-one c.args.tid c.args.wires.now c.take-letter.new.self c.take-letter.ensures.rest)
     c.args.tid c.take-letter.result c.take-letter.ensures.letter c.take-letter.ensures.rest (c.is_due.ensures.due c.if-not-is_due.false)
     c.confirm_sent.ensures.due
 

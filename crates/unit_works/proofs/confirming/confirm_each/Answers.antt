@@ -1,9 +1,10 @@
-use Rattle.std.proofs.Common.{◌≡◌, ◌+◌, ◌∙◌, ap, false, true, refl, take}
+use Rattle.std.proofs.Common.{◌≡◌, ◌+◌, ◌∙◌, ap, false, true, refl, subst, sym, take}
+use Rattle.std.proofs.lemmas.Bool.{both_ways}
 use Rattle.std.proofs.lemmas.List.{take_all}
 use Rattle.ale_base.specs.Tid.{TidOf}
 use Rattle.unit_core.specs.Queues.{is_listed}
 use Rattle.unit_works.specs.Events.{is_work}
-use Rattle.unit_works.proofs.DrainedLemmas.{listed-next, visited-among, visited-none, visited-on, visited-short}
+use Rattle.unit_works.proofs.DrainedLemmas.{apart-before, listed-next, listed-still, visited-among, visited-none, visited-on, visited-short}
 use Rattle.unit_works.proofs.WorkedLemmas.{on}
 use Rattle.unit_works.proofs.confirming.confirm_each.Goals as goal
 
@@ -26,7 +27,12 @@ loop-tid-preserved g c =
     visited-on g.V.Volumes.faults c.args.landscape.now c.loop-tid.landscape c.confirm_due.new.landscape c.args.wires.now c.loop-tid.wires
     c.confirm_due.new.wires (λ (other : TidOf). is_listed other (take at c.args.tids.now) ≡ true) (λ (other : TidOf). other ≡ c.tid-item.result)
     (λ (other : TidOf). is_listed other (take (at + 1) c.args.tids.now) ≡ true)
-    (λ other listed. listed-next c.args.tids.now at c.tid-item.result other c.loop-tid-test.true c.tid-item.is listed) c.loop-tid.invariant
+    (λ other listed. listed-next c.args.tids.now at c.tid-item.result other c.loop-tid-test.true c.tid-item.is listed)
+    (λ other either. listed-still c.args.tids.now at c.tid-item.result other c.loop-tid-test.true c.tid-item.is either)
+    (λ other listed same. both_ways (is_listed other (take at c.args.tids.now))
+    (subst (λ (t : TidOf). is_listed t (take at c.args.tids.now) ≡ false) (sym same)
+    (apart-before c.args.tids.now at c.tid-item.result c.loop-tid-test.true c.tid-item.is c.requires.apart)) listed)
+    c.loop-tid.invariant
     c.in_ok-confirm_due.ensures.worked
 
 pub returns : goal.returns
@@ -34,4 +40,6 @@ returns g c =
     visited-among g.V.Volumes.faults c.args.landscape.now c.loop-tid.landscape c.args.wires.now c.loop-tid.wires
     (λ (other : TidOf). is_listed other (take c.loop-tid.tid-index c.args.tids.now) ≡ true) (λ (other : TidOf). is_listed other c.args.tids.now ≡ true)
     (λ unit listed named due.
-    ap (is_listed unit.tid) (take_all c.loop-tid.tid-index c.args.tids.now c.loop-tid-test.false) ∙ listed) c.loop-tid.invariant
+    ap (is_listed unit.tid) (take_all c.loop-tid.tid-index c.args.tids.now c.loop-tid-test.false) ∙ listed)
+    (λ other range listed.
+    sym (ap (is_listed other) (take_all c.loop-tid.tid-index c.args.tids.now c.loop-tid-test.false)) ∙ listed) c.loop-tid.invariant

@@ -1,8 +1,7 @@
 use Rattle.std.proofs.Common.{true, refl, cond, [], sym, subst, ◌∙◌}
 use Rattle.std.specs.Prelude.{OnOk}
 use Rattle.wires.specs.declared.letter.Letter.TheVariants.{Whole}
-use Rattle.unit_works.specs.Acts.{GrewBy}
-use Rattle.unit_works.specs.Trips.{confirmation, forgot}
+use Rattle.unit_works.specs.Trips.{Appended, confirmation, forgot}
 use Rattle.unit_works.specs.Events.{is_confirmation}
 use Rattle.unit_works.proofs.WorkedLemmas.{still}
 use Rattle.unit_works.proofs.confirming.confirm_sent.Goals as goal
@@ -12,6 +11,6 @@ returns-then-not-is_sent_under-clause-went g c = still g.V.Volumes.faults is_con
 
 pub returns-clause-due : goal.returns-clause-due
 returns-clause-due g c = λ unit named due.
-    subst (λ b. OnOk c.confirm_noted.result (GrewBy c.args.landscape.now c.confirm_noted.new.landscape
+    subst (λ b. OnOk c.confirm.result (Appended c.args.landscape.now.world c.confirm.new.landscape.world
     (cond b (confirmation Whole (forgot c.args.landscape.now.world unit) unit) [])))
-    (sym (sym c.is_sent_under.ensures ∙ c.if-not-is_sent_under.false)) (c.confirm_noted.ensures.due unit named due)
+    (sym (sym c.is_sent_under.ensures ∙ c.if-not-is_sent_under.false)) (c.confirm.ensures.due unit named due)

@@ -1,6 +1,6 @@
 use Rattle.std.proofs.Common.{arith}
 use Rattle.unit_landscape.specs.Calls.{ClosedAs}
-use Rattle.unit_works.proofs.ConfirmingLemmas.{claims-closed, finished-closed, grown-closed, went-closed}
+use Rattle.unit_works.proofs.ConfirmingLemmas.{appended-closed, claims-closed, finished-closed, went-closed}
 use Rattle.unit_works.proofs.WorkedLemmas.{meaning, is_lawful, ok-of}
 use Rattle.unit_works.proofs.confirming.end.Goals as goal
 
@@ -26,4 +26,4 @@ pub returns-clause-grew : goal.returns-clause-grew
 returns-clause-grew g c = λ up lasts.
     ok-of c.ended.result (ClosedAs (meaning c.args.landscape.now.world.rules) g.V.Volumes.faults c.args.landscape.now c.ended.new.self c.args.tid)
     c.ended.ensures.event
-    (grown-closed meaning is_lawful g.V.Volumes.faults c.args.landscape.now c.ended.new.self c.world.ensures.safe c.args.tid c.requires.forgotten up lasts)
+    (appended-closed meaning is_lawful g.V.Volumes.faults c.args.landscape.now c.ended.new.self c.world.ensures.safe c.args.tid c.requires.forgotten up lasts)

@@ -2,7 +2,7 @@ use Rattle.std.proofs.Common.{◌≡◌, ◌+◌, false, refl, arith}
 use Rattle.ale_base.specs.Tid.{TidOf}
 use Rattle.unit_works.specs.Events.{is_work}
 use Rattle.unit_works.specs.steps.Rounds.{IsTo}
-use Rattle.unit_works.proofs.DrainedLemmas.{visited-among, visited-none, visited-on, visited-short, within-more}
+use Rattle.unit_works.proofs.DrainedLemmas.{visited-among, visited-none, visited-on, visited-short, within-more, within-still}
 use Rattle.unit_works.proofs.WorkedLemmas.{on}
 use Rattle.unit_works.proofs.draining.confirm_all.Goals as goal
 
@@ -17,7 +17,9 @@ pub loop-number-preserved : goal.loop-number-preserved
 loop-number-preserved g c =
     visited-on g.V.Volumes.faults c.args.landscape.now c.loop-number.landscape c.confirm_at.new.landscape c.args.wires.now c.loop-number.wires
     c.confirm_at.new.wires (IsTo c.loop-number.number) (λ (other : TidOf). other.system ≡ c.in-Some.system) (IsTo (c.loop-number.number + 1))
-    (λ tid within. within-more c.loop-number.number c.in-Some.system tid c.in-Some.ensures.found within) c.loop-number.invariant c.in_ok-confirm_at.ensures
+    (λ tid within. within-more c.loop-number.number c.in-Some.system tid c.in-Some.ensures.found within)
+    (λ tid either. within-still c.loop-number.number c.in-Some.system tid c.in-Some.ensures.found either)
+    (λ tid within here. let most = within.1 in let next = c.in-Some.ensures.found in absurd (omega arith)) c.loop-number.invariant c.in_ok-confirm_at.ensures
 
 pub loop-number-init : goal.loop-number-init
 loop-number-init g c =
@@ -27,4 +29,5 @@ loop-number-init g c =
 pub returns : goal.returns
 returns g c =
     visited-among g.V.Volumes.faults c.args.landscape.now c.loop-number.landscape c.args.wires.now c.loop-number.wires (IsTo c.loop-number.number) (IsTo 16)
-    (λ unit within named due. let most = within.1 in let end = c.loop-number-test.false in (within.0, omega arith)) c.loop-number.invariant
+    (λ unit within named due. let most = within.1 in let end = c.loop-number-test.false in (within.0, omega arith))
+    (λ tid range within. (range.system_least, range.system_most)) c.loop-number.invariant

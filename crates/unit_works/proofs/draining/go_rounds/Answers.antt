@@ -1,15 +1,17 @@
 use Rattle.std.proofs.Common.{false, arith, subst, refl}
 use Rattle.unit_works.specs.Drained.{Found, IsIdle}
 use Rattle.unit_works.specs.Events.{is_work}
-use Rattle.unit_works.proofs.DrainedLemmas.{rounds-idle, rounds-short, worked-on, worked-same}
+use Rattle.unit_works.proofs.DrainedLemmas.{gone-on, gone-same, rounds-idle, rounds-short}
 use Rattle.unit_works.proofs.WorkedLemmas.{on, part}
 use Rattle.unit_works.proofs.draining.go_rounds.Goals as goal
 
 pub returns-in_err-go_round : goal.returns-in_err-go_round
 returns-in_err-go_round g c =
+    let gone = c.loop-round.invariant.0 in
+    let worked = gone.worked in
     rounds-short g.V.Volumes.faults c.args.landscape.now c.go_round.new.landscape c.args.wires.now c.go_round.new.wires c.from_residual.result
     c.from_residual.ensures.0
-    (on g.V.Volumes.faults is_work false c.args.landscape.now c.loop-round.landscape c.go_round.new.landscape (c.loop-round.invariant.0).went
+    (on g.V.Volumes.faults is_work false c.args.landscape.now c.loop-round.landscape c.go_round.new.landscape worked.went
     c.in_err-go_round.ensures)
 
 pub returns-in-None : goal.returns-in-None
@@ -26,14 +28,17 @@ loop-round-preserved g c =
     let found = subst (Found g.V.Volumes.faults c.loop-round.landscape c.loop-round.wires c.go_round.new.landscape c.go_round.new.wires 32
     (IsIdle c.loop-round.landscape.world))
     c.in-Some.is c.in_ok-go_round.ensures in (
-      worked-on g.V.Volumes.faults c.args.landscape.now c.loop-round.landscape c.go_round.new.landscape c.args.wires.now c.loop-round.wires
+      gone-on g.V.Volumes.faults c.args.landscape.now c.loop-round.landscape c.go_round.new.landscape c.args.wires.now c.loop-round.wires
           c.go_round.new.wires
           c.loop-round.finished c.in-Some.more c.loop-round.invariant.0 found.0,
       let below = c.loop-round.invariant.1 in let few = found.1 in omega arith,
     )
 
 pub loop-round-init : goal.loop-round-init
-loop-round-init g c = (worked-same g.V.Volumes.faults c.args.landscape.now c.args.landscape.now c.args.wires.now c.args.wires.now refl refl, omega arith)
+loop-round-init g c = (gone-same g.V.Volumes.faults c.args.landscape.now c.args.landscape.now c.args.wires.now c.args.wires.now refl refl, omega arith)
 
 pub returns : goal.returns
-returns g c = part g.V.Volumes.faults is_work c.args.landscape.now c.loop-round.landscape (c.loop-round.invariant.0).went
+returns g c =
+    let gone = c.loop-round.invariant.0 in
+    let worked = gone.worked in
+    part g.V.Volumes.faults is_work c.args.landscape.now c.loop-round.landscape worked.went

@@ -1,7 +1,7 @@
 use Rattle.std.proofs.Common.{◌*◌, ◌≤◌}
-use Rattle.unit_works.specs.Drained.{HasWorked}
+use Rattle.unit_works.specs.Drained.{HasGone}
 use Rattle.unit_works.proofs.draining.go_rounds.Given as goal
 
 -- works were done in the rounds so far, and each ended at most 32 runs and executions
 abbrev pub invariant-loop-round : goal.invariant-loop-round
-invariant-loop-round g l = HasWorked g.V.Volumes.faults l.fn.landscape l.fn.wires l.landscape l.wires l.finished × (l.finished ≤ 32 * l._round)
+invariant-loop-round g l = HasGone g.V.Volumes.faults l.fn.landscape l.fn.wires l.landscape l.wires l.finished × (l.finished ≤ 32 * l._round)

@@ -1,9 +1,9 @@
 use Rattle.std.specs.Prelude.{Err, IfOk}
 use Rattle.std.proofs.Common.{◌≡◌, ◌+◌, ap, subst, ◌∙◌}
-use Rattle.unit_works.specs.Claims.{AreOrGone}
+use Rattle.unit_works.specs.Claims.{AreOrGone, NoneAdded}
 use Rattle.unit_works.specs.Finished.{finished_in}
-use Rattle.unit_works.specs.steps.Ending.{HasFinished, ended_by, ended_of}
-use Rattle.unit_works.proofs.EndingLemmas.{claims-finished, finished-finished, has-finished, went-finished, went-finished_short}
+use Rattle.unit_works.specs.steps.Ending.{FinishedSo, ended_by, ended_of}
+use Rattle.unit_works.proofs.EndingLemmas.{claims-finished, fewer-finished, finished-finished, has-finished, went-finished, went-finished_short}
 use Rattle.unit_works.proofs.WorkedLemmas.{meaning, is_lawful}
 use Rattle.unit_works.proofs.ending.finish_with.Goals as goal
 
@@ -41,15 +41,21 @@ returns-in-Err-OutOfMemory-clause-went g c =
     c.finish.result c.finish.ensures.ends
 
 pub returns-in-Ok-clause-grew : goal.returns-in-Ok-clause-grew
-returns-in-Ok-clause-grew g c = λ held holds none.
-    subst (λ r. IfOk (ended_of r) (λ given. HasFinished (meaning c.args.landscape.now.world.rules) c.args.landscape.now.world c.finish.new.self.world
-    c.args.claim held given)) c.in-Ok.is
+returns-in-Ok-clause-grew g c = λ held holds.
+    subst (λ r. IfOk (ended_of r) (FinishedSo (meaning c.args.landscape.now.world.rules) c.args.landscape.now.world c.finish.new.self.world
+    c.args.claim held)) c.in-Ok.is
     (has-finished meaning is_lawful c.args.landscape.now c.world.ensures.safe c.args.claim g.V.Volumes.faults c.finish.new.self held holds c.finish.result
-    c.finish.ensures.ends none)
+    c.finish.ensures.ends)
 
 pub returns-in-Err-Stale-clause-grew : goal.returns-in-Err-Stale-clause-grew
-returns-in-Err-Stale-clause-grew g c = λ held holds none.
-    subst (λ r. IfOk (ended_of r) (λ given. HasFinished (meaning c.args.landscape.now.world.rules) c.args.landscape.now.world c.finish.new.self.world
-    c.args.claim held given)) (c.in-Err-Stale.is ∙ ap Err c.in-Err-Stale.field-0-is)
+returns-in-Err-Stale-clause-grew g c = λ held holds.
+    subst (λ r. IfOk (ended_of r) (FinishedSo (meaning c.args.landscape.now.world.rules) c.args.landscape.now.world c.finish.new.self.world
+    c.args.claim held)) (c.in-Err-Stale.is ∙ ap Err c.in-Err-Stale.field-0-is)
     (has-finished meaning is_lawful c.args.landscape.now c.world.ensures.safe c.args.claim g.V.Volumes.faults c.finish.new.self held holds c.finish.result
-    c.finish.ensures.ends none)
+    c.finish.ensures.ends)
+
+pub returns-in-Ok-clause-fewer : goal.returns-in-Ok-clause-fewer
+returns-in-Ok-clause-fewer g c =
+    subst (λ r. IfOk (ended_of r) (λ given. NoneAdded c.args.landscape.now.world.claims c.finish.new.self.world.claims)) c.in-Ok.is
+    (fewer-finished meaning is_lawful c.args.landscape.now c.world.ensures.safe c.args.claim g.V.Volumes.faults c.finish.new.self c.finish.result
+    c.finish.ensures.ends)

@@ -13,10 +13,10 @@ use Rattle.unit_works.proofs.rounds.visit.Goals as goal
 pub returns-in_err-executed : goal.returns-in_err-executed
 returns-in_err-executed g c =
     let before = c.args.landscape.now in
-    let between = c.ship_first.new.landscape in
-    let after = c.execute_first.new.landscape in
+    let between = c.ship_next.new.landscape in
+    let after = c.execute_next.new.landscape in
     let lines = c.args.wires.now in
-    let lines_after = c.ship_first.new.wires in
+    let lines_after = c.ship_next.new.wires in
     found-short g.V.Volumes.faults before after lines lines_after 2 (NothingAt before.world c.args.system)
     c.from_residual-in_err-executed.result c.from_residual-in_err-executed.ensures.0
     (on g.V.Volumes.faults is_work false before between after
@@ -27,10 +27,10 @@ returns-in_err-executed g c =
 pub returns : goal.returns
 returns g c =
     let before = c.args.landscape.now in
-    let between = c.ship_first.new.landscape in
-    let after = c.execute_first.new.landscape in
+    let between = c.ship_next.new.landscape in
+    let after = c.execute_next.new.landscape in
     let lines = c.args.wires.now in
-    let lines_after = c.ship_first.new.wires in
+    let lines_after = c.ship_next.new.wires in
     subst (Found g.V.Volumes.faults before lines after lines_after 2 (NothingAt before.world c.args.system)) (sym c.joined.ensures)
     (found-on g.V.Volumes.faults before between after lines lines_after lines_after 1 1 (NothingOut before.world c.args.system)
     (λ (k : KeptOf ModelRules DocumentTables g.row.V.Denot). NothingIn k.world c.args.system) c.in_ok-shipped.shipped c.in_ok-executed.executed

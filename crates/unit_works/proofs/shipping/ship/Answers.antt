@@ -1,6 +1,7 @@
 use Rattle.std.proofs.Common.{true, false}
 use Rattle.unit_works.specs.Events.{is_shipping}
-use Rattle.unit_works.proofs.WorkedLemmas.{ships-confirmed, ships-delivered, ships-replied, shipped-grew, short-of}
+use Rattle.unit_works.proofs.ClaimLemmas.{none-added, none-added-on}
+use Rattle.unit_works.proofs.WorkedLemmas.{ships-confirmed, ships-delivered, ships-replied, shipped-appended, short-of}
 use Rattle.unit_works.proofs.shipping.ship.Goals as goal
 
 pub returns-in_err-answered-clause-went : goal.returns-in_err-answered-clause-went
@@ -31,7 +32,16 @@ returns-clause-went g c =
 
 pub returns-clause-grew : goal.returns-clause-grew
 returns-clause-grew g c =
-    shipped-grew g.V.Volumes.faults c.args.landscape.now c.deliver.new.landscape c.reply.new.landscape c.confirm_under.new.landscape c.args.claim c.args.letter
+    shipped-appended g.V.Volumes.faults c.args.landscape.now c.deliver.new.landscape c.reply.new.landscape c.confirm_under.new.landscape c.args.claim
+    c.args.letter
     c.in_ok-answered.answered.given c.told_under-told.result c.tid-tid.result c.world.ensures.safe c.requires.stands c.told_under-told.ensures c.tid-tid.ensures
-    c.in_ok-answered.ensures.went c.in_ok-reply.ensures.went c.in_ok-confirm_under.ensures.went c.in_ok-answered.ensures.grew c.in_ok-reply.ensures.grew
+    c.in_ok-answered.ensures.went c.in_ok-reply.ensures.went c.in_ok-answered.ensures.grew c.in_ok-reply.ensures.grew c.in_ok-reply.ensures.stale
     c.in_ok-confirm_under.ensures.due c.confirm_under.ensures.same
+
+pub returns-clause-fewer : goal.returns-clause-fewer
+returns-clause-fewer g c =
+    let ended = c.in_ok-confirm_under.ensures.ended in
+    none-added-on c.args.landscape.now.world.claims c.reply.new.landscape.world.claims c.confirm_under.new.landscape.world.claims
+    (none-added-on c.args.landscape.now.world.claims c.deliver.new.landscape.world.claims c.reply.new.landscape.world.claims
+    (none-added c.args.landscape.now.world.claims c.deliver.new.landscape.world.claims c.in_ok-answered.ensures.claims) c.in_ok-reply.ensures.fewer)
+    (none-added c.reply.new.landscape.world.claims c.confirm_under.new.landscape.world.claims ended.claims)

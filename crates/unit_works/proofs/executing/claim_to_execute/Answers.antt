@@ -1,6 +1,6 @@
 use Rattle.unit_works.proofs.ClaimingLemmas.{went-claimed_in, finished-in, executed-in}
 use Rattle.unit_works.proofs.WorkedLemmas.{meaning, is_lawful}
-use Rattle.unit_works.proofs.executing.claim_next.Goals as goal
+use Rattle.unit_works.proofs.executing.claim_to_execute.Goals as goal
 
 pub returns-clause-went : goal.returns-clause-went
 returns-clause-went g c =

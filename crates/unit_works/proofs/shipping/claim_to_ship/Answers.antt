@@ -1,6 +1,6 @@
 use Rattle.unit_works.proofs.ClaimingLemmas.{went-claimed_out, finished-out, shipped-out}
 use Rattle.unit_works.proofs.WorkedLemmas.{meaning, is_lawful}
-use Rattle.unit_works.proofs.shipping.claim_next.Goals as goal
+use Rattle.unit_works.proofs.shipping.claim_to_ship.Goals as goal
 
 pub returns-clause-went : goal.returns-clause-went
 returns-clause-went g c =
