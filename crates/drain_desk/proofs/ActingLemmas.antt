@@ -1,0 +1,161 @@
+-- Works are done: the unit of a claim is shipped or executed, or its claim does not stand.
+use Rattle.std.specs.List.{list_all}
+use Rattle.std.proofs.Common.{◌≡◌, ◌==◌, ℕ, not, Bool, true, false, Option, Some, List, [], ◌∷◌, Result, Ok, Err, inl, inr, refl, sym, ap, subst, ◌∙◌}
+use Rattle.std.proofs.lemmas.Bool.{and_parts, cases_Bool, not-true}
+use Rattle.std.proofs.lemmas.Option.{same_Some}
+use Rattle.ale_base.specs.declared.out_of_memory.OutOfMemory.{OutOfMemory}
+use Rattle.unit_core.specs.declared.ale_unit.AleUnit.{AleUnit}
+use Rattle.unit_core.specs.Filters.{executed, is_marked, received}
+use Rattle.unit_core.specs.Queues.{heads_inbound, unit_named}
+use Rattle.ale_base.specs.declared.way.Way.TheVariants.{Incoming}
+use Rattle.unit_core.proofs.TidLemmas.{unit_named-Some}
+use Rattle.trfc_protocol.specs.declared.held.Held.{Held}
+use Rattle.trfc_protocol.specs.declared.held.HeldKind.{HeldKind}
+use Rattle.trfc_protocol.specs.declared.held.HeldKind.TheVariants.{Direct, In, Out}
+use Rattle.trfc_protocol.specs.Offered.{is_stopped_inbound, is_stopped_outbound, may_move}
+use Rattle.trfc_protocol.specs.Safe.{is_due}
+use Rattle.trfc_protocol.specs.Worlds.{claim_of, committed_unit, is_kind, log_of}
+use Rattle.trfc_protocol.proofs.ClaimLemmas.{claim_of-Some}
+use Rattle.trfc_protocol.proofs.LegalLemmas.{is_free-parts}
+use Rattle.trfc_protocol.proofs.SafeLemmas.{hold, received-is}
+use Rattle.kept_world.specs.Kept.{KeptOf}
+use Rattle.document_tables.specs.declared.document_tables.DocumentTables.{DocumentTables}
+use Rattle.model_rules.specs.declared.model_rules.ModelRules.{ModelRules}
+use Rattle.unit_landscape.specs.Appending.{HoldsIn}
+use Rattle.unit_landscape.specs.Calls.{stands_in}
+use Rattle.unit_landscape.specs.Kept.{IsLandscape}
+use Rattle.unit_landscape.specs.declared.claims.InClaim.{InClaim}
+use Rattle.unit_landscape.specs.declared.claims.OutClaim.{OutClaim}
+use Rattle.wires.specs.Wires.{letters_left, next_letter}
+use Rattle.unit_works.specs.Acts.{execute, ship}
+use Rattle.unit_works.specs.Claims.{NoneRuns}
+use Rattle.unit_works.specs.Events.{is_execution, is_shipping, is_work}
+use Rattle.unit_works.specs.Worked.{HaveTaken, Lines}
+use Rattle.unit_works.specs.Works.{ClaimExecutedAs, ClaimShippedAs}
+use Rattle.unit_works.proofs.ClaimLemmas.{held-in}
+use Rattle.unit_works.proofs.DrainedLemmas.{only-same, taken-none, taken-one, worked-same}
+use Rattle.unit_works.proofs.OnceLemmas.{once-shipped}
+use Rattle.unit_works.proofs.WorkedLemmas.{execution-works, is_lawful, meaning, shipping-works, wider}
+use Rattle.drain_desk.specs.declared.work.Task.TheVariants.{Execute, Ship}
+use Rattle.drain_desk.specs.Work.{MayGo}
+use Rattle.drain_desk.specs.steps.Acting.{ActedAs, HasActed}
+
+-- a unit none of whose queues is stopped may move
+moves-of : (is_stopped : AleUnit → Bool) (found : Option AleUnit) (unit : AleUnit) → found ≡ Some unit → is_stopped unit ≡ false
+    → may_move is_stopped found ≡ true
+moves-of is_stopped found unit is none = ap (may_move is_stopped) is ∙ ap not none
+
+-- what is so of all claims is so of the one of a number
+claim-all : (is : Held → Bool) (number : ℕ) (claims : List Held) (held : Held) → claim_of number claims ≡ Some held → list_all is claims ≡ true
+    → is held ≡ true
+claim-all is number [] held found all = cc
+claim-all is number (h ∷ hs) held found all =
+    let parts = and_parts (is h) (list_all is hs) all in
+    elim (cases_Bool (h.number == number)) [
+      | inl here ↦
+          let same : h ≡ held = same_Some h held (sym (rw here refl) ∙ found) in
+          subst (λ (g : Held). is g ≡ true) same parts.0
+      | inr other ↦ claim-all is number hs held (sym (rw other refl) ∙ found) parts.1
+    ]
+
+kind-in : (kind : HeldKind) → is_kind kind Out ≡ false → is_kind kind Direct ≡ false → kind ≡ In
+kind-in In out direct = refl
+kind-in Out out direct = cc
+kind-in Direct out direct = cc
+
+module _ {V : Type 0} (faults : V → ℕ → ℕ) (before after : KeptOf ModelRules DocumentTables V) (lines lines_after : Lines) where
+  -- nothing was done
+  pub acted-none : after ≡ before → lines_after ≡ lines → HasActed faults before after lines lines_after 0
+  acted-none same same_lines =
+      let none = worked-same faults before after lines lines_after same same_lines in
+      let ended = none.ended in
+      record {
+        went = none.went;
+        taken = none.taken;
+        count = ended.finished;
+        fewer = λ is each. ap (λ (k : KeptOf ModelRules DocumentTables V). list_all is k.world.claims) same ∙ each;
+        acts = [];
+        did = (only-same faults before after same, same_lines);
+        ships = refl;
+        once = λ runs tid. inl refl;
+      }
+
+  -- the unit of a claim was shipped
+  pub acted-shipped : (claim : OutClaim) (n : ℕ) → MayGo before.world (Ship claim)
+      → ClaimShippedAs faults before after lines lines_after claim (Ok (Some n)) → HasActed faults before after lines lines_after n
+  acted-shipped claim n may did =
+      let tid = claim.tid in
+      let letter = next_letter (letters_left lines tid) in
+      let moves = moves-of (is_stopped_outbound (log_of before.world tid.system)) (committed_unit (meaning before.world.rules) before.world tid) may.unit
+      may.named may.is in
+      let acted = did.1 moves in
+      let shipped = acted.1 in
+      record {
+        went = wider faults (is_shipping letter) is_work true before after (shipping-works letter) shipped.went;
+        taken = taken-one tid lines lines_after shipped.taken;
+        count = did.2;
+        fewer = did.3;
+        acts = ship tid letter acted.0 ∷ [];
+        did = (before, after, lines_after, only-same faults before before refl, shipped, (only-same faults after after refl, refl));
+        ships = refl;
+        once = λ runs other. once-shipped faults before after lines lines_after tid letter acted.0 shipped runs other;
+      }
+
+  -- the unit of a claim was executed, or the claim does not stand
+  pub acted-executed : (claim : InClaim) (n : ℕ) → IsLandscape meaning before.world → MayGo before.world (Execute claim) → NoneRuns before.world.claims
+      → lines_after ≡ lines → ClaimExecutedAs faults before after claim (Ok n) → HasActed faults before after lines lines_after n
+  acted-executed claim n is may runs same_lines did = elim (cases_Bool (stands_in before.world claim)) [
+    | inr stale ↦
+        let none = acted-none (did.0 stale) same_lines in
+        record {
+          went = none.went;
+          taken = none.taken;
+          count = did.2;
+          fewer = none.fewer;
+          acts = none.acts;
+          did = none.did;
+          ships = none.ships;
+          once = none.once;
+        }
+    | inl stands ↦ held-executed (held-in before.world claim stands)
+  ]
+    where
+      held-executed : (held : Held) × HoldsIn before.world claim held → HasActed faults before after lines lines_after n
+      held-executed there =
+          let held = there.0 in
+          let holds = there.1 in
+          let rules = meaning before.world.rules in
+          let law = is_lawful before.world.rules in
+          let records = log_of before.world held.system in
+          let direct = claim-all (λ (h : Held). not (is_kind h.kind Direct)) claim.number before.world.claims held holds.found runs in
+          let kind = kind-in held.kind holds.kind (not-true (is_kind held.kind Direct) direct) in
+          let its = hold rules law before.world is.safe held (claim_of-Some claim.number before.world.claims held holds.found).0 in
+          let parts = is_free-parts (executed records) (is_marked Incoming held.tid records) (heads_inbound (executed records) (received records))
+          (unit_named held.tid (received records)) (ap (is_due rules before.world held) (sym kind) ∙ its.due) in
+          let unit = parts.0 in
+          let found = unit_named-Some held.tid (received records) unit parts.1 in
+          let got = received-is rules law before.world is.safe held.system unit found.0 in
+          let same : may.unit ≡ unit =
+          same_Some may.unit unit (sym may.named ∙ ap (committed_unit rules before.world) (sym (found.1 ∙ holds.its)) ∙ got.1) in
+          let stopped : is_stopped_inbound records unit ≡ false =
+          ap (λ s. is_stopped_inbound (log_of before.world s) unit) (sym got.0)
+          ∙ ap (λ (u : AleUnit). is_stopped_inbound (log_of before.world u.receiver) u) (sym same) ∙ may.is in
+          let acted = did.1 held holds kind (moves-of (is_stopped_inbound records) (unit_named held.tid (received records)) unit parts.1 stopped) in
+          let did_it = acted.1 in
+          record {
+            went = wider faults is_execution is_work true before after execution-works did_it.went;
+            taken = subst (HaveTaken lines) (sym same_lines) (taken-none lines);
+            count = did.2;
+            fewer = did.3;
+            acts = execute held.system held.tid acted.0 ∷ [];
+            did = (before, after, lines, only-same faults before before refl, (did_it, refl), (only-same faults after after refl, same_lines));
+            ships = refl;
+            once = λ none tid. inl refl;
+          }
+
+  -- the same of a call
+  pub executed-as : (claim : InClaim) (result : Result ℕ OutOfMemory) → IsLandscape meaning before.world → MayGo before.world (Execute claim)
+      → NoneRuns before.world.claims → lines_after ≡ lines → ClaimExecutedAs faults before after claim result
+      → ActedAs faults before after lines lines_after result
+  executed-as claim (Ok n) is may runs same_lines did = acted-executed claim n is may runs same_lines did
+  executed-as claim (Err short) is may runs same_lines did = wider faults is_execution is_work false before after execution-works did

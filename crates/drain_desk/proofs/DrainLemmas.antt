@@ -1,0 +1,138 @@
+-- Workers begin and end: claims are given up, and what is still offered is shipped and executed.
+use Rattle.std.specs.List.{list_all}
+use Rattle.std.proofs.Common.{◌≡◌, ◌+◌, ℕ, not, Bool, true, false, [], ◌++◌, Result, Ok, Err, inl, inr, refl, sym, ap, subst, ◌∙◌, arith}
+use Rattle.std.proofs.lemmas.Bool.{and_from}
+use Rattle.std.proofs.lemmas.List.Folds.{list_all-append}
+use Rattle.ale_base.specs.declared.out_of_memory.OutOfMemory.{OutOfMemory}
+use Rattle.trfc_protocol.specs.declared.event.Event.TheVariants as event
+use Rattle.trfc_protocol.specs.declared.event.Action.TheVariants.{Revoke}
+use Rattle.trfc_protocol.specs.declared.held.Held.{Held}
+use Rattle.trfc_protocol.specs.declared.held.HeldKind.TheVariants.{Direct}
+use Rattle.trfc_protocol.specs.declared.world.World.{World}
+use Rattle.trfc_protocol.specs.Worlds.{is_kind}
+use Rattle.kept_world.specs.Kept.{KeptOf}
+use Rattle.kept_world.specs.Answers.{KeepsVolumes}
+use Rattle.document_tables.specs.declared.document_tables.DocumentTables.{DocumentTables}
+use Rattle.model_rules.specs.declared.model_rules.ModelRules.{ModelRules}
+use Rattle.unit_landscape.specs.Ends.{Happened}
+use Rattle.unit_landscape.specs.Kept.{IsLandscape}
+use Rattle.unit_works.specs.Drained.{is_round}
+use Rattle.unit_works.specs.Events.{is_work}
+use Rattle.unit_works.specs.Finished.{finished_in}
+use Rattle.unit_works.specs.Worked.{HaveOnlyClaimed, Lines, Worked}
+use Rattle.unit_works.specs.steps.Rounds.{RoundsAs}
+use Rattle.unit_works.proofs.DrainedLemmas.{acted-on, taken-none, taken-on}
+use Rattle.unit_works.proofs.OnceLemmas.{once-on}
+use Rattle.unit_works.proofs.StateLemmas.{happens-step}
+use Rattle.unit_works.proofs.WentLemmas.{went-happened}
+use Rattle.unit_works.proofs.WorkedLemmas.{is_lawful, meaning, on, part}
+use Rattle.drain_desk.specs.Desk.{AreGoingOn, Keeps}
+use Rattle.drain_desk.specs.steps.Closing.{ClosedAs, IsAdded}
+
+module _ {V : Type 0} (faults : V → ℕ → ℕ) (before after : KeptOf ModelRules DocumentTables V) (is : IsLandscape meaning before.world)
+    (did : Happened (meaning before.world.rules) faults before after (event.Operator Revoke)) where
+  -- claims that are given up leave the world but for them
+  revoked-world : after.world ≡ record before.world { claims = [] }
+  revoked-world =
+      did.world
+      ∙ happens-step (meaning before.world.rules) (is_lawful before.world.rules) before.world is.safe (event.Operator Revoke) refl (event.Operator Revoke) refl
+
+  pub revoked-none : after.world.claims ≡ []
+  revoked-none = ap (λ (w : World ModelRules). w.claims) revoked-world
+
+  pub revoked-only : KeepsVolumes before after → HaveOnlyClaimed before after
+  revoked-only keeps = record {
+    world = revoked-world
+        ∙ ap (λ claims. let w : World ModelRules = record before.world { claims = claims } in w) (sym revoked-none)
+        ∙ ap (λ next. let w : World ModelRules = record before.world { claims = after.world.claims; next_number = next } in w)
+        (sym (ap (λ (w : World ModelRules). w.next_number) revoked-world));
+    journals = keeps.journals;
+    vols = keeps.vols;
+    overruns = keeps.overruns;
+  }
+
+  pub revoked-went : Worked faults before after is_work true
+  revoked-went = went-happened meaning is_lawful faults is_work before after is true (event.Operator Revoke) refl refl did
+
+  -- so workers begin
+  pub going-first : (lines : Lines) → KeepsVolumes before after → AreGoingOn faults before after lines lines 0
+  going-first lines keeps = record {
+    went = revoked-went;
+    taken = taken-none lines;
+    count = let same : finished_in after.world ≡ finished_in before.world = ap finished_in revoked-world in omega (arith, same);
+    runs = ap (λ claims. list_all (λ (held : Held). not (is_kind held.kind Direct)) claims) revoked-none;
+    acts = [];
+    did = (revoked-only keeps, refl);
+    ships = refl;
+    once = λ tid. inl refl;
+  }
+
+  -- and what is still offered is shipped and executed behind them
+  pub rounds-behind : (began last : KeptOf ModelRules DocumentTables V) (lines lines_now lines_last : Lines) (n m : ℕ) → KeepsVolumes before after
+      → AreGoingOn faults began before lines lines_now n → RoundsAs faults after lines_now last lines_last (Ok m)
+      → RoundsAs faults began lines last lines_last (Ok (n + m))
+  rounds-behind began last lines lines_now lines_last n m keeps going rounds =
+      let gone = rounds.0 in
+      let worked = gone.worked in
+      let ended = worked.ended in
+      let behind = acted-on faults [] worked.acts before after last lines_now lines_now lines_last (revoked-only keeps, refl) worked.did in (
+        record {
+          worked = record {
+            went = on faults is_work true began after last (on faults is_work true began before after going.went revoked-went) worked.went;
+            taken = taken-on lines lines_now lines_last going.taken worked.taken;
+            ended = record {
+              finished =
+                  let first = going.count in
+                  let last_of = ended.finished in
+                  let same : finished_in after.world ≡ finished_in before.world = ap finished_in revoked-world in
+                  omega (arith, first, last_of, same);
+              claims = inr (elim ended.claims [
+                | inl same ↦ same ∙ revoked-none
+                | inr none ↦ none
+              ]);
+            };
+            acts = going.acts ++ worked.acts;
+            did = acted-on faults going.acts worked.acts began before last lines lines_now lines_last going.did behind;
+          };
+          ships = list_all-append is_round going.acts worked.acts
+              ∙ and_from (list_all is_round going.acts) (list_all is_round worked.acts) going.ships gone.ships;
+          once = λ none tid.
+              once-on faults going.acts worked.acts began before last lines lines_now lines_last behind gone.ships tid (going.once tid)
+              (gone.once revoked-none tid);
+        },
+        rounds.1,
+      )
+
+  -- where memory is wanting, works were done
+  pub rounds-short : (began last : KeptOf ModelRules DocumentTables V) (lines lines_now : Lines) (n : ℕ)
+      → AreGoingOn faults began before lines lines_now n → Worked faults after last is_work false → Worked faults began last is_work false
+  rounds-short began last lines lines_now n going went =
+      on faults is_work false began after last (on faults is_work true began before after going.went revoked-went) went
+
+-- rounds that ended, of which no more is told than that they were works
+pub rounds-work : {V : Type 0} (faults : V → ℕ → ℕ) (before last : KeptOf ModelRules DocumentTables V) (lines lines_last : Lines) (result : Result ℕ OutOfMemory)
+    → RoundsAs faults before lines last lines_last result → Worked faults before last is_work false
+rounds-work faults before last lines lines_last (Ok m) rounds =
+    let gone = rounds.0 in
+    let worked = gone.worked in
+    part faults is_work before last worked.went
+rounds-work faults before last lines lines_last (Err short) rounds = rounds
+
+-- what a desk keeps is works
+pub keeps-work : {V : Type 0} (faults : V → ℕ → ℕ) (began now : KeptOf ModelRules DocumentTables V) (lines lines_now : Lines) (is_short : Bool) (n : ℕ)
+    → Keeps faults began now lines lines_now is_short n → Worked faults began now is_work false
+keeps-work faults began now lines lines_now false n keeps = part faults is_work began now keeps.went
+keeps-work faults began now lines lines_now true n keeps = keeps
+
+-- claims were given up, and what was still offered was shipped and executed
+pub closed : {V : Type 0} (faults : V → ℕ → ℕ) (now revoked last : KeptOf ModelRules DocumentTables V) (lines_now lines_last : Lines) (n : ℕ)
+    (more result : Result ℕ OutOfMemory) → IsLandscape meaning now.world
+    → Happened (meaning now.world.rules) faults now revoked (event.Operator Revoke) → KeepsVolumes now revoked
+    → RoundsAs faults revoked lines_now last lines_last more → IsAdded n more result
+    → ClosedAs faults now lines_now n last lines_last result
+closed faults now revoked last lines_now lines_last n (Ok m) (Ok sum) is did keeps rounds added = λ began lines going.
+    subst (λ k. RoundsAs faults began lines last lines_last (Ok k)) (sym added)
+    (rounds-behind faults now revoked is did began last lines lines_now lines_last n m keeps going rounds)
+closed faults now revoked last lines_now lines_last n (Err short) (Ok sum) is did keeps rounds added = absurd added
+closed faults now revoked last lines_now lines_last n more (Err short) is did keeps rounds added = λ began lines going.
+    rounds-short faults now revoked is did began last lines lines_now n going (rounds-work faults revoked last lines_now lines_last more rounds)

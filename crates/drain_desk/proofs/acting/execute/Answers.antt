@@ -1,0 +1,8 @@
+use Rattle.std.proofs.Common.{refl}
+use Rattle.drain_desk.proofs.ActingLemmas.{executed-as}
+use Rattle.drain_desk.proofs.acting.execute.Goals as goal
+
+pub returns : goal.returns
+returns g c =
+    executed-as g.V.Volumes.faults c.args.landscape.now c.execute_claimed.new.landscape c.args.wires.now c.args.wires.now c.args.claim
+    c.execute_claimed.result c.world.ensures.safe c.requires.may c.requires.runs refl c.execute_claimed.ensures

@@ -1,0 +1,22 @@
+-- Units are claimed.
+use Rattle.std.specs.Prelude.{ℕ, Bool}
+use Rattle.trfc_protocol.specs.declared.world.World.{World}
+use Rattle.kept_world.specs.Kept.{KeptOf}
+use Rattle.document_tables.specs.declared.document_tables.DocumentTables.{DocumentTables}
+use Rattle.model_rules.specs.declared.model_rules.ModelRules.{ModelRules}
+use Rattle.unit_works.specs.Events.{is_work}
+use Rattle.unit_works.specs.Worked.{HaveOnlyClaimed, Worked}
+use Rattle.drain_desk.specs.declared.claiming.Offer.{Offer}
+use Rattle.unit_works.specs.Claims.{NoneRuns}
+use Rattle.drain_desk.specs.Work.{IsBasis, MayGo, tid_of}
+
+-- units were claimed to be shipped or executed, and nothing else
+pub record Claims {V : Type 0} (faults : V → ℕ → ℕ) (before after : KeptOf ModelRules DocumentTables V) (whole : Bool) : Type 0 where
+  pub went : Worked faults before after is_work whole
+  pub only : HaveOnlyClaimed before after
+  pub runs : NoneRuns before.world.claims → NoneRuns after.world.claims
+
+-- a unit that was claimed may go, and this is what it is prepared from
+pub record IsOffer (world : World ModelRules) (offer : Offer) : Type 0 where
+  pub may : MayGo world offer.task
+  pub base : IsBasis world (tid_of offer.task) offer.basis
