@@ -1,5 +1,5 @@
 -- What the program does for its words, from the files that it reads to the text that it puts and the volumes that it leaves.
-use Rattle.std.specs.Prelude.{◌≡◌, ◌⊎◌, ℕ, ◌≤◌, List, [], Some, Option, length, take}
+use Rattle.std.specs.Prelude.{◌≡◌, ◌⊎◌, ℕ, ◌≤◌, List, [], Option, length, take}
 use Rattle.std.specs.Io.KnownBytes.{Appends}
 use Rattle.ale_base.specs.Faults.{Rose}
 use Rattle.ale_io.specs.Told.{Told}

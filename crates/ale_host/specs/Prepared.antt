@@ -1,5 +1,5 @@
 -- What a run has from its files; only private functions cite this.
-use Rattle.std.specs.Prelude.{◌≡◌, ◌⊎◌, ℕ, List, Some, Ok}
+use Rattle.std.specs.Prelude.{◌≡◌, ◌⊎◌, ℕ, List, Ok}
 use Rattle.std.specs.Arc.{arc_value}
 use Rattle.ale_io.specs.Told.{Told}
 use Rattle.dist_model.specs.declared.lists.Lists.{Lists}

@@ -18,12 +18,15 @@ use crate::inputs::{ModelFile, read_documents, read_model, read_script, refused}
 use crate::loading::read_load;
 use crate::prepared::{Prepared, prepare};
 use crate::running::{Report, run};
-use crate::words::{Form, form_of};
+use crate::words::{Form, form_of, workers_of};
 use ale_base::{Items, OutOfMemory};
-use ale_io::{Clock, FileEnd, Files, Sink};
+use ale_io::{Clock, FileEnd, Files, Gate, Sink};
 use ale_volumes::Volumes;
 use idoc_file::{RawDoc, Reader};
+use runs::Crew;
 use std::alloc::Global;
+use std::sync::Wait;
+use std::thread::Threads;
 
 /// The status where the sink did not take all of the text.
 pub(crate) const WRITE_FAULT: u8 = 6;
@@ -48,18 +51,28 @@ pub struct Ended<V> {
 ///
 /// The files of `run` are read in order, and the first one that is not read or is refused ends it. Then the clock is asked and
 /// the systems are opened over the volumes, system i on volume i - 1, with a Genesis each; and then the commands are carried
-/// out, each with the moment that the clock gives for it. The text of each command is put behind it. A system that goes down
+/// out, each with the moment that the clock gives for it. A drain is done by as many dialog workers as the last word says, which pass the
+/// gate before each work. The text of each command is put behind it. A system that goes down
 /// ends the run behind the command in which it did. A load is the same with the texts that it makes from its number, but for what is put:
 /// one line at its end, which tells how much the logs hold then. With each status but 6 the text that was put is exactly that of the
 /// ending, and with 6 it is a part of it that begins at its front, and that has at least the text of all commands but the last one that was
 /// carried out. The bytes of a document file have one ending.
-pub fn aleflow<F: Files, K: Sink, V: Volumes, C: Clock>(
+pub fn aleflow<
+    R: Threads + Wait + Sync,
+    G: Gate + Sync,
+    F: Files,
+    K: Sink,
+    V: Volumes + Send,
+    C: Clock,
+>(
+    rt: &R,
     alloc: Global,
     words: &[String],
     files: &mut F,
     out: &mut K,
     vols: V,
     clock: &mut C,
+    gate: &G,
 ) -> Ended<V>
     ensures ended { result.status ≢ 6 → (printed : List ℕ) × ((sure : List ℕ)
         × EndsSo (record { told = V.told; volume = V.volume; faults = V.faults; moment = V.moment; images_since = V.images_since })
@@ -83,7 +96,11 @@ pub fn aleflow<F: Files, K: Sink, V: Volumes, C: Clock>(
             let status = print(alloc, &ending, out);
             Ended { status, vols }
         }
-        Ok(Order { prepared, report }) => run(alloc, prepared, report, out, vols, clock),
+        Ok(Order { prepared, report }) => {
+            let workers = workers_of(words);
+            let crew = Crew { rt, gate, workers };
+            run(&crew, alloc, prepared, report, out, vols, clock)
+        }
     }
 }
 

@@ -12,7 +12,7 @@ use runs::Inputs;
 use script_text::Command;
 use std::alloc::Global;
 use std::sync::Arc;
-use unit_core::RawUnitDoc;
+use unit_core::{RawUnitDoc, Shared};
 
 /// What a run has from its files.
 #[derive(Drop)]
@@ -63,6 +63,7 @@ fn masters_of(alloc: Global, documents: Items<RawDoc>) -> Result<Items<RawUnitDo
             segments,
             line: _,
         } = document;
+        let control = Shared::new(alloc, control)?;
         masters.push(RawUnitDoc { control, segments })?;
     }
     Ok(masters)

@@ -20,14 +20,16 @@ use crate::host::{Ended, WRITE_FAULT, put};
 use crate::loading::load_line;
 use crate::prepared::Prepared;
 use ale_base::{Items, OutOfMemory, SystemNo};
-use ale_io::{Clock, Sink, SinkFailed};
+use ale_io::{Clock, Gate, Sink, SinkFailed};
 use ale_volumes::Volumes;
 use dist_model::Model;
 use landscape::{Counts, Landscape, OpenEnd, OpenWhy};
 use report_text::{FaultLine, fault_line};
-use runs::{Inputs, Ran, RunEnd, Stage, run_script};
+use runs::{Crew, Inputs, Ran, RunEnd, Stage, run_script};
 use script_text::Command;
 use std::alloc::Global;
+use std::sync::Wait;
+use std::thread::Threads;
 use wires::Wires;
 
 /// What is reported of what was carried out.
@@ -40,7 +42,8 @@ pub enum Report {
 }
 
 /// Carries out a run or a load: the clock is asked, the systems are opened over the volumes with that moment, and then the commands are carried out.
-pub(crate) fn run<V: Volumes, K: Sink, C: Clock>(
+pub(crate) fn run<R: Threads + Wait + Sync, G: Gate + Sync, V: Volumes + Send, K: Sink, C: Clock>(
+    crew: &Crew<'_, R, G>,
     alloc: Global,
     prepared: Prepared,
     report: Report,
@@ -76,8 +79,12 @@ pub(crate) fn run<V: Volumes, K: Sink, C: Clock>(
         Ok(landscape) => {
             let commands = commands.as_slice();
             match report {
-                Report::Commands => run_opened(alloc, landscape, &inputs, commands, out, clock),
-                Report::Counts => load_opened(alloc, landscape, &inputs, commands, out, clock),
+                Report::Commands => run_opened(
+                    crew, alloc, landscape, &inputs, commands, out, clock,
+                ),
+                Report::Counts => load_opened(
+                    crew, alloc, landscape, &inputs, commands, out, clock,
+                ),
             }
         }
     }
@@ -98,7 +105,8 @@ fn put_unopened<K: Sink>(why: OpenWhy, out: &mut K) -> u8
 }
 
 /// Carries out commands, and puts the last line.
-fn run_opened<V: Volumes, K: Sink, C: Clock>(
+fn run_opened<R: Threads + Wait + Sync, G: Gate + Sync, V: Volumes + Send, K: Sink, C: Clock>(
+    crew: &Crew<'_, R, G>,
     alloc: Global,
     landscape: Landscape<V>,
     inputs: &Inputs,
@@ -121,9 +129,8 @@ fn run_opened<V: Volumes, K: Sink, C: Clock>(
     let stage = Stage {
         landscape,
         wires: Wires::new(alloc),
-        full: 0,
     };
-    let Ran { stage, end } = run_script(alloc, stage, inputs, commands, out, clock);
+    let Ran { stage, end } = run_script(crew, alloc, stage, inputs, commands, out, clock);
     let status = close(alloc, &inputs.model, end, out);
     let Stage { landscape, .. } = stage;
     let _ = landscape.world();
@@ -158,7 +165,8 @@ impl Sink for Unprinted {
 }
 
 /// Carries out commands whose text is not put, and puts how much the logs hold then, or another last line.
-fn load_opened<V: Volumes, K: Sink, C: Clock>(
+fn load_opened<R: Threads + Wait + Sync, G: Gate + Sync, V: Volumes + Send, K: Sink, C: Clock>(
+    crew: &Crew<'_, R, G>,
     alloc: Global,
     landscape: Landscape<V>,
     inputs: &Inputs,
@@ -181,10 +189,17 @@ fn load_opened<V: Volumes, K: Sink, C: Clock>(
     let stage = Stage {
         landscape,
         wires: Wires::new(alloc),
-        full: 0,
     };
     let mut unprinted = Unprinted;
-    let Ran { stage, end } = run_script(alloc, stage, inputs, commands, &mut unprinted, clock);
+    let Ran { stage, end } = run_script(
+        crew,
+        alloc,
+        stage,
+        inputs,
+        commands,
+        &mut unprinted,
+        clock,
+    );
     let counts = stage.landscape.counts();
     let status = close_load(alloc, &inputs.model, counts, end, out);
     let Stage { landscape, .. } = stage;

@@ -63,6 +63,19 @@ fn run_form(command: &String, workers: &String) -> Option<Form>
     is_run.then_some(Form::Run)
 }
 
+/// How many workers the last word asks for, from 1 to 16; one where it asks for none.
+pub(crate) fn workers_of(words: &[String]) -> u8
+    ensures { (1 ≤ result) × (result ≤ 16) }
+{
+    match words.last() {
+        None => 1,
+        Some(word) => match count_in(word.as_bytes(), MAX_WORKERS) {
+            Some(count) if count >= 1 && count <= MAX_WORKERS => count as u8,
+            Some(_) | None => 1,
+        },
+    }
+}
+
 fn is_text(word: &String, other: &[u8]) -> bool
     ensures { result ≡ is_text (string_bytes word.now) other.now }
 {

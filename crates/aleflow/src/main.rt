@@ -14,6 +14,7 @@ mod volume_file;
 mod wall_clock;
 
 use ale_host::{aleflow, out_of_memory};
+use ale_io::OpenGate;
 use dir_files::DirFiles;
 use file_volumes::FileVolumes;
 use std::alloc::Global;
@@ -44,12 +45,14 @@ fn main(rt: HostRuntime) -> ExitCode {
     let mut clock = WallClock::new(&rt);
     let vols = FileVolumes::new(&rt);
     let ended = aleflow(
+        &rt,
         alloc,
         words.as_slice(),
         &mut files,
         &mut out,
         vols,
         &mut clock,
+        &OpenGate,
     );
     ExitCode::from(ended.status)
 }

@@ -19,7 +19,7 @@ use Rattle.runs.specs.declared.stage.Stage.{Stage}
 use Rattle.runs.specs.declared.turns.TurnEnd.{TurnEnd}
 use Rattle.runs.specs.declared.turns.TurnEnd.TheVariants as turn
 use Rattle.runs.specs.Does.{Does}
-use Rattle.runs.specs.Run.{Turn, at_moment, commands_of, moments_of, text_of, last_stage, first_down, first_faulted, Follow, IsMore, Run, AreAsked}
+use Rattle.runs.specs.Run.{Turn, at_moment, commands_of, moments_of, text_of, last_stage, first_down, first_faulted, Follow, IsMore, Run, AreAsked, length_at}
 use Rattle.runs.specs.Text.{shown}
 use Rattle.runs.specs.steps.Put.{IsPut, IsPart, IsCut, IsPutAt, IsReported, IsTurn, GivesOne, down_end_of, end_behind}
 
@@ -233,7 +233,7 @@ module _ {V : Type 0} (faults : V → ℕ → ℕ) (inputs : Inputs) (commands :
       -- a system went down in the command
       Run-found : (answered : Answered) → DoneWith answered → IsPut mid_put new put_mid put_new (shown command answered after)
           → (faulted down : Option ℕ) → first_faulted after.landscape.world ≡ faulted → first_down after.landscape.world ≡ down
-          → (its : RunEnd) → down_end_of after.full faulted down ≡ Some its → Ended its
+          → (its : RunEnd) → down_end_of (length_at after) faulted down ≡ Some its → Ended its
       Run-found answered does text None None no_fault down its same = absurd (subst (λ (o : Option RunEnd). MatchOption o ⊤ (λ some. ⊥)) same tt)
       Run-found answered does text (Some system) found fault down its same =
           subst Ended (ap (λ (o : Option RunEnd). unwrap_or o its) same) (
@@ -245,9 +245,9 @@ module _ {V : Type 0} (faults : V → ℕ → ℕ) (inputs : Inputs) (commands :
       Run-found answered does text None (Some system) no_fault down its same =
           subst Ended (ap (λ (o : Option RunEnd). unwrap_or o its) same) (
             so_far.turns ++ turned command moment answered after ∷ [],
-            record { left = drop (i + 1) commands; these = split answered; follow = followed answered does; ends = (left_last answered, no_fault, down) },
+            record { left = drop (i + 1) commands; these = split answered; follow = followed answered does; ends = (left_last answered, no_fault, down, refl) },
             put_whole answered text,
-            asked_done (end.DownFull system after.full) (λ is. absurd (cc)) answered,
+            asked_done (end.DownFull system (length_at after system)) (λ is. absurd (cc)) answered,
           )
 
       -- the text of the command was not taken whole
@@ -291,7 +291,7 @@ module _ {V : Type 0} (faults : V → ℕ → ℕ) (inputs : Inputs) (commands :
       Run-behind turn.WriteFailed did its same = subst Ended (ap (λ (o : Option RunEnd). unwrap_or o its) same) (Run-unwritten did.0 did.1 did.2)
       Run-behind turn.OutOfMemory did its same = subst Ended (ap (λ (o : Option RunEnd). unwrap_or o its) same) (Run-halted did.0 did.1 did.2)
 
-      none_down : (faulted down : Option ℕ) → down_end_of after.full faulted down ≡ None → down ≡ None
+      none_down : (faulted down : Option ℕ) → down_end_of (length_at after) faulted down ≡ None → down ≡ None
       none_down None None same = refl
       none_down (Some system) down same = absurd (subst (λ (o : Option RunEnd). MatchOption o ⊥ (λ some. ⊤)) same tt)
       none_down None (Some system) same = absurd (subst (λ (o : Option RunEnd). MatchOption o ⊥ (λ some. ⊤)) same tt)

@@ -1,6 +1,8 @@
 -- A run of a script: a list of turns, in each of which a command does what it asks for; and why the run ends. This project's own.
 use Rattle.std.specs.Prelude.{◌≡◌, ⊤, ℕ, suc, ◌≤◌, ◌&&◌, not, List, [], ◌∷◌, ◌++◌, Option, Some, None, Result, Ok, is_some, length, if◌then◌else◌}
 use Rattle.ale_base.specs.declared.out_of_memory.OutOfMemory.{OutOfMemory as Short}
+use Rattle.std.specs.Option.{unwrap_or}
+use Rattle.kept_world.specs.Kept.{overrun_at}
 use Rattle.system_journals.specs.Changes.{with_moment}
 use Rattle.script_text.specs.declared.command.Command.{Command}
 use Rattle.trfc_protocol.specs.declared.world.SystemState.{SystemState}
@@ -59,6 +61,10 @@ first_down world = down_from 1 world.systems
 abbrev pub first_faulted : World ModelRules → Option ℕ
 first_faulted world = faulted_from 1 world.systems
 
+-- how long the volume of a system would have been with the record that did not fit as it last fell; 0 where it fell otherwise
+abbrev pub length_at : {V : Type 0} → Stage V → ℕ → ℕ
+length_at stage system = unwrap_or (overrun_at stage.landscape system) 0
+
 module _ {V : Type 0} (faults : V → ℕ → ℕ) (inputs : Inputs) where
   -- each command does what it asks for, where the one before it left off; while a system is down none is done
   abbrev pub Follow : Stage V → List (Turn V) → Type 0
@@ -79,7 +85,7 @@ module _ {V : Type 0} (faults : V → ℕ → ℕ) (inputs : Inputs) where
   Ends Whole left before turns after = (left ≡ []) × (after ≡ last_stage before turns) × (first_down after.landscape.world ≡ None)
   Ends (DownByFault system) left before turns after = (after ≡ last_stage before turns) × (first_faulted after.landscape.world ≡ Some system)
   Ends (DownFull system size) left before turns after = (after ≡ last_stage before turns) × (first_faulted after.landscape.world ≡ None)
-      × (first_down after.landscape.world ≡ Some system)
+      × (first_down after.landscape.world ≡ Some system) × (size ≡ length_at after system)
   Ends WriteFailed left before turns after = after ≡ last_stage before turns
   Ends OutOfMemory left before turns after = IsHalted left (last_stage before turns) after
 

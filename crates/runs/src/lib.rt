@@ -6,6 +6,7 @@
 #![tactic(auto)]
 
 mod answered;
+mod crew;
 mod inputs;
 mod lengths;
 mod performing;
@@ -15,6 +16,7 @@ mod stage;
 mod turns;
 
 pub use answered::Answered;
+pub use crew::Crew;
 pub use inputs::Inputs;
 pub use run_end::RunEnd;
 pub use stage::Stage;

@@ -13,17 +13,20 @@ mod operating;
 mod showing;
 
 use crate::answered::plain;
-use crate::{Answered, Inputs, Stage};
+use crate::{Answered, Crew, Inputs, Stage};
 use ale_base::OutOfMemory;
+use ale_io::Gate;
 use ale_volumes::Volumes;
 use changing::{app, put, repost};
 use committing::{dispatch, gather, send};
+use drain_desk::{Drained, drain};
 use operating::{late, retry, start, stop, wire};
 use report_text::Reply;
 use script_text::Form;
 use showing::{show_doc, show_docs, show_objects, show_queues, show_units};
 use std::alloc::Global;
-use unit_works::{Drained, drain};
+use std::sync::Wait;
+use std::thread::Threads;
 
 /// A command that ended: its answer, or none where memory ran out, and what it left.
 #[derive(Drop)]
@@ -33,7 +36,8 @@ pub(crate) struct Performed<V: Volumes> {
 }
 
 /// Carries out a command.
-pub(crate) fn perform<V: Volumes>(
+pub(crate) fn perform<R: Threads + Wait + Sync, V: Volumes + Send, G: Gate + Sync>(
+    crew: &Crew<'_, R, G>,
     alloc: Global,
     stage: Stage<V>,
     inputs: &Inputs,
@@ -43,7 +47,7 @@ pub(crate) fn perform<V: Volumes>(
     ensures printable { IfOk result.answer IsPrintable }
 {
     match form {
-        Form::Drain => drained(alloc, stage),
+        Form::Drain => drained(crew, alloc, stage),
         _ => {
             let mut stage = stage;
             let answer = carry_out(&mut stage, inputs, form);
@@ -52,29 +56,24 @@ pub(crate) fn perform<V: Volumes>(
     }
 }
 
-/// Works until nothing is offered.
-fn drained<V: Volumes>(alloc: Global, stage: Stage<V>) -> Performed<V>
+/// Works until nothing is offered, by the workers of a run.
+fn drained<R: Threads + Wait + Sync, V: Volumes + Send, G: Gate + Sync>(
+    crew: &Crew<'_, R, G>,
+    alloc: Global,
+    stage: Stage<V>,
+) -> Performed<V>
     ensures does { (inputs : InputsOf) → Does V.faults inputs stage result.answer result.stage form.Drain }
     ensures printable { IfOk result.answer IsPrintable }
 {
-    let Stage {
-        landscape,
-        wires,
-        full: _,
-    } = stage;
+    let Stage { landscape, wires } = stage;
     let Drained {
         landscape,
         wires,
         end,
-        full,
-    } = drain(alloc, landscape, wires);
+    } = drain(crew.rt, alloc, landscape, wires, crew.workers, crew.gate);
     let answer = finished(end);
     Performed {
-        stage: Stage {
-            landscape,
-            wires,
-            full,
-        },
+        stage: Stage { landscape, wires },
         answer,
     }
 }

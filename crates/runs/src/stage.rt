@@ -11,6 +11,4 @@ pub struct Stage<V: Volumes> {
     pub landscape: Landscape<V>,
     /// The letters that are left of units.
     pub wires: Wires,
-    /// How long the journal would have been of the system that fell last since a record did not fit; 0 where none did.
-    pub full: u64,
 }

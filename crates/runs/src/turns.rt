@@ -1,19 +1,21 @@
 //! The commands of a script, one after the other.
 
 ghost use Rattle.std.specs.Prelude.{◌≡◌, ◌≤◌, ℕ, List, None, IfOk};
-ghost use Rattle.runs.specs.Run.{AreAsked, Run, Turn, at_moment, first_down, first_faulted};
+ghost use Rattle.runs.specs.Run.{AreAsked, Run, Turn, at_moment, first_down, first_faulted, length_at};
 ghost use Rattle.runs.specs.Text.{IsPrintable, shown};
 ghost use Rattle.runs.specs.steps.Put.{GivesOne, IsPutAt, IsReported, IsTurn, down_end_of, end_behind};
 
 use crate::lengths::{first_down, first_faulted};
 use crate::performing::{Performed, perform};
 use crate::report::shown;
-use crate::{Answered, Inputs, RunEnd, Stage};
+use crate::{Answered, Crew, Inputs, RunEnd, Stage};
 use ale_base::OutOfMemory;
-use ale_io::{Clock, Sink};
+use ale_io::{Clock, Gate, Sink};
 use ale_volumes::Volumes;
 use script_text::Command;
 use std::alloc::Global;
+use std::sync::Wait;
+use std::thread::Threads;
 
 /// A run that ended: why, and what it left.
 #[derive(Drop)]
@@ -35,10 +37,11 @@ pub(crate) enum TurnEnd {
     OutOfMemory,
 }
 
-/// Carries out commands one after the other, and puts the text of each behind it. Before each command the clock is asked, and its records
+/// Carries out commands one after the other, and puts the text of each behind it; a drain is done by the workers of a crew. Before each command the clock is asked, and its records
 /// are written with that moment. A system that goes down ends the run behind the command, and so does a text that the sink did not take,
 /// and want of memory.
-pub fn run_script<V: Volumes, K: Sink, C: Clock>(
+pub fn run_script<R: Threads + Wait + Sync, V: Volumes + Send, G: Gate + Sync, K: Sink, C: Clock>(
+    crew: &Crew<'_, R, G>,
     alloc: Global,
     stage: Stage<V>,
     inputs: &Inputs,
@@ -55,7 +58,7 @@ pub fn run_script<V: Volumes, K: Sink, C: Clock>(
 {
     let mut stage = stage;
     for command in commands {
-        let Turned { stage: after, end } = turn(alloc, stage, inputs, command, out, clock);
+        let Turned { stage: after, end } = turn(crew, alloc, stage, inputs, command, out, clock);
         stage = after;
         match behind(&stage, end) {
             None => {}
@@ -76,7 +79,8 @@ struct Turned<V: Volumes> {
 }
 
 /// Carries out a command, and puts its text.
-fn turn<V: Volumes, K: Sink, C: Clock>(
+fn turn<R: Threads + Wait + Sync, V: Volumes + Send, G: Gate + Sync, K: Sink, C: Clock>(
+    crew: &Crew<'_, R, G>,
     alloc: Global,
     stage: Stage<V>,
     inputs: &Inputs,
@@ -92,7 +96,7 @@ fn turn<V: Volumes, K: Sink, C: Clock>(
 {
     let moment = clock.now();
     let stage = begin(stage, moment);
-    let Performed { stage, answer } = perform(alloc, stage, inputs, &command.form);
+    let Performed { stage, answer } = perform(crew, alloc, stage, inputs, &command.form);
     let end = report(alloc, &stage, command, answer, out);
     Turned { stage, end }
 }
@@ -144,12 +148,15 @@ fn behind<V: Volumes>(stage: &Stage<V>, end: TurnEnd) -> Option<RunEnd>
 
 /// The ending where a system is down. None exactly where all are up.
 fn down_end<V: Volumes>(stage: &Stage<V>) -> Option<RunEnd>
-    ensures { result ≡ down_end_of stage.now.full (first_faulted stage.now.landscape.world) (first_down stage.now.landscape.world) }
+    ensures { result ≡ down_end_of (length_at stage.now) (first_faulted stage.now.landscape.world) (first_down stage.now.landscape.world) }
 {
     let systems = stage.landscape.world().systems.as_slice();
     match (first_faulted(systems), first_down(systems)) {
         (Some(system), _) => Some(RunEnd::DownByFault(system)),
-        (None, Some(system)) => Some(RunEnd::DownFull(system, stage.full)),
+        (None, Some(system)) => {
+            let size = stage.landscape.overrun(system).unwrap_or(0);
+            Some(RunEnd::DownFull(system, size))
+        }
         (None, None) => None,
     }
 }

@@ -16,12 +16,17 @@ mod records;
 mod rules;
 mod suite;
 
+use case::Case;
 use case_form::run_folder;
 use std::io;
 use std::process::ExitCode;
-use suite::WorkedCases;
+use suite::{WorkedCases, carry_out};
 
 /// The status is 0 where all cases of the folder that the first word names pass, and else 1.
 fn main(rt: HostRuntime) -> io::Result<ExitCode> {
-    run_folder(&rt, &WorkedCases)
+    let alloc = rt.alloc();
+    let suite = WorkedCases {
+        carry_out: Box::new(alloc, move |case: Case| carry_out(&rt, alloc, case))?,
+    };
+    run_folder(&rt, &suite)
 }

@@ -9,14 +9,20 @@ use crate::case::{Case, Output, Part, Run, Words};
 use crate::reader::read_case;
 use ale_base::{Items, OutOfMemory};
 use ale_host::{Ended, aleflow, out_of_memory};
-use ale_io::{Calls, ListClock, MapFiles, VecSink};
+use ale_io::{Calls, ListClock, MapFiles, OpenGate, VecSink};
 use ale_volumes::MemoryVolumes;
 use case_form::{CaseFault, Comparison, Item, Relation, Step};
 use std::alloc::Global;
 use std::array;
+use std::sync::Wait;
+use std::thread::Threads;
 
 /// The steps of a case, one for each of its parts, in order. The first run starts on empty volumes.
-pub(crate) fn steps_of_case(alloc: Global, case: Case) -> Result<Items<Step>, CaseFault>
+pub(crate) fn steps_of_case<R: Threads + Wait + Sync>(
+    rt: &R,
+    alloc: Global,
+    case: Case,
+) -> Result<Items<Step>, CaseFault>
     ensures { IfOk result (λ steps. AreMadeOf case.files empty_volumes case.parts.items steps) }
 {
     let Case { files, parts } = case;
@@ -27,7 +33,7 @@ pub(crate) fn steps_of_case(alloc: Global, case: Case) -> Result<Items<Step>, Ca
     let mut vols = MemoryVolumes::new(alloc);
     let mut steps = Items::new(alloc);
     for part in parts {
-        let (step, left) = step_of_part(alloc, part, &mut files, vols)?;
+        let (step, left) = step_of_part(rt, alloc, part, &mut files, vols)?;
         vols = left;
         steps.push(step)?;
     }
@@ -35,7 +41,8 @@ pub(crate) fn steps_of_case(alloc: Global, case: Case) -> Result<Items<Step>, Ca
 }
 
 /// The step of a part, and the volumes that it leaves.
-fn step_of_part(
+fn step_of_part<R: Threads + Wait + Sync>(
+    rt: &R,
     alloc: Global,
     part: Part,
     files: &mut MapFiles,
@@ -45,7 +52,7 @@ fn step_of_part(
     ensures kept { (name : List ℕ) → told_of files.new.files name ≡ told_of files.old.files name }
 {
     match part {
-        Part::Run(run) => Ok(step_of_run(alloc, run, files, &vols)?),
+        Part::Run(run) => Ok(step_of_run(rt, alloc, run, files, &vols)?),
         Part::Broken(item) => {
             let step = step_of_broken(alloc, &item)?;
             Ok((step, vols))
@@ -54,7 +61,8 @@ fn step_of_part(
 }
 
 /// The step of a run over these files, on volumes that hold what these do, and the volumes that it leaves.
-fn step_of_run(
+fn step_of_run<R: Threads + Wait + Sync>(
+    rt: &R,
     alloc: Global,
     run: Run,
     files: &mut MapFiles,
@@ -80,7 +88,7 @@ fn step_of_run(
         bytes: Vec::new(alloc),
         calls: Calls::with_failures(failing_puts),
     };
-    let Ended { status, vols } = performed(alloc, &words, files, &mut out, begun, moments);
+    let Ended { status, vols } = performed(rt, alloc, &words, files, &mut out, begun, moments);
     let mut comparisons = Items::new(alloc);
     comparisons.push(status_compared(alloc, wanted, status)?)?;
     put_outputs(alloc, &mut comparisons, outputs, out.bytes.as_slice())?;
@@ -109,7 +117,8 @@ fn begun_from(
 
 /// Runs these words over these files, none of whose reads has failed yet, on these volumes: the status, and the volumes as they
 /// are left.
-fn performed(
+fn performed<R: Threads + Wait + Sync>(
+    rt: &R,
     alloc: Global,
     words: &Words,
     files: &mut MapFiles,
@@ -125,7 +134,16 @@ fn performed(
     match words {
         Words::Given(words) => {
             let mut clock = ListClock::with_moments(moments);
-            aleflow(alloc, words.as_slice(), files, out, vols, &mut clock)
+            aleflow(
+                rt,
+                alloc,
+                words.as_slice(),
+                files,
+                out,
+                vols,
+                &mut clock,
+                &OpenGate,
+            )
         }
         Words::Wanting => {
             let status = out_of_memory(out);
@@ -176,7 +194,7 @@ fn put_outputs(
 }
 
 /// The step of a text that is no case: which line breaks which rule.
-fn step_of_broken(alloc: Global, item: &Item) -> Result<Step, CaseFault>
+pub(crate) fn step_of_broken(alloc: Global, item: &Item) -> Result<Step, CaseFault>
     ensures { IfOk result (IsBrokenStepOf item.now.line item.now.differs item.now.rest.items) }
 {
     let text = item.text(alloc)?;

@@ -13,7 +13,7 @@ use Rattle.runs.specs.declared.stage.Stage.{Stage}
 use Rattle.runs.specs.declared.turns.TurnEnd.{TurnEnd}
 use Rattle.runs.specs.declared.turns.TurnEnd.TheVariants as turn
 use Rattle.runs.specs.Does.{Does}
-use Rattle.runs.specs.Run.{Turn, at_moment, first_down, first_faulted, text_of}
+use Rattle.runs.specs.Run.{Turn, at_moment, first_down, first_faulted, text_of, length_at}
 use Rattle.runs.specs.Text.{shown}
 
 -- the whole text was put with no fault
@@ -61,14 +61,14 @@ module _ {V : Type 0} (faults : V → ℕ → ℕ) (inputs : Inputs) where
 
 -- the ending where a system is down, by the first that is by a fault of its volume, and the first that is at all; the journal of a system
 -- whose record did not fit would have been so long
-abbrev pub down_end_of : ℕ → Option ℕ → Option ℕ → Option RunEnd
+abbrev pub down_end_of : (ℕ → ℕ) → Option ℕ → Option ℕ → Option RunEnd
 down_end_of size (Some system) down = Some (end.DownByFault system)
-down_end_of size None (Some system) = Some (end.DownFull system size)
+down_end_of size None (Some system) = Some (end.DownFull system (size system))
 down_end_of size None None = None
 
 -- the ending behind a command that ended so, if it ends the run
 abbrev pub end_behind : {V : Type 0} → Stage V → TurnEnd → Option RunEnd
-end_behind stage turn.Done = down_end_of stage.full (first_faulted stage.landscape.world) (first_down stage.landscape.world)
+end_behind stage turn.Done = down_end_of (length_at stage) (first_faulted stage.landscape.world) (first_down stage.landscape.world)
 end_behind stage turn.WriteFailed = Some end.WriteFailed
 end_behind stage turn.OutOfMemory = Some end.OutOfMemory
 

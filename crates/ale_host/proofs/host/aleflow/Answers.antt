@@ -11,7 +11,7 @@ use Rattle.ale_host.proofs.RunningLemmas.{asks-said, runs-said, said-of}
 use Rattle.ale_host.proofs.host.aleflow.Goals as goal
 
 pub run-requires-clause-said : goal.run-requires-clause-said
-run-requires-clause-said g c =
+run-requires-clause-said g c = λ lives outlive.
     let order = c.in-Ok.ensures.runs in
     ap said order.1.1.1.2.text_is
     ∙ said-of order.0 order.1.0

@@ -1,4 +1,4 @@
-use Rattle.std.proofs.Common.{◌≤◌, ◌*◌, ◌+◌, length, arith}
+use Rattle.std.proofs.Common.{arith}
 use Rattle.ale_host.proofs.loading.fed.Goals as goal
 
 pub feed-requires : goal.feed-requires

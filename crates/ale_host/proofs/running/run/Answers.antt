@@ -47,9 +47,10 @@ returns-in-Err-clause-write_fault g c = λ is_6.
     )
 
 pub run_opened-requires : goal.run_opened-requires
-run_opened-requires g c = record {
-  up = opened-up (length (arc_value c.args.prepared.model).systems) c.args.prepared.text (Some c.now-moment.result) c.in-Ok.landscape c.in-Ok.ensures.opened;
-}
+run_opened-requires g c = (
+  c.type_bounds.send-V,
+  (c.type_bounds.sync-R, (c.type_bounds.sync-G, opened-up (length (arc_value c.args.prepared.model).systems) c.args.prepared.text (Some c.now-moment.result) c.in-Ok.landscape c.in-Ok.ensures.opened)),
+)
 
 pub returns-in-Commands-clause-ended : goal.returns-in-Commands-clause-ended
 returns-in-Commands-clause-ended g c = λ not_6.
@@ -101,9 +102,10 @@ returns-in-Commands-clause-write_fault g c = λ is_6.
     )
 
 pub load_opened-requires : goal.load_opened-requires
-load_opened-requires g c = record {
-  up = opened-up (length (arc_value c.args.prepared.model).systems) c.args.prepared.text (Some c.now-moment.result) c.in-Ok.landscape c.in-Ok.ensures.opened;
-}
+load_opened-requires g c = (
+  c.type_bounds.send-V,
+  (c.type_bounds.sync-R, (c.type_bounds.sync-G, opened-up (length (arc_value c.args.prepared.model).systems) c.args.prepared.text (Some c.now-moment.result) c.in-Ok.landscape c.in-Ok.ensures.opened)),
+)
 
 pub returns-clause-ended : goal.returns-clause-ended
 returns-clause-ended g c = λ not_6.

@@ -1,6 +1,14 @@
 use Rattle.std.proofs.Common.{arith, sym, ◌∙◌}
-use Rattle.runs.proofs.RunLemmas.{Run-behind, Run-whole, SoFar-next}
+use Rattle.runs.proofs.RunLemmas.{Run-behind, Run-whole, SoFar-next, SoFar-start}
 use Rattle.runs.proofs.turns.run_script.Goals as goal
+
+pub loop-command-init : goal.loop-command-init
+loop-command-init g c = record {
+  so_far =
+      SoFar-start g.V.Volumes.faults c.args.inputs.now c.args.commands.now c.args.stage (g.K.Sink.contents c.args.out.now) (g.K.Sink.faults c.args.out.now)
+      (g.C.Clock.given c.args.clock.now) (g.C.Clock.told c.args.clock.now) c.requires.up;
+  still = λ tells. tells;
+}
 
 pub loop-command-preserved : goal.loop-command-preserved
 loop-command-preserved g c = record {

@@ -4,7 +4,7 @@ use Rattle.worked_cases.proofs.GivenLemmas.{Ends-of}
 use Rattle.worked_cases.proofs.performing.performed.Goals as goal
 
 pub returns-in-Given-clause-gives : goal.returns-in-Given-clause-gives
-returns-in-Given-clause-gives c =
+returns-in-Given-clause-gives g c =
     let call = c.aleflow in
     let old = c.args.files.now in
     let clock = c.with_moments-clock in

@@ -4,7 +4,7 @@ use Rattle.worked_cases.proofs.PartLemmas.{AreMadeFrom-snoc, IsMadeOf-alike}
 use Rattle.worked_cases.proofs.performing.steps_of_case.Goals as goal
 
 pub loop-part-preserved : goal.loop-part-preserved
-loop-part-preserved c =
+loop-part-preserved g c =
     let part = c.in-Some.part in
     let made = c.in_ok-step in
     let now = c.loop-part in
