@@ -7,6 +7,7 @@ ghost use Rattle.atomic_table.specs.Seated.{table_id_coded};
 ghost use Rattle.crossbeam_queue.specs.Passes.{view};
 
 use crate::Desk;
+use crate::batch::{BATCH, Batch, Prepared};
 use crate::opening::Opening;
 use crate::ring::{Place, Ring, push};
 use crate::ticket::Ticket;
@@ -43,11 +44,8 @@ pub(crate) enum Handed<D: Desk, E: Opening<D::Origin>> {
     Nothing,
 }
 
-/// How many works are handed out in one hold of the lock.
-const BATCH: u8 = 16;
-
 impl<D: Desk, E: Opening<D::Origin>> Locked<D, E> {
-    ghost use Rattle.std.specs.Prelude.{◌≡◌, ◌≢◌, ◌+◌, ◌^◌, ◌<◌, ◌∷◌, [], true, IfOk};
+    ghost use Rattle.std.specs.Prelude.{◌≡◌, ◌≢◌, ◌+◌, ◌^◌, ◌<◌, ◌∷◌, [], true, All, IfOk};
     ghost use Rattle.dialog_pool.specs.declared.locked.Handed.TheVariants.{Nothing};
     ghost use Rattle.std.specs.Arc.{arc_value};
     ghost use Rattle.crossbeam_queue.specs.Passes.{view, IsPassOf};
@@ -119,20 +117,40 @@ impl<D: Desk, E: Opening<D::Origin>> Locked<D, E> {
         }
     }
 
+    /// Does the works of a batch in their order, until it is empty, and adds what they finished to the worker's share. True if
+    /// memory was wanting for one of them.
+    pub(crate) fn act_all(&mut self, batch: &mut Batch<D, E>, share: &mut Share<E>) -> (u64, bool)
+        requires ready { All (λ one. D.is_of one.ready one.work) batch.old.items }
+        requires part { 0 < share.old.parts }
+        requires fits { share.old.amount < 2 ^ 64 }
+        ensures empty { batch.new.items ≡ [] }
+        ensures amount { share.new.amount ≡ share.old.amount + result.0 }
+        ensures fits { share.new.amount < 2 ^ 64 }
+        ensures parts { share.new.parts ≡ share.old.parts }
+    {
+        let mut finished = 0;
+        let mut is_short = false;
+        while let Some(one) = batch.pop_front() {
+            let (by_it, acted) = self.act(one, share);
+            finished += by_it;
+            is_short |= acted.is_err();
+        }
+        (finished, is_short)
+    }
+
     /// Does a work whole, and adds what it finished to the worker's share.
     pub(crate) fn act(
         &mut self,
-        work: D::Work,
-        ready: D::Ready,
+        one: Prepared<D, E>,
         share: &mut Share<E>,
     ) -> (u64, Result<(), OutOfMemory>)
-        requires origin { D.origin_of work ∷ [] ≡ E.origin }
-        requires ready { D.is_of ready work }
+        requires ready { D.is_of one.ready one.work }
         requires part { 0 < share.old.parts }
         ensures amount { share.new.amount ≡ share.old.amount + result.0 }
         ensures fits { share.new.amount < 2 ^ 64 }
         ensures parts { share.new.parts ≡ share.old.parts }
     {
+        let (work, ready) = one.into_parts();
         let before = self.desk.finished();
         let acted = self.desk.act(work, ready);
         let finished = self.desk.finished() - before;

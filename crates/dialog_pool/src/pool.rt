@@ -22,15 +22,18 @@ use std::thread::Threads;
 
 /// Lets so many workers, from 1 to 16, take the works of a desk and do them, until they find none. It may wait.
 ///
-/// A worker pops a ticket from a ring; where there is none it locks the desk, takes up to 16 works and pushes them. It passes
-/// the gate and prepares without the lock, and acts in one more hold of it. A worker that finds no work at the desk pops once
-/// more, and ends. Each ticket that was pushed is on the ring or was popped, and that once, by the law that the ring keeps
-/// (`AreOnce`); `popped_once` says of the law that it lets no ticket be popped twice.
+/// A worker pops a ticket from a ring, passes the gate and prepares, all without the lock, and only then pops the next,
+/// until it has 16 works or the ring is empty. It acts on them all, in the order in which it popped them, in one hold of the
+/// lock; so a gate must not let a work wait until another one is done. Where it finds no ticket at first it locks the desk,
+/// takes up to 16 works and pushes them. A worker that finds no work at the desk pops once more, and ends. Each ticket that
+/// was pushed is on the ring or was popped, and that once, by the law that the ring keeps (`AreOnce`); `popped_once` says of
+/// the law that it lets no ticket be popped twice.
 ///
-/// The desk that is given back has the origin of the one that was handed in. `finished` is what the desk's count
-/// rose by, and in the body the sum of what the workers finished. `PoolShort` comes where memory was wanting, in a call of a worker or of the
-/// pool itself. A worker for which it was takes no more from the desk, and does what is on the ring; the others go on. A work
-/// that is on the ring at the end, or for which memory was wanting, is dropped.
+/// The desk that is given back has the origin of the one that was handed in. `finished` is what the desk's count rose by,
+/// and in the body the sum of what the workers finished. `PoolShort` comes where memory was wanting, in a call of a worker
+/// or of the pool itself. A worker for which it was takes no more from the desk, and does what is on the ring; the others go
+/// on. A work that is on the ring at the end, or for which memory was wanting, is dropped. Where memory is wanting for a
+/// place among a worker's works, it acts on them at once, and nothing is dropped: the pool does not end short for that.
 pub fn run_pool<R: Threads + Wait + Sync, D: Desk + Send, G: Gate + Sync>(
     rt: &R,
     alloc: Global,

@@ -1,4 +1,4 @@
-//! A worker: what it holds, and how it takes works and does them. It has the desk only while it takes or does one.
+//! A worker: what it holds, and how it takes works and does them. It has the desk only while it takes works or does them.
 
 ghost use Rattle.std.specs.Prelude.{◌≡◌, length};
 ghost use Rattle.std.specs.Coded.{Coded-set};
@@ -6,6 +6,7 @@ ghost use Rattle.std.specs.Arc.{arc_value};
 ghost use Rattle.atomic_table.specs.Seated.{table_id_coded};
 
 use crate::Desk;
+use crate::batch::{BATCH, Batch, Prepared};
 use crate::locked::{Handed, Locked};
 use crate::opening::Opening;
 use crate::ring::{Place, Ring, pop};
@@ -32,7 +33,7 @@ pub(crate) struct Worker<D: Desk, E: Opening<D::Origin>> {
 }
 
 impl<D: Desk, E: Opening<D::Origin>> Worker<D, E> {
-    ghost use Rattle.std.specs.Prelude.{◌≡◌, ◌∷◌, []};
+    ghost use Rattle.std.specs.Prelude.{◌≡◌, [], All};
     ghost use Rattle.std.specs.Arc.{arc_value};
     ghost use Rattle.crossbeam_queue.specs.Passes.{IsPassOf};
 
@@ -61,15 +62,16 @@ impl<D: Desk, E: Opening<D::Origin>> Worker<D, E> {
         gate: &G,
     ) -> Worker<D, E> {
         let mut worker = self;
+        let mut batch = Batch::new(alloc);
         let mut is_idle = false;
         for _ in rt.forever() {
             match worker.next(rt) {
                 Some(ticket) => {
                     is_idle = false;
-                    worker.perform(rt, alloc, lock, gate, ticket);
+                    worker.perform(rt, alloc, lock, gate, ticket, &mut batch);
                 }
                 None if is_idle => break,
-                None => is_idle = worker.ask(rt, alloc, lock, gate),
+                None => is_idle = worker.ask(rt, alloc, lock, gate, &mut batch),
             }
         }
         worker
@@ -87,7 +89,11 @@ impl<D: Desk, E: Opening<D::Origin>> Worker<D, E> {
         alloc: Global,
         lock: &Mutex<Locked<D, E>>,
         gate: &G,
-    ) -> bool {
+        batch: &mut Batch<D, E>,
+    ) -> bool
+        requires empty { batch.old.items ≡ [] }
+        ensures empty { batch.new.items ≡ [] }
+    {
         if self.short {
             return true;
         }
@@ -95,7 +101,7 @@ impl<D: Desk, E: Opening<D::Origin>> Worker<D, E> {
         match handed {
             Ok(Handed::Pushed) => false,
             Ok(Handed::Own(ticket)) => {
-                self.perform(rt, alloc, lock, gate, ticket);
+                self.perform(rt, alloc, lock, gate, ticket, batch);
                 false
             }
             Ok(Handed::Nothing) => true,
@@ -106,34 +112,92 @@ impl<D: Desk, E: Opening<D::Origin>> Worker<D, E> {
         }
     }
 
-    /// Does a work: it passes the gate and prepares without the desk, and acts in one hold of the lock.
+    /// Does a work and those that are on the ring, 16 in all at most, in one hold of the lock. It prepares each before it pops
+    /// the next, so what is not popped yet is left to the other workers. The batch is empty before and after.
     fn perform<R: Wait, G: Gate>(
         &mut self,
         rt: &R,
         alloc: Global,
         lock: &Mutex<Locked<D, E>>,
         gate: &G,
+        first: Ticket<D, E>,
+        batch: &mut Batch<D, E>,
+    )
+        requires empty { batch.old.items ≡ [] }
+        ensures empty { batch.new.items ≡ [] }
+    {
+        self.prepare(rt, alloc, lock, gate, first, batch);
+        for _popped in 1..BATCH {
+            match self.next(rt) {
+                Some(ticket) => self.prepare(rt, alloc, lock, gate, ticket, batch),
+                None => break,
+            }
+        }
+        self.act(rt, lock, batch);
+    }
+
+    /// Passes the gate with a work and prepares it, both without the desk, and puts it into the batch. A work for which memory
+    /// is wanting is dropped.
+    fn prepare<R: Wait, G: Gate>(
+        &mut self,
+        rt: &R,
+        alloc: Global,
+        lock: &Mutex<Locked<D, E>>,
+        gate: &G,
         ticket: Ticket<D, E>,
-    ) {
+        batch: &mut Batch<D, E>,
+    )
+        requires ready { All (λ one. D.is_of one.ready one.work) batch.old.items }
+        ensures ready { All (λ one. D.is_of one.ready one.work) batch.new.items }
+    {
         let work = ticket.into_work();
         let (system, tid) = D::name(&work);
         gate.pass(system, tid);
         match D::prepare(alloc, &work) {
-            Ok(ready) => self.act(rt, lock, work, ready),
+            Ok(ready) => self.put(rt, lock, Prepared::of(work, ready), batch),
             Err(OutOfMemory) => self.short = true,
         }
     }
 
-    /// Does a work that is prepared.
-    fn act<R: Wait>(&mut self, rt: &R, lock: &Mutex<Locked<D, E>>, work: D::Work, ready: D::Ready)
-        requires origin { D.origin_of work ∷ [] ≡ E.origin }
-        requires ready { D.is_of ready work }
+    /// Puts a work into the batch. Where there is no memory for its place the batch is done at once, and then this work.
+    fn put<R: Wait>(
+        &mut self,
+        rt: &R,
+        lock: &Mutex<Locked<D, E>>,
+        one: Prepared<D, E>,
+        batch: &mut Batch<D, E>,
+    )
+        requires one { D.is_of one.ready one.work }
+        requires ready { All (λ one. D.is_of one.ready one.work) batch.old.items }
+        ensures ready { All (λ one. D.is_of one.ready one.work) batch.new.items }
     {
-        let (finished, acted) = lock.lock(rt).act(work, ready, &mut self.share);
-        self.finished += finished;
-        if acted.is_err() {
-            self.short = true;
+        if let Err(refused) = batch.push_back(one) {
+            self.act(rt, lock, batch);
+            self.act_one(rt, lock, refused.value);
         }
+    }
+
+    /// Does the works of the batch in one hold of the lock. The batch is empty then.
+    fn act<R: Wait>(&mut self, rt: &R, lock: &Mutex<Locked<D, E>>, batch: &mut Batch<D, E>)
+        requires ready { All (λ one. D.is_of one.ready one.work) batch.old.items }
+        ensures empty { batch.new.items ≡ [] }
+    {
+        if batch.is_empty() {
+            return;
+        }
+        let before = self.finished;
+        let (finished, was_short) = lock.lock(rt).act_all(batch, &mut self.share);
+        self.finished = before + finished;
+        self.short |= was_short;
+    }
+
+    /// Does one work in a hold of the lock.
+    fn act_one<R: Wait>(&mut self, rt: &R, lock: &Mutex<Locked<D, E>>, one: Prepared<D, E>)
+        requires { D.is_of one.ready one.work }
+    {
+        let (finished, acted) = lock.lock(rt).act(one, &mut self.share);
+        self.finished += finished;
+        self.short |= acted.is_err();
     }
 
     /// Its share, how many works it finished, and whether memory was wanting.
