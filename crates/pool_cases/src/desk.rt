@@ -1,8 +1,8 @@
 //! A fake desk, which counts what is done to each of its works.
 
-use crate::meeting::Meeting;
 use crate::run::Call;
 use ale_base::{OutOfMemory, SystemNo, Tid};
+use case_gates::Meeting;
 use dialog_pool::Desk;
 use std::alloc::Global;
 use std::sync::Arc;

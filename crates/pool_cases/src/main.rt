@@ -6,8 +6,6 @@
 #![tactic(auto)]
 
 mod desk;
-mod gate;
-mod meeting;
 mod rules;
 mod run;
 mod scene;

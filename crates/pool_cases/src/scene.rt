@@ -3,11 +3,10 @@
 ghost use Rattle.std.specs.Prelude.{◌≤◌};
 
 use crate::desk::FakeDesk;
-use crate::gate::{CountingGate, MeetingGate};
-use crate::meeting::Meeting;
 use crate::run::{Place, Run};
 use ale_base::OutOfMemory;
 use ale_io::{Gate, OpenGate};
+use case_gates::{CountingGate, Meeting, MeetingGate};
 use dialog_pool::{Desk, PoolEnd, PoolShort, run_pool};
 use std::alloc::Global;
 use std::sync::{Arc, Wait};
@@ -47,12 +46,10 @@ fn gathered<R: Threads + Wait + Sync>(
     alloc: Global,
     run: Run,
 ) -> Result<Vec<u8>, OutOfMemory> {
-    let gate = MeetingGate {
-        meeting: Meeting::of(u64::from(run.works)),
-    };
+    let gate = MeetingGate::of(u64::from(run.works));
     let desk = FakeDesk::of(alloc, run.works, run.want, None)?;
     let mut text = pooled(rt, alloc, desk, run.workers, &gate)?;
-    text.extend_from_slice(line_on(&gate.meeting))?;
+    put_line_on(&gate.meeting, &mut text)?;
     Ok(text)
 }
 
@@ -61,17 +58,15 @@ fn met<R: Threads + Wait + Sync>(rt: &R, alloc: Global, run: Run) -> Result<Vec<
     let meeting = Arc::new(alloc, Meeting::of(u64::from(run.works)))?;
     let desk = FakeDesk::of(alloc, run.works, run.want, Some(Arc::try_clone(&meeting)?))?;
     let mut text = pooled(rt, alloc, desk, run.workers, &OpenGate)?;
-    text.extend_from_slice(line_on(&meeting))?;
+    put_line_on(&meeting, &mut text)?;
     Ok(text)
 }
 
-/// The line on a meeting.
-fn line_on(meeting: &Meeting) -> &'static [u8] {
-    if meeting.was_met() {
-        b"all met\n"
-    } else {
-        b"a turn limit was met\n"
-    }
+/// Appends the line on a meeting.
+fn put_line_on(meeting: &Meeting, text: &mut Vec<u8>) -> Result<(), OutOfMemory> {
+    text.extend_from_slice(meeting.told().as_bytes())?;
+    text.push(b'\n')?;
+    Ok(())
 }
 
 /// How a pool ended, and how often the works of its desk were done.

@@ -1,5 +1,5 @@
 -- What a run of the program gives, and the steps that a case makes of its runs.
-use Rattle.std.specs.Prelude.{◌≡◌, ◌⊎◌, ⊤, ℕ, ◌-◌, ◌^◌, ◌<◌, List, [], ◌∷◌, ◌++◌, map, take, replicate, slice_index, codes, string_bytes}
+use Rattle.std.specs.Prelude.{◌≡◌, ◌⊎◌, ⊤, ℕ, ◌-◌, ◌^◌, ◌<◌, List, [], ◌∷◌, ◌++◌, Option, None, Some, map, take, replicate, slice_index, codes, string_bytes}
 use Rattle.std.specs.Fmt.{decimal}
 use Rattle.ale_io.specs.Told.{Told}
 use Rattle.ale_io.specs.Folder.{told_of}
@@ -68,21 +68,27 @@ status_compared wanted status = record { what = codes "status"; relation = Whole
 abbrev pub output_compared : List ℕ → Output → Comparison
 output_compared printed output = record { what = codes "text"; relation = output.relation; expected = output.text.items; found = printed }
 
--- the step of a run that gave this status and printed this text: it compares the status, and all that is said of the text
-abbrev pub step_of_run : Run → ℕ → List ℕ → Step
-step_of_run run status printed = record {
+-- what is compared of a gate: nothing where it is open, and else how the meeting of its works came out
+abbrev pub gate_compared : Option ℕ → List ℕ → List Comparison
+gate_compared None met = []
+gate_compared (Some works) met = record { what = codes "gate"; relation = Whole; expected = codes "all met\n"; found = met } ∷ []
+
+-- The step of a run that gave this status and printed this text: it compares the status, all that is said of the text, and
+-- how the works met at its gate
+abbrev pub step_of_run : Run → ℕ → List ℕ → List ℕ → Step
+step_of_run run status printed met = record {
   line = run.line;
   differs = run.differs;
-  comparisons = status_compared run.status status ∷ map (output_compared printed) run.outputs.items;
+  comparisons = status_compared run.status status ∷ map (output_compared printed) run.outputs.items ++ gate_compared run.gate met;
 }
 
 -- The step of a part of a case over these files, and the volumes that it leaves: that of the run, by what it gave on volumes
--- that hold what these hold; or that of a text that is no case
+-- that hold what these hold, and by how its works met, of which nothing is said here; or that of a text that is no case
 abbrev pub IsMadeOf : List StoredFile → MemoryOf → Part → Step → MemoryOf → Type 0
 IsMadeOf files before (RunPart run) step after =
     (told : List ℕ → Told) × ((name : List ℕ) → told name ≡ told_of files name)
     × ((begun : MemoryOf) × StartsFrom before run.failing_calls begun
-    × ((status : ℕ) × (printed : List ℕ) × MayGive run.words told begun after status printed × (step ≡ step_of_run run status printed)))
+    × ((status : ℕ) × (printed met : List ℕ) × MayGive run.words told begun after status printed × (step ≡ step_of_run run status printed met)))
 IsMadeOf files before (Broken item) step after = IsBrokenStepOf item.line item.differs item.rest.items step × (after ≡ before)
 
 -- the steps of parts of a case, in order: each part starts from the volumes that the one before it left

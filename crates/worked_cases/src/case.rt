@@ -37,6 +37,8 @@ pub struct Run {
     pub line: u32,
     /// Whether it is marked: what it expects is wrong on purpose.
     pub differs: bool,
+    /// How many works meet at its gate. None where the gate is open.
+    pub gate: Option<u8>,
     pub words: Words,
     /// Which reads of files fail, counted from 1 in this run.
     pub failing_reads: Items<u64>,

@@ -2,7 +2,8 @@
 //! memory, and prints a line a case.
 //!
 //! Contract: each step of a case is the judgement of one of its runs, in order. The run had an ending by its words, files,
-//! volumes and clock, and the step fits exactly where its status and its text are those that the case gives. The first run
+//! volumes and clock, and the step fits exactly where its status and its text are those that the case gives and, where works
+//! are to meet at its gate, a text is `all met`; that this text is what the gate tells, no contract says. The first run
 //! starts on empty volumes, and each other one on what the one before it left (`specs/`: `Judged`). `case_form` says by
 //! contract how the verdicts that are printed and the exit status follow from these steps.
 //! The form of a case file is in `docs/reference/cases.md`.

@@ -3,15 +3,16 @@
 ghost use Rattle.std.specs.Prelude.{◌≡◌, ◌++◌, ℕ, List, [], map, OnOk, IfOk};
 ghost use Rattle.ale_io.specs.Folder.{told_of};
 ghost use Rattle.case_form.specs.Made.{IsBrokenStepOf};
-ghost use Rattle.worked_cases.specs.Judged.{MayGive, IsMadeOf, AreMadeOf, StartsFrom, empty_volumes, step_of_run, status_compared, output_compared, shown_status};
+ghost use Rattle.worked_cases.specs.Judged.{MayGive, IsMadeOf, AreMadeOf, StartsFrom, empty_volumes, step_of_run, status_compared, output_compared, gate_compared, shown_status};
 
 use crate::case::{Case, Output, Part, Run, Words};
 use crate::reader::read_case;
 use ale_base::{Items, OutOfMemory};
 use ale_host::{Ended, aleflow, out_of_memory};
-use ale_io::{Calls, ListClock, MapFiles, OpenGate, VecSink};
+use ale_io::{Calls, ListClock, MapFiles, VecSink};
 use ale_volumes::MemoryVolumes;
 use case_form::{CaseFault, Comparison, Item, Relation, Step};
+use case_gates::{Meeting, MeetingGate};
 use std::alloc::Global;
 use std::array;
 use std::sync::Wait;
@@ -74,6 +75,7 @@ fn step_of_run<R: Threads + Wait + Sync>(
     let Run {
         line,
         differs,
+        gate: works,
         words,
         failing_reads,
         failing_puts,
@@ -88,10 +90,14 @@ fn step_of_run<R: Threads + Wait + Sync>(
         bytes: Vec::new(alloc),
         calls: Calls::with_failures(failing_puts),
     };
-    let Ended { status, vols } = performed(rt, alloc, &words, files, &mut out, begun, moments);
+    let gate = gate_of(works);
+    let Ended { status, vols } = performed(
+        rt, alloc, &words, files, &mut out, begun, moments, &gate,
+    );
     let mut comparisons = Items::new(alloc);
     comparisons.push(status_compared(alloc, wanted, status)?)?;
     put_outputs(alloc, &mut comparisons, outputs, out.bytes.as_slice())?;
+    put_gate(alloc, &mut comparisons, works, &gate.meeting)?;
     let step = Step {
         line,
         differs,
@@ -115,8 +121,8 @@ fn begun_from(
     MemoryVolumes::with_failures(alloc, contents, failing)
 }
 
-/// Runs these words over these files, none of whose reads has failed yet, on these volumes: the status, and the volumes as they
-/// are left.
+/// Runs these words over these files, none of whose reads has failed yet, on these volumes, behind this gate: the
+/// status, and the volumes as they are left.
 fn performed<R: Threads + Wait + Sync>(
     rt: &R,
     alloc: Global,
@@ -125,6 +131,7 @@ fn performed<R: Threads + Wait + Sync>(
     out: &mut VecSink,
     vols: MemoryVolumes,
     moments: Items<u64>,
+    gate: &MeetingGate,
 ) -> Ended<MemoryVolumes>
     requires quiet { files.old.calls.faults ≡ 0 }
     requires empty { out.old.bytes.items ≡ [] }
@@ -142,7 +149,7 @@ fn performed<R: Threads + Wait + Sync>(
                 out,
                 vols,
                 &mut clock,
-                &OpenGate,
+                gate,
             )
         }
         Words::Wanting => {
@@ -190,6 +197,34 @@ fn put_outputs(
             found: Items::from_slice(alloc, printed)?,
         })?;
     }
+    Ok(())
+}
+
+/// The gate of a run: open, or one at which so many works meet.
+fn gate_of(works: Option<u8>) -> MeetingGate {
+    MeetingGate::of(u64::from(works.unwrap_or(0)))
+}
+
+/// Adds the comparison of how a meeting came out, where the run's gate has one.
+fn put_gate(
+    alloc: Global,
+    comparisons: &mut Items<Comparison>,
+    gate: Option<u8>,
+    meeting: &Meeting,
+) -> Result<(), OutOfMemory>
+    ensures { OnOk result ((met : List ℕ) × (comparisons.new ≡ comparisons.old ++ gate_compared gate met)) }
+{
+    if gate.is_none() {
+        return Ok(());
+    }
+    let told = meeting.told();
+    let told = format!(in alloc; "{told}\n")?;
+    comparisons.push(Comparison {
+        what: Items::from_slice(alloc, b"gate")?,
+        relation: Relation::Whole,
+        expected: Items::from_slice(alloc, b"all met\n")?,
+        found: Items::from_slice(alloc, told.as_bytes())?,
+    })?;
     Ok(())
 }
 

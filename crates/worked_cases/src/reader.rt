@@ -18,6 +18,7 @@ pub(crate) fn read_case(alloc: Global, file: &str, bytes: &[u8]) -> Result<Case,
         alloc,
         files: Items::new(alloc),
         parts: Vec::new(alloc),
+        gate: None,
         run: None,
         line: 1,
     };
@@ -32,6 +33,7 @@ pub(crate) fn read_case(alloc: Global, file: &str, bytes: &[u8]) -> Result<Case,
 #[derive(Clone, Copy)]
 enum ItemKind {
     File,
+    Gate,
     Run,
     Clock,
     Failing,
@@ -41,8 +43,9 @@ enum ItemKind {
 }
 
 /// The first words of items.
-const ITEMS: [(&'static [u8], ItemKind); 8] = [
+const ITEMS: [(&'static [u8], ItemKind); 9] = [
     (b"file", ItemKind::File),
+    (b"gate", ItemKind::Gate),
     (b"run", ItemKind::Run),
     (b"wordless", ItemKind::Run),
     (b"clock", ItemKind::Clock),
@@ -80,6 +83,7 @@ const RELATIONS: [(&'static [u8], Relation); 4] = [
 struct BegunRun {
     line: u32,
     differs: bool,
+    gate: Option<u8>,
     words: Words,
     failing_reads: Items<u64>,
     failing_puts: Items<u64>,
@@ -95,6 +99,7 @@ impl BegunRun {
         let BegunRun {
             line,
             differs,
+            gate,
             words,
             failing_reads,
             failing_puts,
@@ -107,6 +112,7 @@ impl BegunRun {
             Some(status) if !outputs.is_empty() => Ok(Run {
                 line,
                 differs,
+                gate,
                 words,
                 failing_reads,
                 failing_puts,
@@ -126,6 +132,8 @@ struct Reader {
     alloc: Global,
     files: Items<StoredFile>,
     parts: Vec<Part>,
+    /// How many works meet at the gate that the last item set up.
+    gate: Option<u8>,
     run: Option<BegunRun>,
     /// The line of the last item.
     line: u32,
@@ -133,8 +141,12 @@ struct Reader {
 
 impl Reader {
     fn read_item(&mut self, item: Item) -> Result<(), CaseFault> {
+        if self.gate.is_some() && item.word.as_slice() != b"run".as_slice() {
+            return Err(broken(item.line, rules::BAD_GATE));
+        }
         match meaning_of(&ITEMS, item.word.as_slice()) {
             Some(ItemKind::File) => self.read_file(&item),
+            Some(ItemKind::Gate) => self.read_gate(&item),
             Some(ItemKind::Run) => self.begin_run(&item),
             Some(ItemKind::Clock) => self.read_clock(&item),
             Some(ItemKind::Failing) => self.read_failing(&item),
@@ -171,6 +183,18 @@ impl Reader {
         self.files.iter().any(|file| file.name.as_slice() == name)
     }
 
+    fn read_gate(&mut self, item: &Item) -> Result<(), CaseFault> {
+        self.end_run()?;
+        unmarked(item)?;
+        unblocked(item)?;
+        let works = number_of(item.rest.as_slice()).map_err(|end| end.at(item.line))?;
+        if works < 1 || works > 16 {
+            return Err(broken(item.line, rules::BAD_GATE));
+        }
+        self.gate = Some(works as u8);
+        Ok(())
+    }
+
     fn begin_run(&mut self, item: &Item) -> Result<(), CaseFault> {
         self.end_run()?;
         unblocked(item)?;
@@ -183,6 +207,7 @@ impl Reader {
         self.run = Some(BegunRun {
             line: item.line,
             differs: item.differs,
+            gate: self.gate.take(),
             words,
             failing_reads: Items::new(alloc),
             failing_puts: Items::new(alloc),

@@ -3,10 +3,12 @@
 use case_form::Rule;
 
 pub(crate) const NO_SUCH_ITEM: Rule = Rule(
-    "an item is title, file, run, wordless, clock, failing, status, prints or broken",
+    "an item is title, file, gate, run, wordless, clock, failing, status, prints or broken",
 );
 
 pub(crate) const ONE_FILE: Rule = Rule("a file is named by one word, and given once");
+
+pub(crate) const BAD_GATE: Rule = Rule("a gate is of 1 to 16 works, and stands before a run");
 
 pub(crate) const NO_RUN: Rule = Rule("a case ends with a run or a broken text");
 
