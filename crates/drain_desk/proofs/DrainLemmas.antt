@@ -21,11 +21,11 @@ use Rattle.unit_works.specs.Events.{is_work}
 use Rattle.unit_works.specs.Finished.{finished_in}
 use Rattle.unit_works.specs.Worked.{HaveOnlyClaimed, Lines, Worked}
 use Rattle.unit_works.specs.steps.Rounds.{RoundsAs}
-use Rattle.unit_works.proofs.DrainedLemmas.{acted-on, taken-none, taken-on}
+use Rattle.unit_works.proofs.DrainedLemmas.{acted-on, only-same, taken-none, taken-on}
 use Rattle.unit_works.proofs.OnceLemmas.{once-on}
 use Rattle.unit_works.proofs.StateLemmas.{happens-step}
 use Rattle.unit_works.proofs.WentLemmas.{went-happened}
-use Rattle.unit_works.proofs.WorkedLemmas.{is_lawful, meaning, on, part}
+use Rattle.unit_works.proofs.WorkedLemmas.{is_lawful, meaning, on, part, still}
 use Rattle.drain_desk.specs.Desk.{AreGoingOn, Keeps}
 use Rattle.drain_desk.specs.steps.Closing.{ClosedAs, IsAdded}
 
@@ -54,20 +54,7 @@ module _ {V : Type 0} (faults : V → ℕ → ℕ) (before after : KeptOf ModelR
   pub revoked-went : Worked faults before after is_work true
   revoked-went = went-happened meaning is_lawful faults is_work before after is true (event.Operator Revoke) refl refl did
 
-  -- so workers begin
-  pub going-first : (lines : Lines) → KeepsVolumes before after → AreGoingOn faults before after lines lines 0
-  going-first lines keeps = record {
-    went = revoked-went;
-    taken = taken-none lines;
-    count = let same : finished_in after.world ≡ finished_in before.world = ap finished_in revoked-world in omega (arith, same);
-    runs = ap (λ claims. list_all (λ (held : Held). not (is_kind held.kind Direct)) claims) revoked-none;
-    acts = [];
-    did = (revoked-only keeps, refl);
-    ships = refl;
-    once = λ tid. inl refl;
-  }
-
-  -- and what is still offered is shipped and executed behind them
+  -- what is still offered is shipped and executed behind workers
   pub rounds-behind : (began last : KeptOf ModelRules DocumentTables V) (lines lines_now lines_last : Lines) (n m : ℕ) → KeepsVolumes before after
       → AreGoingOn faults began before lines lines_now n → RoundsAs faults after lines_now last lines_last (Ok m)
       → RoundsAs faults began lines last lines_last (Ok (n + m))
@@ -108,6 +95,20 @@ module _ {V : Type 0} (faults : V → ℕ → ℕ) (before after : KeptOf ModelR
       → AreGoingOn faults began before lines lines_now n → Worked faults after last is_work false → Worked faults began last is_work false
   rounds-short began last lines lines_now n going went =
       on faults is_work false began after last (on faults is_work true began before after going.went revoked-went) went
+
+-- workers begin where no claim stands
+pub going-first : {V : Type 0} (faults : V → ℕ → ℕ) (began : KeptOf ModelRules DocumentTables V) (lines : Lines) → began.world.claims ≡ []
+    → AreGoingOn faults began began lines lines 0
+going-first faults began lines bare = record {
+  went = still faults is_work true began began refl;
+  taken = taken-none lines;
+  count = omega arith;
+  runs = ap (λ claims. list_all (λ (held : Held). not (is_kind held.kind Direct)) claims) bare;
+  acts = [];
+  did = (only-same faults began began refl, refl);
+  ships = refl;
+  once = λ tid. inl refl;
+}
 
 -- rounds that ended, of which no more is told than that they were works
 pub rounds-work : {V : Type 0} (faults : V → ℕ → ℕ) (before last : KeptOf ModelRules DocumentTables V) (lines lines_last : Lines) (result : Result ℕ OutOfMemory)

@@ -1,6 +1,6 @@
 //! A drain by workers.
 
-ghost use Rattle.std.specs.Prelude.{◌≤◌};
+ghost use Rattle.std.specs.Prelude.{◌≡◌, ◌≤◌, []};
 ghost use Rattle.unit_works.specs.Drained.{DrainedAs};
 ghost use Rattle.unit_works.specs.steps.Rounds.{RoundsAs};
 ghost use Rattle.drain_desk.specs.steps.Closing.{ClosedAs, IsAdded};
@@ -29,15 +29,16 @@ pub struct Drained<V: Volumes> {
     pub end: Result<u64, OutOfMemory>,
 }
 
-/// Works until nothing is left to do, by so many workers, from 1 to 16. At first each unit that is done and not ended, with both its systems
-/// up, takes a letter, and is confirmed unless its confirmation is lost. Then workers claim the units that are offered, pass the gate and
-/// prepare each without the lock, and ship or execute it in one more hold of it. Once they have ended the caller gives up the claims that are
-/// left and goes round all systems until nothing is offered.
+/// Works until nothing is left to do, by so many workers, from 1 to 16. At first all claims are given up, and each unit that is done and not
+/// ended, with both its systems up, takes a letter, and is confirmed unless its confirmation is lost. Then workers claim the units that are
+/// offered, pass the gate and prepare each without the lock, and ship or execute up to 16 of them, one after the other, in one more hold of
+/// it. Once they have ended the caller gives up the claims that are left and goes round all systems until nothing is offered.
 ///
 /// So a drain is a list of acts, one after the other, and nothing else but that claims are made and given up between them: the logs grow in
-/// each by exactly its records, or by those before the one at which a system fell. No confirmation is due at the end but those that a letter
-/// lost in it. Where no claim stood before, each unit takes one letter, and one more only where a system fell in its act before. In which
-/// order the acts come is for the workers to find.
+/// each by exactly its records, or by those before the one at which a system fell. At the end no claim is left, and no confirmation is due but
+/// those that a letter lost in it. Each unit takes one letter at most, and one more only where a system fell in its act before. Where no queue
+/// was stopped, no unit marked and no letter left before, and all systems are up at the end and offer the functions of the units, each unit that
+/// was committed went its whole way: it is received, executed, done, forgotten and ended. In which order the acts come is for the workers to find.
 ///
 /// `OutOfMemory` comes where a request for memory was refused. The works before it were done.
 pub fn drain<R: Threads + Wait + Sync, V: Volumes + Send, G: Gate + Sync>(
@@ -54,8 +55,13 @@ pub fn drain<R: Threads + Wait + Sync, V: Volumes + Send, G: Gate + Sync>(
     let mut landscape = landscape;
     let mut wires = wires;
     let _ = landscape.world();
+    landscape.revoke();
     match confirm_all(&mut landscape, &mut wires) {
-        Ok(()) => work(rt, alloc, landscape, wires, workers, gate),
+        Ok(()) => {
+            let drained = work(rt, alloc, landscape, wires, workers, gate);
+            let _ = drained.landscape.world();
+            drained
+        }
         Err(OutOfMemory) => Drained {
             landscape,
             wires,
@@ -64,7 +70,7 @@ pub fn drain<R: Threads + Wait + Sync, V: Volumes + Send, G: Gate + Sync>(
     }
 }
 
-/// Ships and executes what is offered, by workers, until nothing is. The claims that stand are given up at first: none is to run a unit.
+/// Ships and executes what is offered, by workers, until nothing is.
 fn work<R: Threads + Wait + Sync, V: Volumes + Send, G: Gate + Sync>(
     rt: &R,
     alloc: Global,
@@ -74,12 +80,10 @@ fn work<R: Threads + Wait + Sync, V: Volumes + Send, G: Gate + Sync>(
     gate: &G,
 ) -> Drained<V>
     requires workers { (1 ≤ workers) × (workers ≤ 16) }
+    requires bare { landscape.world.claims ≡ [] }
     ensures { RoundsAs V.faults landscape wires result.landscape result.wires result.end }
 {
-    let mut landscape = landscape;
     let origin = Began::of(&landscape, &wires);
-    let _ = landscape.world();
-    landscape.revoke();
     let desk = DrainDesk::of(alloc, origin, landscape, wires);
     match run_pool(rt, alloc, desk, workers, gate) {
         Ok(PoolEnd { desk, .. }) => close(alloc, desk),
@@ -116,13 +120,13 @@ fn close_going<V: Volumes>(
 ) -> Drained<V>
     ensures { ClosedAs V.faults landscape wires finished result.landscape result.wires result.end }
 {
-    let mut landscape = landscape;
+    let mut left = landscape;
     let mut wires = wires;
-    let _ = landscape.world();
-    landscape.revoke();
-    let end = added(finished, go_rounds(alloc, &mut landscape, &mut wires));
+    let _ = left.world();
+    left.revoke();
+    let end = added(finished, go_rounds(alloc, &mut left, &mut wires));
     Drained {
-        landscape,
+        landscape: left,
         wires,
         end,
     }

@@ -33,19 +33,29 @@ use Rattle.document_tables.specs.declared.document_tables.DocumentTables.{Docume
 use Rattle.model_rules.specs.declared.model_rules.ModelRules.{ModelRules}
 use Rattle.wires.specs.declared.letter.Letter.{Letter}
 use Rattle.wires.specs.Wires.{letters_left, next_letter, rest_letters}
-use Rattle.unit_works.specs.Acts.{Act, HaveActed, confirm, each_but_last_cut, execute, ship, takes}
-use Rattle.unit_works.specs.Drained.{DrainedAs, Found, FoundAs, HasGone, HasWorked, IsIdle, is_round}
+use Rattle.unit_works.specs.Acts.{Act, HaveActed, confirm, each_but_last_cut, execute, loses, ship, takes}
+use Rattle.unit_works.specs.Drained.{AreLost, AreOnce, DrainedAs, Found, FoundAs, GoThrough, HasGone, HasWorked, IsIdle, is_round}
 use Rattle.unit_works.specs.Claims.{AreOrGone}
+use Rattle.unit_works.specs.Finished.{finished_in}
 use Rattle.unit_works.specs.Events.{is_confirmation, is_execution, is_shipping, is_work}
 use Rattle.unit_works.specs.Trips.{Appended, confirmation, forgot, is_due}
 use Rattle.unit_works.specs.steps.Confirming.{IsDueOf}
 use Rattle.unit_works.specs.Worked.{HasTaken, HaveEnded, HaveOnlyClaimed, HaveTaken, Lines, NothingIn, NothingOut, Worked}
 use Rattle.unit_works.specs.Works.{ExecutedAs, ShippedAs}
 use Rattle.unit_works.specs.steps.Rounds.{HasVisited, IsTo, NothingAt, NothingTo, RoundsAs, VisitedSo, joined}
-use Rattle.unit_works.proofs.LossLemmas.{all-up, due-or-on, lost-or-due}
+use Rattle.unit_works.proofs.ClearLemmas.{acts-clear, known-up}
+use Rattle.unit_works.proofs.IdleLemmas.{idle-through}
+use Rattle.unit_works.proofs.LossLemmas.{all-up, due-or-on, lost-or-due, only-committed, only-due}
 use Rattle.unit_works.proofs.OnceLemmas.{all-done, cut-each, none-taken, once-on, once-shipped}
 use Rattle.unit_works.proofs.TripLemmas.{due-parts}
 use Rattle.unit_works.proofs.WorkedLemmas.{confirmation-works, ended-on, ended-same, execution-works, is_lawful, meaning, on, shipping-works, still, wider}
+
+-- where there were no claims there are none
+pub none-left : (claims these : List Held) → AreOrGone claims these → these ≡ [] → claims ≡ []
+none-left claims these left none = elim left [
+  | inl same ↦ same ∙ none
+  | inr gone ↦ gone
+]
 
 -- ---- letters
 
@@ -286,14 +296,8 @@ module _ {V : Type 0} (faults : V → ℕ → ℕ) where
         once = λ none tid.
             let ended = one.ended in
             once-on faults one.acts two.acts before between after lines lines_between lines_after two.did second.ships tid (first.once none tid)
-            (second.once (still-none ended.claims none) tid);
+            (second.once (none-left between.world.claims before.world.claims ended.claims none) tid);
       }
-    where
-      still-none : AreOrGone between.world.claims before.world.claims → before.world.claims ≡ [] → between.world.claims ≡ []
-      still-none claims none = elim claims [
-        | inl same ↦ same ∙ none
-        | inr gone ↦ gone
-      ]
 
   -- ---- what was found
 
@@ -501,31 +505,43 @@ module _ {V : Type 0} (faults : V → ℕ → ℕ) where
             ];
       }
 
-  -- units were visited, and then works were done until none is left
-  pub drained-on : (before between after : KeptOf ModelRules DocumentTables V) (lines lines_between lines_after : Lines) (result : Result ℕ OutOfMemory)
-      → IsLandscape meaning before.world
-      → HasVisited faults before lines between lines_between (IsTo 16) → RoundsAs faults between lines_between after lines_after result
-      → DrainedAs faults before lines after lines_after result
-  unfolding worked-on
-  drained-on before between after lines lines_between lines_after (Ok n) is first second =
-      let one = first.worked in
-      let gone = second.0 in
-      let two = gone.worked in
-      let both = worked-on before between after lines lines_between lines_after 0 n one two in
-      let same : 0 + n ≡ n = omega arith in (
-        record {
-          went = both.went;
-          taken = both.taken;
-          ended = subst (HaveEnded faults before after) same both.ended;
-          acts = one.acts ++ two.acts;
-          did = both.did;
-        },
-        second.1,
-        λ unit named due. elim (lost-or-due faults (one.acts ++ two.acts) before after lines lines_after both.did unit named due) [
+  -- claims were given up, and then units were visited
+  visited-first : (before start after : KeptOf ModelRules DocumentTables V) (lines lines_after : Lines) (These : TidOf → Type 0)
+      → Worked faults before start is_work true → HaveOnlyClaimed before start → start.world.claims ≡ []
+      → HasVisited faults start lines after lines_after These → HasVisited faults before lines after lines_after These
+  visited-first before start after lines lines_after These went only none did =
+      let worked = did.worked in
+      let ended = worked.ended in
+      record {
+        worked = record {
+          went = on faults is_work true before start after went worked.went;
+          taken = worked.taken;
+          ended = record {
+            finished = ended.finished ∙ ap (λ n. n + 0) (ap finished_in only.world);
+            claims = inr (none-left after.world.claims start.world.claims ended.claims none);
+          };
+          acts = worked.acts;
+          did = only-first worked.acts before start after lines lines_after only worked.did;
+        };
+        visited = λ unit these named due sender receiver.
+            did.visited unit these (only-committed before start only unit.tid ∙ named) (only-due before start only unit ∙ due) sender receiver;
+        few = did.few;
+      }
+
+  module _ (before between after : KeptOf ModelRules DocumentTables V) (lines lines_between lines_after : Lines)
+      (is : IsLandscape meaning before.world) (first : HasVisited faults before lines between lines_between (IsTo 16)) (bare : between.world.claims ≡ [])
+      (n : ℕ) (gone : HasGone faults between lines_between after lines_after n) where
+    -- units were visited, and works were done: each unit whose confirmation is due lost it
+    visited-lost : AreLost faults before lines after lines_after ((first.worked).acts ++ (gone.worked).acts)
+    visited-lost unit named due =
+        let one = first.worked in
+        let two = gone.worked in
+        let did = acted-on one.acts two.acts before between after lines lines_between lines_after one.did two.did in
+        elim (lost-or-due faults (one.acts ++ two.acts) before after lines lines_after did unit named due) [
           | inr lost ↦ lost
           | inl was ↦
               let sent = due-committed before.world is unit was.0 in
-              let went = both.went in
+              let went = on faults is_work true before between after one.went two.went in
               let equal : sent.0 ≡ unit = same_Some sent.0 unit (sym (went.committed unit.tid ∙ sent.1) ∙ named) in
               let found : committed_unit (meaning before.world.rules) before.world unit.tid ≡ Some unit = sent.1 ∙ ap Some equal in
               let up = due-parts before.world unit was.0 in
@@ -537,33 +553,85 @@ module _ {V : Type 0} (faults : V → ℕ → ℕ) where
               let parts = or_parts (list_any (takes unit.tid) one.acts) (list_any (takes unit.tid) two.acts)
               (sym (list_any-append (takes unit.tid) one.acts two.acts) ∙ was.1) in
               absurd (both_ways (list_any (takes unit.tid) one.acts) parts.0 visited)
-        ],
-        λ none tid.
-            let both_taken = filter-append (takes tid) one.acts two.acts in
-            elim (first.few tid) [
-              | inl none_first ↦
-                  ap each_but_last_cut (both_taken ∙ ap (λ l. l ++ filter (takes tid) two.acts) none_first)
-                  ∙ elim (gone.once (still-none one none) tid) [
-                    | inl cut ↦ cut-each (filter (takes tid) two.acts) cut
-                    | inr once ↦ once.0
-                  ]
-              | inr one_act ↦
-                  ap each_but_last_cut (both_taken
-                  ∙ ap (λ l. filter (takes tid) one.acts ++ l)
-                  (none-taken faults two.acts between after lines_between lines_after two.did gone.ships tid (inl one_act.4))
-                  ∙ append-nil (filter (takes tid) one.acts) ∙ one_act.1)
-            ],
+        ]
+
+    -- and each took one letter, and more only where a system fell
+    visited-once : AreOnce faults before lines after lines_after ((first.worked).acts ++ (gone.worked).acts)
+    visited-once tid =
+        let one = first.worked in
+        let two = gone.worked in
+        let both_taken = filter-append (takes tid) one.acts two.acts in
+        elim (first.few tid) [
+          | inl none_first ↦
+              ap each_but_last_cut (both_taken ∙ ap (λ l. l ++ filter (takes tid) two.acts) none_first)
+              ∙ elim (gone.once bare tid) [
+                | inl cut ↦ cut-each (filter (takes tid) two.acts) cut
+                | inr once ↦ once.0
+              ]
+          | inr one_act ↦
+              ap each_but_last_cut (both_taken
+              ∙ ap (λ l. filter (takes tid) one.acts ++ l)
+              (none-taken faults two.acts between after lines_between lines_after two.did gone.ships tid (inl one_act.4))
+              ∙ append-nil (filter (takes tid) one.acts) ∙ one_act.1)
+        ]
+
+  -- where nothing held units up before acts until none is offered, each went its whole way
+  went-through : (acts : List Act) (before after : KeptOf ModelRules DocumentTables V) (lines lines_after : Lines)
+      → IsLandscape meaning before.world → IsLandscape meaning after.world → after.world.rules ≡ before.world.rules
+      → HaveActed faults before lines acts after lines_after → IsIdle after.world → after.world.claims ≡ []
+      → AreLost faults before lines after lines_after acts → GoThrough faults before lines after lines_after
+  went-through acts before after lines lines_after is is_after rules did idle unclaimed lost clear none ups offers_all =
+      let stay : (system : ℕ) → is_up before.world system ≡ true → is_up after.world system ≡ true =
+      λ system up.
+      let known = known-up (meaning before.world.rules) before.world is.safe system up in
+      ups system known.0 (subst (λ (r : ModelRules). system ≤ r.systems) (sym rules) known.1) in
+      let went = acts-clear faults after is_after ups offers_all acts before lines lines_after did clear none stay in (
+        went.0,
+        went.1,
+        idle-through (meaning after.world.rules) (is_lawful after.world.rules) after.world is_after.safe went.0 unclaimed ups idle.outbound idle.inbound
+            (λ unit named due. both_ways (list_any (loses unit.tid) acts) (went.2 unit.tid) (lost unit named due)),
       )
+
+  -- claims were given up, units were visited, and then works were done until none is left
+  pub drained-on : (before start between after : KeptOf ModelRules DocumentTables V) (lines lines_between lines_after : Lines) (result : Result ℕ OutOfMemory)
+      → IsLandscape meaning before.world → IsLandscape meaning after.world
+      → Worked faults before start is_work true → HaveOnlyClaimed before start → start.world.claims ≡ []
+      → HasVisited faults start lines between lines_between (IsTo 16) → RoundsAs faults between lines_between after lines_after result
+      → DrainedAs faults before lines after lines_after result
+  unfolding worked-on
+  drained-on before start between after lines lines_between lines_after (Ok n) is is_after begun only none visited second =
+      let first = visited-first before start between lines lines_between (IsTo 16) begun only none visited in
+      let one = first.worked in
+      let gone = second.0 in
+      let two = gone.worked in
+      let both = worked-on before between after lines lines_between lines_after 0 n one two in
+      let went = both.went in
+      let visited_worked = visited.worked in
+      let visited_ended = visited_worked.ended in
+      let ended = two.ended in
+      let bare = none-left between.world.claims start.world.claims visited_ended.claims none in
+      let unclaimed = none-left after.world.claims between.world.claims ended.claims bare in
+      let lost = visited-lost before between after lines lines_between lines_after is first bare n gone in
+      record {
+        worked = record {
+          went = went;
+          taken = both.taken;
+          ended = subst (HaveEnded faults before after) (zero-more n) both.ended;
+          acts = one.acts ++ two.acts;
+          did = both.did;
+        };
+        idle = second.1;
+        unclaimed = unclaimed;
+        lost = lost;
+        once = visited-once before between after lines lines_between lines_after is first bare n gone;
+        through = went-through (one.acts ++ two.acts) before after lines lines_after is is_after went.rules both.did second.1 unclaimed lost;
+      }
     where
-      still-none : HasWorked faults before lines between lines_between 0 → before.world.claims ≡ [] → between.world.claims ≡ []
-      still-none worked none =
-          let ended = worked.ended in
-          elim ended.claims [
-            | inl same_claims ↦ same_claims ∙ none
-            | inr gone_claims ↦ gone_claims
-          ]
-  drained-on before between after lines lines_between lines_after (Err why) is first second =
-      let one = first.worked in on faults is_work false before between after one.went second
+      zero-more : (m : ℕ) → 0 + m ≡ m
+      zero-more m = omega arith
+  drained-on before start between after lines lines_between lines_after (Err why) is is_after begun only none visited second =
+      let one = visited.worked in
+      on faults is_work false before between after (on faults is_work true before start between begun one.went) second
 
   -- works, and then nothing more is found
   pub rounds-idle : (before between after : KeptOf ModelRules DocumentTables V) (lines lines_between lines_after : Lines) (n : ℕ)

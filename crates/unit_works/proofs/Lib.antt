@@ -34,5 +34,9 @@ pub mod WorkedLemmas
 pub mod LossLemmas
 -- a unit takes one letter, and one more only where a system fell
 pub mod OnceLemmas
+-- where nothing holds units up, and none is offered, each went its whole way
+pub mod IdleLemmas
+-- acts hold nothing up where all comes and all is offered
+pub mod ClearLemmas
 -- works until none is left
 pub mod DrainedLemmas

@@ -315,7 +315,7 @@ module _ {V : Type 0} (before after : KeptOf ModelRules DocumentTables V) (only 
 module _ {V : Type 0} (faults : V → ℕ → ℕ) where
   module _ (before after : KeptOf ModelRules DocumentTables V) (lines lines_after : Lines) where
     -- a system that is up after an act was before
-    acted-up : (act : Act) → Acted faults before lines act after lines_after → (system : ℕ) → is_up after.world system ≡ true
+    pub acted-up : (act : Act) → Acted faults before lines act after lines_after → (system : ℕ) → is_up after.world system ≡ true
         → is_up before.world system ≡ true
     acted-up (ship tid letter whole) did system up =
         appended-up before.world after.world

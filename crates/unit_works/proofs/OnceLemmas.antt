@@ -214,7 +214,7 @@ module _ {V : Type 0} (faults : V → ℕ → ℕ) where
         (λ busy. never-busy (meaning before.world.rules) before.world unit none (busy-is (is_answered_under letter) given busy)))
 
     -- an act appends records of works
-    acted-appended : (act : Act) → Acted faults before lines act after lines_after → AreAppended IsOfWork before.world after.world
+    pub acted-appended : (act : Act) → Acted faults before lines act after lines_after → AreAppended IsOfWork before.world after.world
     acted-appended (ship tid letter whole) did =
         let given = answer_to (meaning before.world.rules) before.world did.unit in
         are-appended IsOfWork before.world after.world (shipment letter given did.unit) whole did.grew (shipment-works letter given did.unit)

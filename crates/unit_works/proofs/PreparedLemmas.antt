@@ -30,7 +30,7 @@ use Rattle.unit_works.specs.Went.{HaveWorksBehind}
 use Rattle.unit_works.specs.steps.Arriving.{BeginsOn, IsReadyFor}
 
 -- a record of works has no text
-no-text : (next : Record) → is_works_record next ≡ true → text_of next ≡ None
+pub no-text : (next : Record) → is_works_record next ≡ true → text_of next ≡ None
 no-text (log.Mark tid cause) works = refl
 no-text (log.Done tid) works = refl
 no-text (log.Ended tid) works = refl

@@ -17,6 +17,7 @@ use Rattle.model_rules.specs.Meaning.{model_meaning}
 use Rattle.unit_works.specs.Events.{is_work}
 use Rattle.unit_works.specs.Worked.{HaveEnded, HaveTaken, Lines, Worked}
 use Rattle.unit_works.specs.Acts.{Act, HaveActed, confirm, each_but_last_cut, execute, is_cut, loses, ship, takes}
+use Rattle.unit_works.specs.Through.{AreOffered, AreThrough, AreUp, IsClear, NoneLeft}
 use Rattle.unit_works.specs.Trips.{is_due}
 
 -- no unit is offered at any system in either direction
@@ -40,16 +41,30 @@ module _ {V : Type 0} (faults : V → ℕ → ℕ) (before : KeptOf ModelRules D
       → committed_unit (model_meaning after.world.rules.systems) after.world unit.tid ≡ Some unit → is_due after.world unit ≡ true
       → list_any (loses unit.tid) acts ≡ true
 
-  -- Each unit takes a second letter only where a system fell in its act before: each of its acts but the last was cut. So it is where no
-  -- claim stood before.
+  -- Each unit takes a second letter only where a system fell in its act before: each of its acts but the last was cut.
   abbrev pub AreOnce : List Act → Type 0
-  AreOnce acts = before.world.claims ≡ [] → (tid : TidOf) → each_but_last_cut (filter (takes tid) acts) ≡ true
+  AreOnce acts = (tid : TidOf) → each_but_last_cut (filter (takes tid) acts) ≡ true
 
-  -- Works were done until no unit is offered at any system in either direction, and so many runs and executions ended; no confirmation is
-  -- due but those that were lost, and each unit took one letter, and more only where a system fell. Where memory is wanting, works were
-  -- done.
+  -- Where no queue was stopped before, no unit was marked and none had a letter left, and all systems are up at the end, and offer the functions
+  -- of the units that were committed for them, each of these units went its whole way; and again none is held up.
+  abbrev pub GoThrough : Type 0
+  GoThrough =
+      IsClear before.world → NoneLeft lines → AreUp after.world → AreOffered after.world → IsClear after.world × NoneLeft lines_after × AreThrough after.world
+
+  -- Acts were done until no unit is offered at any system in either direction, and so many runs and executions ended. No claim is left; no
+  -- confirmation is due but those that were lost; each unit took one letter at most, and more only where a system fell; and where nothing held
+  -- them up, all units went their whole way.
+  pub record HasDrained (n : ℕ) : Type 0 where
+    pub worked : HasWorked n
+    pub idle : IsIdle after.world
+    pub unclaimed : after.world.claims ≡ []
+    pub lost : AreLost worked.acts
+    pub once : AreOnce worked.acts
+    pub through : GoThrough
+
+  -- A drain was done; where memory is wanting, works were.
   abbrev pub DrainedAs : Result ℕ OutOfMemory → Type 0
-  DrainedAs (Ok n) = (worked : HasWorked n) × IsIdle after.world × AreLost worked.acts × AreOnce worked.acts
+  DrainedAs (Ok n) = HasDrained n
   DrainedAs (Err short) = Worked faults before after is_work false
 
 -- ---- what only private functions cite

@@ -14,6 +14,8 @@ pub mod Trips
 pub mod Acts
 -- a unit is shipped, or executed
 pub mod Works
+-- units go their whole way where nothing holds them up
+pub mod Through
 -- works are done until none is left
 pub mod Drained
 -- what only private functions cite
