@@ -8,7 +8,7 @@ use Rattle.ale_io.specs.Written.{AppendsFront}
 use Rattle.dist_model.specs.declared.lists.Lists.{Lists}
 use Rattle.runs.specs.declared.run_end.RunEnd.{RunEnd}
 use Rattle.runs.specs.declared.run_end.RunEnd.TheVariants as end
-use Rattle.runs.specs.Run.{Turn, text_of}
+use Rattle.runs.specs.Turns.{Turn, text_of}
 use Rattle.runs.specs.Text.{shown}
 use Rattle.runs.specs.steps.Put.{IsPut, IsPart, IsCut, IsPutAt}
 use Rattle.runs.proofs.RunLemmas.{IsPut-then, text_of-push}

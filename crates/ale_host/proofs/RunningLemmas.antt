@@ -1,6 +1,8 @@
 -- A run from the systems that were opened on.
 
-use Rattle.std.proofs.Common.{◌≡◌, ℕ, suc, Option, None, Some, Ok, List, [], ◌∷◌, ◌++◌, map, inr, refl, ap, subst, ◌∙◌}
+use Rattle.std.specs.Prelude.{slice_get}
+use Rattle.std.specs.List.{range_with_len}
+use Rattle.std.proofs.Common.{◌≡◌, ◌⊎◌, ℕ, zero, suc, false, Option, None, Some, Ok, List, [], ◌∷◌, ◌++◌, length, map, inl, inr, refl, sym, ap, subst, ◌∙◌}
 use Rattle.std.specs.Arc.{arc_value}
 use Rattle.said_models.specs.Said.{said, of_answer}
 use Rattle.model_text.specs.Text.{answer_to}
@@ -8,12 +10,22 @@ use Rattle.dist_model.specs.declared.lists.Lists.{Lists}
 use Rattle.unit_core.specs.declared.records.Record.{Record}
 use Rattle.unit_core.specs.declared.raw_unit_doc.RawUnitDoc.{RawUnitDoc}
 use Rattle.script_text.specs.declared.command.Command.{Command}
-use Rattle.trfc_protocol.specs.Start.{first_state, genesis_logs}
+use Rattle.ale_base.specs.Tid.{TidOf}
+use Rattle.ale_base.specs.declared.way.Way.{Way}
+use Rattle.ale_base.specs.declared.way.Way.TheVariants.{Outgoing, Incoming}
+use Rattle.unit_core.specs.Filters.{is_marked, is_stopped}
+use Rattle.trfc_protocol.specs.declared.world.World.{World}
+use Rattle.trfc_protocol.specs.Start.{first_state, first_world, genesis_log, genesis_logs}
+use Rattle.trfc_protocol.specs.Worlds.{log_of, log_or_none}
 use Rattle.kept_world.specs.Kept.{KeptOf}
 use Rattle.document_tables.specs.declared.document_tables.DocumentTables.{DocumentTables}
 use Rattle.model_rules.specs.declared.model_rules.ModelRules.{ModelRules}
 use Rattle.landscape.specs.Opened.{HasOpened}
-use Rattle.runs.specs.Run.{down_from, first_down}
+use Rattle.wires.specs.Wires.{letters_left}
+use Rattle.unit_works.specs.Through.{IsClear}
+use Rattle.runs.specs.declared.stage.Stage.{Stage}
+use Rattle.runs.specs.Complete.{IsFree}
+use Rattle.runs.specs.Turns.{down_from, first_down}
 use Rattle.runs.specs.declared.inputs.Inputs.{Inputs}
 use Rattle.idoc_file.specs.declared.raw_doc.RawDoc.{RawDoc}
 use Rattle.ale_io.specs.Told.{Told}
@@ -63,6 +75,46 @@ pub asks-said : (words : List (List ℕ)) (told : List ℕ → Told) (report : R
 asks-said words told Commands text model documents commands asks = asks.1.says_model
 asks-said words told Counts text model documents commands asks = ap answer_to asks.2 ∙ asks.3.says_model
 
+-- ---- nothing holds units up at first
+
+log-first : (text : List ℕ) (numbers : List ℕ) (k : ℕ) → (log_or_none (slice_get (map first_state (map (genesis_log text) numbers)) k) ≡ [])
+    ⊎ ((number : ℕ) × (log_or_none (slice_get (map first_state (map (genesis_log text) numbers)) k) ≡ genesis_log text number))
+log-first text [] k = inl refl
+log-first text (number ∷ numbers) zero = inr (number, refl)
+log-first text (number ∷ numbers) (suc k) = log-first text numbers k
+
+unmarked-first : (way : Way) (tid : TidOf) (text : List ℕ) (number : ℕ) → is_marked way tid (genesis_log text number) ≡ false
+unmarked-first Outgoing tid text number = refl
+unmarked-first Incoming tid text number = refl
+
+module _ {R : Type 0} (rules : R) (text : List ℕ) (many : ℕ) where
+  abbrev First : World R
+  First = first_world rules (genesis_logs text many)
+
+  started-first : (system : ℕ) (way : Way) (destination : ℕ) (name : List ℕ) → is_stopped way destination name (log_of First system) ≡ false
+  started-first zero way destination name = refl
+  started-first (suc k) way destination name = elim (log-first text (range_with_len 1 many) k) [
+    | inl none ↦ ap (is_stopped way destination name) none
+    | inr one ↦ ap (is_stopped way destination name) one.1
+  ]
+
+  none-marked : (system : ℕ) (way : Way) (tid : TidOf) → is_marked way tid (log_of First system) ≡ false
+  none-marked zero way tid = refl
+  none-marked (suc k) way tid = elim (log-first text (range_with_len 1 many) k) [
+    | inl none ↦ ap (is_marked way tid) none
+    | inr one ↦ ap (is_marked way tid) one.1 ∙ unmarked-first way tid text one.0
+  ]
+
+-- the log of each system that was opened is its Genesis alone, and no letter was given
+opened-free : {V : Type 0} (many : ℕ) (text : List ℕ) (set : Option ℕ) (begun : KeptOf ModelRules DocumentTables V) → HasOpened many text set begun
+    → (first : Stage V) → first.landscape ≡ begun → ((tid : TidOf) → letters_left first.wires tid ≡ []) → IsFree first
+opened-free {V} many text set begun opened first begins none = record {
+  clear = subst (λ (k : KeptOf ModelRules DocumentTables V). IsClear k.world) (sym begins)
+      (subst (λ (w : World ModelRules). IsClear w) (sym opened.world)
+      (record { started = started-first begun.world.rules text many; unmarked = none-marked begun.world.rules text many }));
+  none = none;
+}
+
 -- a run from the systems that were opened
 pub ran-from : {V : Type 0} (disk : Disk V) (text : List ℕ) (model : Lists) (masters : List RawUnitDoc) (commands commands_then : List Command)
     (before after : V) (report report_then : Report) (clock : Type 0) (given given_then given_after : List ℕ) (status : ℕ) (printed sure : List ℕ)
@@ -73,6 +125,12 @@ pub ran-from : {V : Type 0} (disk : Disk V) (text : List ℕ) (model : Lists) (m
     → RunsTo disk text model masters commands before after report clock given given_after status printed sure
 ran-from disk text model masters commands commands_then before after report report_then clock given given_then given_after status printed sure moment begun inputs
     opened names masters_are asked same reports from =
+    let its : RanFrom disk report model inputs commands begun after clock given_then given_after status printed sure =
+    subst (λ one. RanFrom disk one model inputs commands begun after clock given_then given_after status printed sure) reports
+    (from-said disk report_then (arc_value inputs.model) model inputs commands_then commands begun after clock given_then given_after status printed sure
+    names same from) in
+    let run = its.run in
+    let world = opened.world in
     inr (record {
       moment = moment;
       begun = begun;
@@ -82,7 +140,6 @@ ran-from disk text model masters commands commands_then before after report repo
       masters_are = masters_are;
       given_then = given_then;
       asked = asked;
-      from = subst (λ its. RanFrom disk its model inputs commands begun after clock given_then given_after status printed sure) reports
-          (from-said disk report_then (arc_value inputs.model) model inputs commands_then commands begun after clock given_then given_after status printed sure
-          names same from);
+      from = its;
+      complete = run.complete (opened-free (length model.systems) text (Some moment) begun world its.first its.begins its.no_letters);
     })

@@ -31,7 +31,9 @@ use Rattle.runs.specs.declared.inputs.Inputs.{Inputs}
 use Rattle.runs.specs.declared.run_end.RunEnd.{RunEnd}
 use Rattle.runs.specs.declared.run_end.RunEnd.TheVariants as end
 use Rattle.runs.specs.declared.stage.Stage.{Stage}
-use Rattle.runs.specs.Run.{AreAsked, Run, Turn, text_of}
+use Rattle.runs.specs.Complete.{AllGoThrough, HoldNothing, OfferAll}
+use Rattle.runs.specs.Run.{AreAsked, Run}
+use Rattle.runs.specs.Turns.{Turn, text_of}
 use Rattle.wires.specs.Wires.{letters_left}
 use Rattle.load_texts.specs.declared.model.TheConstants.{LOAD_MODEL}
 use Rattle.ale_host.specs.declared.running.Report.{Report}
@@ -164,7 +166,7 @@ pub record RanFrom {V : Type 0} (disk : Disk V) (report : Report) (model : Lists
   pub volumes : after ≡ left.landscape.vols
   pub safe : IsLandscape (λ (rules : ModelRules). model_meaning rules.systems) left.landscape.world
   pub on_volumes : AreOnVolumes disk.told disk.volume left.landscape.vols left.landscape.world.systems left.landscape.journals
-  pub asked : AreAsked clock given given_after its_end turns
+  pub asked : AreAsked clock given given_after turns run.halted
 
 module _ {V : Type 0} (disk : Disk V) (text : List ℕ) (model : Lists) (masters : List RawUnitDoc) (commands : List Command) (before after : V) where
   abbrev many : ℕ
@@ -194,7 +196,8 @@ module _ {V : Type 0} (disk : Disk V) (text : List ℕ) (model : Lists) (masters
       pub sure_is : sure ≡ []
       pub asked : clock → given_after ≡ given ++ moment ∷ []
 
-    -- the systems were opened, and the commands carried out
+    -- The systems were opened, and the commands carried out. Where none of these stops a queue or gives letters, and receivers offer the functions
+    -- of all units, each unit that was committed went its whole way behind each drain that left all systems up.
     pub record Ran : Type 0 where
       pub moment : ℕ
       pub begun : KeptOf ModelRules DocumentTables V
@@ -205,6 +208,7 @@ module _ {V : Type 0} (disk : Disk V) (text : List ℕ) (model : Lists) (masters
       pub given_then : List ℕ
       pub asked : clock → given_then ≡ given ++ moment ∷ []
       pub from : RanFrom disk report model inputs commands begun after clock given_then given_after status printed sure
+      pub complete : HoldNothing from.turns → OfferAll from.turns → AllGoThrough from.turns
 
     -- what became of a run
     abbrev pub RunsTo : Type 0

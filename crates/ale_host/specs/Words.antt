@@ -1,8 +1,8 @@
 -- The words of a command line.
-use Rattle.std.specs.Prelude.{ℕ, ◌≤◌, ⊤, List, [], ◌∷◌, length, get_or, Bool, false, not, ◌&&◌, ◌==◌, nat_le, codes, Option, Some, None, if◌then◌else◌}
+use Rattle.std.specs.Prelude.{ℕ, ◌≤◌, ⊤, List, [], ◌∷◌, length, get_or, slice_get, ◌-◌, Bool, false, not, ◌&&◌, ◌==◌, nat_le, codes, Option, Some, None, if◌then◌else◌}
 use Rattle.std.specs.Char.{is_ascii_digit}
 use Rattle.std.specs.List.{list_all}
-use Rattle.std.specs.Option.{option_map}
+use Rattle.std.specs.Option.{option_and_then, option_map}
 use Rattle.ale_base.specs.Decimal.{decimal_value}
 use Rattle.ale_base.specs.Text.{is_text}
 use Rattle.ale_host.specs.declared.words.TheConstants.{MAX_MASTERS, MAX_WORKERS}
@@ -52,6 +52,15 @@ documents_file words = get_or words 2 []
 
 abbrev pub script_file : List (List ℕ) → List ℕ
 script_file words = get_or words 3 []
+
+-- how many workers a number asks for: as many as it is, if it is from 1 to 16, and else one
+abbrev pub workers_for : Option ℕ → ℕ
+workers_for None = 1
+workers_for (Some count) = if nat_le 1 count && nat_le count MAX_WORKERS then count else 1
+
+-- how many workers words ask for: as many as the last one says
+abbrev pub workers_in : List (List ℕ) → ℕ
+workers_in words = workers_for (option_and_then (count_in MAX_WORKERS) (slice_get words (length words - 1)))
 
 -- ---- what only private functions cite
 

@@ -2,7 +2,7 @@
 
 ghost use Rattle.std.specs.Prelude.{◌≡◌, ◌<◌, ◌≤◌, map, string_bytes, IfSome};
 ghost use Rattle.ale_base.specs.Text.{is_text};
-ghost use Rattle.ale_host.specs.Words.{form_of, pass_form, load_form, run_form, count_in, is_count, IsFew};
+ghost use Rattle.ale_host.specs.Words.{form_of, pass_form, load_form, run_form, count_in, is_count, workers_in, IsFew};
 
 /// What the words of a command line ask for.
 #[derive(Clone, Copy, Debug, PartialEq, Eq)]
@@ -65,7 +65,8 @@ fn run_form(command: &String, workers: &String) -> Option<Form>
 
 /// How many workers the last word asks for, from 1 to 16; one where it asks for none.
 pub(crate) fn workers_of(words: &[String]) -> u8
-    ensures { (1 ≤ result) × (result ≤ 16) }
+    ensures said { result ≡ workers_in (map string_bytes words.now) }
+    ensures range { (1 ≤ result) × (result ≤ 16) }
 {
     match words.last() {
         None => 1,

@@ -1,6 +1,6 @@
 -- A run goes on by one command, and ends.
-use Rattle.std.proofs.Common.{◌≡◌, ◌≢◌, ℕ, ◌+◌, ◌<◌, ◌≤◌, Option, None, Some, Result, Ok, List, []}
-use Rattle.std.proofs.Common.{◌∷◌, ◌++◌, length, take, drop, get_or, le_refl, refl, sym, ap, subst, ◌∙◌, append-nil, append_assoc, take-append-drop}
+use Rattle.std.proofs.Common.{◌≡◌, ℕ, ◌+◌, ◌<◌, ◌≤◌, Option, None, Some, Result, Ok, List, []}
+use Rattle.std.proofs.Common.{◌∷◌, ◌++◌, length, take, drop, get_or, refl, sym, ap, subst, ◌∙◌, append-nil, append_assoc, take-append-drop}
 use Rattle.std.specs.Prelude.{⊤, MatchOption}
 use Rattle.std.specs.Option.{unwrap_or}
 use Rattle.std.proofs.lemmas.List.{take_more, drop_more, take_all}
@@ -19,9 +19,15 @@ use Rattle.runs.specs.declared.stage.Stage.{Stage}
 use Rattle.runs.specs.declared.turns.TurnEnd.{TurnEnd}
 use Rattle.runs.specs.declared.turns.TurnEnd.TheVariants as turn
 use Rattle.runs.specs.Does.{Does}
-use Rattle.runs.specs.Run.{Turn, at_moment, commands_of, moments_of, text_of, last_stage, first_down, first_faulted, Follow, IsMore, Run, AreAsked, length_at}
+use Rattle.runs.specs.Complete.{AllGoThrough, HoldNothing, IsComplete, IsFree, OfferAll}
+use Rattle.runs.specs.Run.{AreAsked, Ends, Follow, Run}
+use Rattle.runs.specs.Turns.{Turn, at_moment, commands_of, moments_of, text_of, last_stage, first_down, first_faulted, length_at}
 use Rattle.runs.specs.Text.{shown}
+use Rattle.runs.specs.steps.Keeping.{KeepsFree}
 use Rattle.runs.specs.steps.Put.{IsPut, IsPart, IsCut, IsPutAt, IsReported, IsTurn, GivesOne, down_end_of, end_behind}
+use Rattle.unit_landscape.specs.Kept.{IsLandscape}
+use Rattle.unit_works.proofs.WorkedLemmas.{meaning}
+use Rattle.runs.proofs.CompleteLemmas.{hold-first, keeps-free, offer-first, through-last}
 
 -- ---- one turn more at the end
 
@@ -78,13 +84,6 @@ IsCut-then a b c faults faults_b faults_c first second one two = record {
   rose = subst (λ n. Rose n faults_c) one.quiet two.rose;
 }
 
-none-more : (its : RunEnd) → its ≢ end.OutOfMemory → IsMore its []
-none-more end.Whole other = refl
-none-more (end.DownByFault system) other = refl
-none-more (end.DownFull system size) other = refl
-none-more end.WriteFailed other = refl
-none-more end.OutOfMemory other = absurd (other refl)
-
 -- ---- one command
 
 done-of : {V : Type 0} (faults : V → ℕ → ℕ) (inputs : Inputs) (moment : ℕ) (command : Command) (before began after : Stage V) (answer : Result Answered Short)
@@ -97,13 +96,16 @@ done-of faults inputs moment command before began after answer answered begins i
 -- what a command did, by what was put of it
 pub turn-of : {V : Type 0} (faults : V → ℕ → ℕ) (inputs : Inputs) (how : TurnEnd) (moment : ℕ) (command : Command) (before began after : Stage V)
     (answer : Result Answered Short) (old new : Option (List ℕ)) (put put_new : ℕ) → began ≡ at_moment moment before
-    → Does faults inputs began answer after command.form → IsReported how answer (λ answered. shown command answered after) old new put put_new
+    → IsLandscape meaning after.landscape.world → Does faults inputs began answer after command.form
+    → IsReported how answer (λ answered. shown command answered after) old new put put_new
     → IsTurn faults inputs how moment command before after old new put put_new
-turn-of faults inputs turn.Done moment command before began after answer old new put put_new begins does text =
-    (text.0, done-of faults inputs moment command before began after answer text.0 begins text.1 does, text.2)
-turn-of faults inputs turn.WriteFailed moment command before began after answer old new put put_new begins does text =
-    (text.0, done-of faults inputs moment command before began after answer text.0 begins text.1 does, text.2)
-turn-of faults inputs turn.OutOfMemory moment command before began after answer old new put put_new begins does text =
+turn-of faults inputs turn.Done moment command before began after answer old new put put_new begins is does text =
+    let done = done-of faults inputs moment command before began after answer text.0 begins text.1 does in
+    (text.0, done, text.2, keeps-free faults inputs moment before after text.0 command.form is done)
+turn-of faults inputs turn.WriteFailed moment command before began after answer old new put put_new begins is does text =
+    let done = done-of faults inputs moment command before began after answer text.0 begins text.1 does in
+    (text.0, done, text.2, keeps-free faults inputs moment before after text.0 command.form is done)
+turn-of faults inputs turn.OutOfMemory moment command before began after answer old new put put_new begins is does text =
     (answer, subst (λ stage. Does faults inputs stage answer after command.form) begins does, text)
 
 -- ---- the loop over the commands
@@ -118,6 +120,7 @@ pub record SoFar {V : Type 0} (faults : V → ℕ → ℕ) (inputs : Inputs) (co
   pub put_is : IsPut old new put put_now (text_of turns)
   pub asked : told → given_now ≡ given ++ moments_of turns
   pub up : first_down now.landscape.world ≡ None
+  pub free : IsFree before → HoldNothing turns → OfferAll turns → IsFree now × AllGoThrough turns
 
 abbrev turned : {V : Type 0} → Command → ℕ → Answered → Stage V → Turn V
 turned command moment answered after = record { command = command; moment = moment; answered = answered; after = after }
@@ -126,8 +129,8 @@ turned command moment answered after = record { command = command; moment = mome
 abbrev pub HasRun : {V : Type 0} → (V → ℕ → ℕ) → Inputs → List Command → Stage V → Stage V → RunEnd → Option (List ℕ) → Option (List ℕ) → ℕ → ℕ
     → Type 0 → List ℕ → List ℕ → Type 0
 HasRun {V} faults inputs commands before after its old new put put_new told given given_new =
-    (turns : List (Turn V)) × Run faults inputs commands before after its turns × IsPutAt its old new put put_new turns
-    × AreAsked told given given_new its turns
+    (turns : List (Turn V)) × (run : Run faults inputs commands before after its turns) × IsPutAt its old new put put_new turns
+    × AreAsked told given given_new turns run.halted
 
 module _ {V : Type 0} (faults : V → ℕ → ℕ) (inputs : Inputs) (commands : List Command) (before : Stage V) (old : Option (List ℕ)) (put : ℕ) (given : List ℕ)
   where
@@ -140,6 +143,7 @@ module _ {V : Type 0} (faults : V → ℕ → ℕ) (inputs : Inputs) (commands :
       put_is = record { appends = Appends-nil old; quiet = refl };
       asked = λ tells. sym (append-nil given);
       up = up;
+      free = λ free hold offer. (free, tt);
     }
 
     pub Run-whole : (i : ℕ) (after : Stage V) (new : Option (List ℕ)) (put_new : ℕ) (told : Type 0) (given_new : List ℕ)
@@ -151,10 +155,12 @@ module _ {V : Type 0} (faults : V → ℕ → ℕ) (inputs : Inputs) (commands :
         left = [];
         these = sym (take_all i commands all) ∙ sym so_far.these ∙ sym (append-nil (commands_of so_far.turns));
         follow = so_far.follow;
-        ends = (refl, so_far.last, so_far.up);
+        halted = [];
+        ends = (refl, refl, so_far.last, so_far.up);
+        complete = λ free hold offer. (so_far.free free hold offer).1;
       },
       so_far.put_is,
-      record { given = λ tells. ([], refl, so_far.asked tells ∙ ap (λ moments. given ++ moments) (sym (append-nil (moments_of so_far.turns)))) },
+      λ tells. so_far.asked tells ∙ ap (λ moments. given ++ moments) (sym (append-nil (moments_of so_far.turns))),
     )
 
     module _ (i : ℕ) (command d : Command) (mid after : Stage V) (mid_put new : Option (List ℕ)) (put_mid put_new : ℕ) (told_mid told : Type 0)
@@ -187,14 +193,23 @@ module _ {V : Type 0} (faults : V → ℕ → ℕ) (inputs : Inputs) (commands :
       asked_pushed answered tells =
           asked_more tells ∙ ap (λ moments. given ++ moments) (sym (moments_of-push so_far.turns (turned command moment answered after)))
 
+      -- behind each drain each unit went its whole way
+      completed : (answered : Answered) → KeepsFree mid after command.form → IsComplete before (so_far.turns ++ turned command moment answered after ∷ [])
+      completed answered keeps free hold offer =
+          let holds = hold-first (turned command moment answered after) so_far.turns hold in
+          let offers = offer-first (turned command moment answered after) so_far.turns offer in
+          let first = so_far.free free holds.0 offers.0 in
+          through-last (turned command moment answered after) so_far.turns first.1
+          (λ drain up. (keeps holds.1 up offers.1 first.0).1 drain)
+
       -- all of the commands are those that were done, and those behind them
       split : (answered : Answered) → commands ≡ commands_of (so_far.turns ++ turned command moment answered after ∷ []) ++ drop (i + 1) commands
       split answered = sym (take-append-drop (i + 1) commands) ∙ ap (λ done. done ++ drop (i + 1) commands) (taken ∙ sym (pushed answered))
 
       SoFar-done : (answered : Answered) → Does faults inputs (at_moment moment mid) (Ok answered) after command.form
-          → IsPut mid_put new put_mid put_new (shown command answered after) → first_down after.landscape.world ≡ None
+          → IsPut mid_put new put_mid put_new (shown command answered after) → KeepsFree mid after command.form → first_down after.landscape.world ≡ None
           → SoFar faults inputs commands (i + 1) before after old new put put_new told given given_new
-      SoFar-done answered does text up = record {
+      SoFar-done answered does text keeps up = record {
         turns = so_far.turns ++ turned command moment answered after ∷ [];
         these = pushed answered ∙ sym taken;
         follow = followed answered does;
@@ -203,18 +218,17 @@ module _ {V : Type 0} (faults : V → ℕ → ℕ) (inputs : Inputs) (commands :
             (IsPut-then old mid_put new put put_mid put_new (text_of so_far.turns) (shown command answered after) so_far.put_is text);
         asked = asked_pushed answered;
         up = up;
+        free = λ free hold offer.
+            let holds = hold-first (turned command moment answered after) so_far.turns hold in
+            let offers = offer-first (turned command moment answered after) so_far.turns offer in
+            let kept = keeps holds.1 up offers.1 (so_far.free free holds.0 offers.0).0 in
+            (kept.0, completed answered keeps free hold offer);
       }
 
-      asked_done : (its : RunEnd) → its ≢ end.OutOfMemory → (answered : Answered) → AreAsked told given given_new its
-          (so_far.turns ++ turned command moment answered after ∷ [])
-      asked_done its other answered = record {
-        given = λ tells. (
-          [],
-          none-more its other,
-          asked_pushed answered tells ∙ ap (λ moments. given ++ moments)
-              (sym (append-nil (moments_of (so_far.turns ++ turned command moment answered after ∷ [])))),
-        );
-      }
+      asked_done : (answered : Answered) → AreAsked told given given_new (so_far.turns ++ turned command moment answered after ∷ []) []
+      asked_done answered tells =
+          asked_pushed answered tells
+          ∙ ap (λ moments. given ++ moments) (sym (append-nil (moments_of (so_far.turns ++ turned command moment answered after ∷ []))))
 
       abbrev Ended : RunEnd → Type 0
       Ended its = HasRun faults inputs commands before after its old new put put_new told given given_new
@@ -230,31 +244,47 @@ module _ {V : Type 0} (faults : V → ℕ → ℕ) (inputs : Inputs) (commands :
       left_last : (answered : Answered) → after ≡ last_stage before (so_far.turns ++ turned command moment answered after ∷ [])
       left_last answered = sym (last_stage-push before so_far.turns (turned command moment answered after))
 
+      -- a run that ended behind the command
+      ran : (answered : Answered) → DoneWith answered → KeepsFree mid after command.form → (its : RunEnd)
+          → Ends faults inputs its (drop (i + 1) commands) [] before (so_far.turns ++ turned command moment answered after ∷ []) after
+          → Run faults inputs commands before after its (so_far.turns ++ turned command moment answered after ∷ [])
+      ran answered does keeps its ends = record {
+        left = drop (i + 1) commands;
+        these = split answered;
+        follow = followed answered does;
+        halted = [];
+        ends = ends;
+        complete = completed answered keeps;
+      }
+
       -- a system went down in the command
       Run-found : (answered : Answered) → DoneWith answered → IsPut mid_put new put_mid put_new (shown command answered after)
-          → (faulted down : Option ℕ) → first_faulted after.landscape.world ≡ faulted → first_down after.landscape.world ≡ down
+          → KeepsFree mid after command.form → (faulted down : Option ℕ) → first_faulted after.landscape.world ≡ faulted → first_down after.landscape.world ≡ down
           → (its : RunEnd) → down_end_of (length_at after) faulted down ≡ Some its → Ended its
-      Run-found answered does text None None no_fault down its same = absurd (subst (λ (o : Option RunEnd). MatchOption o ⊤ (λ some. ⊥)) same tt)
-      Run-found answered does text (Some system) found fault down its same =
+      unfolding ran
+      Run-found answered does text keeps None None no_fault down its same = absurd (subst (λ (o : Option RunEnd). MatchOption o ⊤ (λ some. ⊥)) same tt)
+      Run-found answered does text keeps (Some system) found fault down its same =
           subst Ended (ap (λ (o : Option RunEnd). unwrap_or o its) same) (
             so_far.turns ++ turned command moment answered after ∷ [],
-            record { left = drop (i + 1) commands; these = split answered; follow = followed answered does; ends = (left_last answered, fault) },
+            ran answered does keeps (end.DownByFault system) (refl, left_last answered, fault),
             put_whole answered text,
-            asked_done (end.DownByFault system) (λ is. absurd (cc)) answered,
+            asked_done answered,
           )
-      Run-found answered does text None (Some system) no_fault down its same =
+      Run-found answered does text keeps None (Some system) no_fault down its same =
           subst Ended (ap (λ (o : Option RunEnd). unwrap_or o its) same) (
             so_far.turns ++ turned command moment answered after ∷ [],
-            record { left = drop (i + 1) commands; these = split answered; follow = followed answered does; ends = (left_last answered, no_fault, down, refl) },
+            ran answered does keeps (end.DownFull system (length_at after system)) (refl, left_last answered, no_fault, down, refl),
             put_whole answered text,
-            asked_done (end.DownFull system (length_at after system)) (λ is. absurd (cc)) answered,
+            asked_done answered,
           )
 
       -- the text of the command was not taken whole
-      Run-unwritten : (answered : Answered) → DoneWith answered → IsPart mid_put new put_mid put_new (shown command answered after) → Ended end.WriteFailed
-      Run-unwritten answered does part = (
+      Run-unwritten : (answered : Answered) → DoneWith answered → IsPart mid_put new put_mid put_new (shown command answered after)
+          → KeepsFree mid after command.form → Ended end.WriteFailed
+      unfolding ran
+      Run-unwritten answered does part keeps = (
         so_far.turns ++ turned command moment answered after ∷ [],
-        record { left = drop (i + 1) commands; these = split answered; follow = followed answered does; ends = left_last answered },
+        ran answered does keeps end.WriteFailed (refl, left_last answered),
         (
           so_far.turns,
           (
@@ -263,7 +293,7 @@ module _ {V : Type 0} (faults : V → ℕ → ℕ) (inputs : Inputs) (commands :
             IsCut-then old mid_put new put put_mid put_new (text_of so_far.turns) (shown command answered after) so_far.put_is part,
           ),
         ),
-        asked_done end.WriteFailed (λ is. absurd (cc)) answered,
+        asked_done answered,
       )
 
       -- memory ran out in the command, or behind it
@@ -277,18 +307,27 @@ module _ {V : Type 0} (faults : V → ℕ → ℕ) (inputs : Inputs) (commands :
               ∙ ap (λ rest. take i commands ++ rest) (drop_more commands i d below ∙ ap (λ one. one ∷ drop (i + 1) commands) (sym is))
               ∙ ap (λ done. done ++ command ∷ drop (i + 1) commands) (sym so_far.these);
           follow = so_far.follow;
-          ends = (moment, (answer, subst (λ stage. Does faults inputs (at_moment moment stage) answer after command.form) so_far.last does));
+          halted = moment ∷ [];
+          ends = (
+            moment,
+            refl,
+            (
+              subst (λ stage. first_down stage.landscape.world ≡ None) so_far.last so_far.up,
+              (answer, subst (λ stage. Does faults inputs (at_moment moment stage) answer after command.form) so_far.last does),
+            ),
+          );
+          complete = λ free hold offer. (so_far.free free hold offer).1;
         },
         subst (IsPut old new put put_new) (append-nil (text_of so_far.turns))
             (IsPut-then old mid_put new put put_mid put_new (text_of so_far.turns) [] so_far.put_is none),
-        record { given = λ tells. (moment ∷ [], le_refl 1, asked_more tells) },
+        asked_more,
       )
 
       pub Run-behind : (how : TurnEnd) → IsTurn faults inputs how moment command mid after mid_put new put_mid put_new → (its : RunEnd) → end_behind after how
           ≡ Some its → Ended its
-      Run-behind turn.Done did its same = Run-found did.0 did.1 did.2 (first_faulted after.landscape.world) (first_down after.landscape.world) refl refl its
+      Run-behind turn.Done did its same = Run-found did.0 did.1 did.2 did.3 (first_faulted after.landscape.world) (first_down after.landscape.world) refl refl its
           same
-      Run-behind turn.WriteFailed did its same = subst Ended (ap (λ (o : Option RunEnd). unwrap_or o its) same) (Run-unwritten did.0 did.1 did.2)
+      Run-behind turn.WriteFailed did its same = subst Ended (ap (λ (o : Option RunEnd). unwrap_or o its) same) (Run-unwritten did.0 did.1 did.2 did.3)
       Run-behind turn.OutOfMemory did its same = subst Ended (ap (λ (o : Option RunEnd). unwrap_or o its) same) (Run-halted did.0 did.1 did.2)
 
       none_down : (faulted down : Option ℕ) → down_end_of (length_at after) faulted down ≡ None → down ≡ None
@@ -298,6 +337,6 @@ module _ {V : Type 0} (faults : V → ℕ → ℕ) (inputs : Inputs) (commands :
 
       pub SoFar-next : (how : TurnEnd) → IsTurn faults inputs how moment command mid after mid_put new put_mid put_new → end_behind after how ≡ None
           → SoFar faults inputs commands (i + 1) before after old new put put_new told given given_new
-      SoFar-next turn.Done did same = SoFar-done did.0 did.1 did.2 (none_down (first_faulted after.landscape.world) (first_down after.landscape.world) same)
+      SoFar-next turn.Done did same = SoFar-done did.0 did.1 did.2 did.3 (none_down (first_faulted after.landscape.world) (first_down after.landscape.world) same)
       SoFar-next turn.WriteFailed did same = absurd (subst (λ (o : Option RunEnd). MatchOption o ⊥ (λ some. ⊤)) same tt)
       SoFar-next turn.OutOfMemory did same = absurd (subst (λ (o : Option RunEnd). MatchOption o ⊥ (λ some. ⊤)) same tt)

@@ -1,8 +1,12 @@
 -- what one command of a script does
 pub mod Does
+-- what is printed of a run
+pub mod Text
+-- its turns
+pub mod Turns
+-- a run in which nothing holds units up
+pub mod Complete
 -- a run of a script, and why it ends
 pub mod Run
--- what is printed of it
-pub mod Text
 -- what only private functions cite
 pub mod steps

@@ -2,3 +2,5 @@
 
 -- what was put of a command
 pub mod Put
+-- commands that hold nothing up
+pub mod Keeping

@@ -1,7 +1,7 @@
 //! What is read of the systems behind each command: how long their logs are, and which of them is down.
 
 ghost use Rattle.std.specs.Prelude.{◌≡◌, ◌≤◌, ◌<◌, Some, suc, map, length, IfOk};
-ghost use Rattle.runs.specs.Run.{down_from, faulted_from};
+ghost use Rattle.runs.specs.Turns.{down_from, faulted_from};
 ghost use Rattle.trfc_protocol.specs.declared.world.SystemState.{SystemState as StateOf};
 
 use ale_base::{OutOfMemory, SystemNo};

@@ -1,8 +1,9 @@
 //! Runs of scripts: each command is carried out by the systems of a landscape, and its text is put.
 //!
 //! Contract: a run is a list of turns; in each a command does what it asks for (`Does`), and its reply with the lengths of the logs, and
-//! what it lists, is put. The run ends behind its last command, or by a cause that stands in what it left. The definitions are in
-//! `specs/`: `Does` (what a command does), `Run` (turns, and why a run ends), `Text` (what is printed).
+//! what it lists, is put. The run ends behind its last command, or by a cause that stands in what it left. Where nothing holds units up, each
+//! went its whole way behind each drain (`IsComplete`). The definitions are in `specs/`: `Does` (what a command does), `Turns` and `Run` (why
+//! a run ends), `Complete` (nothing holds units up), `Text` (what is printed).
 #![tactic(auto)]
 
 mod answered;

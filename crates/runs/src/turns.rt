@@ -1,7 +1,8 @@
 //! The commands of a script, one after the other.
 
 ghost use Rattle.std.specs.Prelude.{◌≡◌, ◌≤◌, ℕ, List, None, IfOk};
-ghost use Rattle.runs.specs.Run.{AreAsked, Run, Turn, at_moment, first_down, first_faulted, length_at};
+ghost use Rattle.runs.specs.Run.{AreAsked, Run};
+ghost use Rattle.runs.specs.Turns.{Turn, at_moment, first_down, first_faulted, length_at};
 ghost use Rattle.runs.specs.Text.{IsPrintable, shown};
 ghost use Rattle.runs.specs.steps.Put.{GivesOne, IsPutAt, IsReported, IsTurn, down_end_of, end_behind};
 
@@ -37,9 +38,12 @@ pub(crate) enum TurnEnd {
     OutOfMemory,
 }
 
-/// Carries out commands one after the other, and puts the text of each behind it; a drain is done by the workers of a crew. Before each command the clock is asked, and its records
-/// are written with that moment. A system that goes down ends the run behind the command, and so does a text that the sink did not take,
-/// and want of memory.
+/// Carries out commands one after the other, and puts the text of each behind it; a drain is done by the workers of a crew. Before each
+/// command the clock is asked, and its records are written with that moment. A system that goes down ends the run behind the command, and so
+/// does a text that the sink did not take, and want of memory.
+///
+/// Where nothing holds units up at first, no command does, and what is sent is offered by its receiver, each unit that was committed went its
+/// whole way behind each drain that left all systems up.
 pub fn run_script<R: Threads + Wait + Sync, V: Volumes + Send, G: Gate + Sync, K: Sink, C: Clock>(
     crew: &Crew<'_, R, G>,
     alloc: Global,
@@ -50,9 +54,9 @@ pub fn run_script<R: Threads + Wait + Sync, V: Volumes + Send, G: Gate + Sync, K
     clock: &mut C,
 ) -> Ran<V>
     requires up { first_down stage.landscape.world ≡ None }
-    ensures run { (turns : List (Turn V)) × Run V.faults inputs.now commands.now stage result.stage result.end turns
+    ensures run { (turns : List (Turn V)) × (run : Run V.faults inputs.now commands.now stage result.stage result.end turns)
         × IsPutAt result.end (K.contents out.old) (K.contents out.new) (K.faults out.old) (K.faults out.new) turns
-        × AreAsked (C.told clock.new) (C.given clock.old) (C.given clock.new) result.end turns }
+        × AreAsked (C.told clock.new) (C.given clock.old) (C.given clock.new) turns run.halted }
     ensures told { C.told clock.new → C.told clock.old }
     ensures counted { K.faults out.old ≤ K.faults out.new }
 {
@@ -97,6 +101,7 @@ fn turn<R: Threads + Wait + Sync, V: Volumes + Send, G: Gate + Sync, K: Sink, C:
     let moment = clock.now();
     let stage = begin(stage, moment);
     let Performed { stage, answer } = perform(crew, alloc, stage, inputs, &command.form);
+    let _ = stage.landscape.world();
     let end = report(alloc, &stage, command, answer, out);
     Turned { stage, end }
 }

@@ -13,8 +13,9 @@ use Rattle.runs.specs.declared.stage.Stage.{Stage}
 use Rattle.runs.specs.declared.turns.TurnEnd.{TurnEnd}
 use Rattle.runs.specs.declared.turns.TurnEnd.TheVariants as turn
 use Rattle.runs.specs.Does.{Does}
-use Rattle.runs.specs.Run.{Turn, at_moment, first_down, first_faulted, text_of, length_at}
+use Rattle.runs.specs.Turns.{Turn, at_moment, first_down, first_faulted, text_of, length_at}
 use Rattle.runs.specs.Text.{shown}
+use Rattle.runs.specs.steps.Keeping.{KeepsFree}
 
 -- the whole text was put with no fault
 pub record IsPut (before after : Option (List ℕ)) (faults faults_after : ℕ) (text : List ℕ) : Type 0 where
@@ -48,14 +49,14 @@ IsReported turn.WriteFailed answer text old new faults faults_after =
 IsReported turn.OutOfMemory answer text old new faults faults_after = IsPut old new faults faults_after []
 
 module _ {V : Type 0} (faults : V → ℕ → ℕ) (inputs : Inputs) where
-  -- what a command did that began at a moment, and what was put of it
+  -- what a command did that began at a moment, what was put of it, and that it kept units free
   abbrev pub IsTurn : TurnEnd → ℕ → Command → Stage V → Stage V → Option (List ℕ) → Option (List ℕ) → ℕ → ℕ → Type 0
   IsTurn turn.Done moment command before after old new put put_after =
       (answered : Answered) × Does faults inputs (at_moment moment before) (Ok answered) after command.form × IsPut old new put put_after
-      (shown command answered after)
+      (shown command answered after) × KeepsFree before after command.form
   IsTurn turn.WriteFailed moment command before after old new put put_after =
       (answered : Answered) × Does faults inputs (at_moment moment before) (Ok answered) after command.form × IsPart old new put put_after
-      (shown command answered after)
+      (shown command answered after) × KeepsFree before after command.form
   IsTurn turn.OutOfMemory moment command before after old new put put_after =
       (answer : Result Answered Short) × Does faults inputs (at_moment moment before) answer after command.form × IsPut old new put put_after []
 

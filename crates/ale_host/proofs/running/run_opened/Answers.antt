@@ -1,7 +1,7 @@
 use Rattle.std.specs.Arc.{arc_value}
 use Rattle.std.proofs.Common.{◌++◌, refl, subst}
 use Rattle.dist_model.specs.declared.lists.Lists.{Lists}
-use Rattle.runs.specs.Run.{text_of}
+use Rattle.runs.specs.Turns.{text_of}
 use Rattle.ale_host.specs.Closing.{IsClosed}
 use Rattle.ale_host.proofs.ClosingLemmas.{part-put, whole-put}
 use Rattle.ale_host.proofs.running.run_opened.Goals as goal

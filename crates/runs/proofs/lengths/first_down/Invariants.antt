@@ -1,5 +1,5 @@
 use Rattle.std.proofs.Common.{◌≡◌, suc, drop}
-use Rattle.runs.specs.Run.{down_from}
+use Rattle.runs.specs.Turns.{down_from}
 use Rattle.runs.proofs.lengths.first_down.Given as goal
 
 -- those that were looked at are up

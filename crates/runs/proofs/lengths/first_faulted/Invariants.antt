@@ -1,5 +1,5 @@
 use Rattle.std.proofs.Common.{◌≡◌, suc, drop}
-use Rattle.runs.specs.Run.{faulted_from}
+use Rattle.runs.specs.Turns.{faulted_from}
 use Rattle.runs.proofs.lengths.first_faulted.Given as goal
 
 -- none of those that were looked at fell so

@@ -7,6 +7,6 @@ returns-clause-turn g c = (
   turn-of g.V.Volumes.faults c.args.inputs.now c.report-end.result c.now-moment.result c.args.command.now c.args.stage c.begin-stage.result
       c.perform-stage.result.stage
       c.perform-stage.result.answer (g.K.Sink.contents c.args.out.now) (g.K.Sink.contents c.report-end.new.out) (g.K.Sink.faults c.args.out.now)
-      (g.K.Sink.faults c.report-end.new.out) c.begin-stage.ensures c.perform-stage.ensures.does c.report-end.ensures.reported,
+      (g.K.Sink.faults c.report-end.new.out) c.begin-stage.ensures c.world.ensures.safe c.perform-stage.ensures.does c.report-end.ensures.reported,
   c.now-moment.ensures.given,
 )

@@ -1,0 +1,61 @@
+-- The turns of a run: each command with the moment at which it began, how it was answered, and what it left. This project's own.
+use Rattle.std.specs.Prelude.{ℕ, suc, ◌&&◌, not, List, [], ◌∷◌, ◌++◌, Option, Some, None, is_some, if◌then◌else◌}
+use Rattle.std.specs.Option.{unwrap_or}
+use Rattle.kept_world.specs.Kept.{overrun_at}
+use Rattle.system_journals.specs.Changes.{with_moment}
+use Rattle.script_text.specs.declared.command.Command.{Command}
+use Rattle.trfc_protocol.specs.declared.world.SystemState.{SystemState}
+use Rattle.trfc_protocol.specs.declared.world.World.{World}
+use Rattle.model_rules.specs.declared.model_rules.ModelRules.{ModelRules}
+use Rattle.runs.specs.declared.answered.Answered.{Answered}
+use Rattle.runs.specs.declared.stage.Stage.{Stage}
+use Rattle.runs.specs.Text.{shown}
+
+-- a command, the moment at which it began, how it was answered, and what it left
+pub record Turn (V : Type 0) : Type 0 where
+  pub command : Command
+  pub moment : ℕ
+  pub answered : Answered
+  pub after : Stage V
+
+-- records are written with a moment from now on
+abbrev pub at_moment : {V : Type 0} → ℕ → Stage V → Stage V
+at_moment moment stage = record stage { landscape = record stage.landscape { journals = with_moment (Some moment) stage.landscape.journals } }
+
+abbrev pub commands_of : {V : Type 0} → List (Turn V) → List Command
+commands_of [] = []
+commands_of (turn ∷ turns) = turn.command ∷ commands_of turns
+
+abbrev pub moments_of : {V : Type 0} → List (Turn V) → List ℕ
+moments_of [] = []
+moments_of (turn ∷ turns) = turn.moment ∷ moments_of turns
+
+-- the text of all turns
+abbrev pub text_of : {V : Type 0} → List (Turn V) → List ℕ
+text_of [] = []
+text_of (turn ∷ turns) = shown turn.command turn.answered turn.after ++ text_of turns
+
+-- what the last turn left
+abbrev pub last_stage : {V : Type 0} → Stage V → List (Turn V) → Stage V
+last_stage before [] = before
+last_stage before (turn ∷ turns) = last_stage turn.after turns
+
+-- the first of these systems that is down, of which the first has this number; none where all are up
+abbrev pub down_from : ℕ → List SystemState → Option ℕ
+down_from number [] = None
+down_from number (state ∷ states) = if state.up then down_from (suc number) states else Some number
+
+-- the first of these systems that fell as it was writing a record, which it may find at its opening: its volume failed
+abbrev pub faulted_from : ℕ → List SystemState → Option ℕ
+faulted_from number [] = None
+faulted_from number (state ∷ states) = if not state.up && is_some state.rest then Some number else faulted_from (suc number) states
+
+abbrev pub first_down : World ModelRules → Option ℕ
+first_down world = down_from 1 world.systems
+
+abbrev pub first_faulted : World ModelRules → Option ℕ
+first_faulted world = faulted_from 1 world.systems
+
+-- how long the volume of a system would have been with the record that did not fit as it last fell; 0 where it fell otherwise
+abbrev pub length_at : {V : Type 0} → Stage V → ℕ → ℕ
+length_at stage system = unwrap_or (overrun_at stage.landscape system) 0
