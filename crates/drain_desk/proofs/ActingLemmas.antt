@@ -68,11 +68,10 @@ module _ {V : Type 0} (faults : V → ℕ → ℕ) (before after : KeptOf ModelR
   pub acted-none : after ≡ before → lines_after ≡ lines → HasActed faults before after lines lines_after 0
   acted-none same same_lines =
       let none = worked-same faults before after lines lines_after same same_lines in
-      let ended = none.ended in
       record {
         went = none.went;
         taken = none.taken;
-        count = ended.finished;
+        count = none.finished;
         fewer = λ is each. ap (λ (k : KeptOf ModelRules DocumentTables V). list_all is k.world.claims) same ∙ each;
         acts = [];
         did = (only-same faults before after same, same_lines);

@@ -21,7 +21,7 @@ use Rattle.unit_works.specs.Events.{is_work}
 use Rattle.unit_works.specs.Finished.{finished_in}
 use Rattle.unit_works.specs.Worked.{HaveOnlyClaimed, Lines, Worked}
 use Rattle.unit_works.specs.steps.Rounds.{RoundsAs}
-use Rattle.unit_works.proofs.DrainedLemmas.{acted-on, only-same, taken-none, taken-on}
+use Rattle.unit_works.proofs.DrainedLemmas.{acted-on, none-left, only-same, taken-none, taken-on}
 use Rattle.unit_works.proofs.OnceLemmas.{once-on}
 use Rattle.unit_works.proofs.StateLemmas.{happens-step}
 use Rattle.unit_works.proofs.WentLemmas.{went-happened}
@@ -61,23 +61,17 @@ module _ {V : Type 0} (faults : V → ℕ → ℕ) (before after : KeptOf ModelR
   rounds-behind began last lines lines_now lines_last n m keeps going rounds =
       let gone = rounds.0 in
       let worked = gone.worked in
-      let ended = worked.ended in
       let behind = acted-on faults [] worked.acts before after last lines_now lines_now lines_last (revoked-only keeps, refl) worked.did in (
         record {
           worked = record {
             went = on faults is_work true began after last (on faults is_work true began before after going.went revoked-went) worked.went;
             taken = taken-on lines lines_now lines_last going.taken worked.taken;
-            ended = record {
-              finished =
-                  let first = going.count in
-                  let last_of = ended.finished in
-                  let same : finished_in after.world ≡ finished_in before.world = ap finished_in revoked-world in
-                  omega (arith, first, last_of, same);
-              claims = inr (elim ended.claims [
-                | inl same ↦ same ∙ revoked-none
-                | inr none ↦ none
-              ]);
-            };
+            finished =
+                let first = going.count in
+                let last_of = worked.finished in
+                let same : finished_in after.world ≡ finished_in before.world = ap finished_in revoked-world in
+                omega (arith, first, last_of, same);
+            claims = inr (none-left last.world.claims after.world.claims worked.claims revoked-none);
             acts = going.acts ++ worked.acts;
             did = acted-on faults going.acts worked.acts began before last lines lines_now lines_last going.did behind;
           };

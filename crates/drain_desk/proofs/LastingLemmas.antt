@@ -1,8 +1,7 @@
 -- What is known of a work stays so while claims are made and works are done.
-use Rattle.std.specs.List.{fold, list_all, list_any}
+use Rattle.std.specs.List.{list_all, list_any}
 use Rattle.std.specs.Arc.{arc_value}
 use Rattle.std.proofs.Common.{◌≡◌, ◌||◌, ℕ, Bool, true, false, Option, Some, None, List, [], ◌∷◌, ◌++◌, refl, sym, ap, ◌∙◌}
-use Rattle.std.proofs.lemmas.Bool.{and_parts}
 use Rattle.std.proofs.lemmas.List.Sums.{fold-append}
 use Rattle.ale_base.specs.Tid.{TidOf}
 use Rattle.ale_base.specs.declared.way.Way.{Way}
@@ -21,6 +20,7 @@ use Rattle.model_rules.specs.declared.model_rules.ModelRules.{ModelRules}
 use Rattle.unit_works.specs.Events.{is_works_record}
 use Rattle.unit_works.specs.Went.{HaveWorksBehind}
 use Rattle.unit_works.specs.Worked.{HaveOnlyClaimed}
+use Rattle.unit_works.proofs.LogLemmas.{fold-all}
 use Rattle.unit_works.proofs.PreparedLemmas.{prepared-before}
 use Rattle.unit_works.proofs.WorkedLemmas.{meaning}
 use Rattle.drain_desk.specs.declared.work.Basis.{Basis}
@@ -33,28 +33,16 @@ use Rattle.drain_desk.specs.Work.{IsBasis, MayGo}
 -- a record of works stops and starts no queue
 stops-same : (way : Way) (destination : ℕ) (name : List ℕ) (before : Bool) (next : Record) → is_works_record next ≡ true
     → stopped_after way destination name before next ≡ before
-stops-same way destination name before (log.Mark tid cause) works = refl
-stops-same way destination name before (log.Done tid) works = refl
-stops-same way destination name before (log.Ended tid) works = refl
-stops-same way destination name before (log.Accept unit) works = refl
-stops-same way destination name before (log.Execute tid) works = refl
-stops-same way destination name before (log.Direct unit) works = refl
-stops-same way destination name before (log.Fail tid) works = refl
-stops-same way destination name before (log.Forget tid) works = refl
-stops-same way destination name before _ works = cc
-
-stops-all : (way : Way) (destination : ℕ) (name : List ℕ) (before : Bool) (added : List Record) → list_all is_works_record added ≡ true
-    → fold (stopped_after way destination name) before added ≡ before
-stops-all way destination name before [] works = refl
-stops-all way destination name before (next ∷ added) works =
-    let parts = and_parts (is_works_record next) (list_all is_works_record added) works in
-    stops-all way destination name (stopped_after way destination name before next) added parts.1 ∙ stops-same way destination name before next parts.0
+stops-same way destination name before (log.Stop w d n) works = cc
+stops-same way destination name before (log.Start w d n) works = cc
+stops-same way destination name before _ works = refl
 
 stops-last : (way : Way) (destination : ℕ) (name : List ℕ) (records added : List Record) → list_all is_works_record added ≡ true
     → is_stopped way destination name (records ++ added) ≡ is_stopped way destination name records
 stops-last way destination name records added works =
     fold-append (stopped_after way destination name) false records added
-    ∙ stops-all way destination name (is_stopped way destination name records) added works
+    ∙ fold-all (stopped_after way destination name) (is_stopped way destination name records) is_works_record
+    (stops-same way destination name (is_stopped way destination name records)) added works
 
 any-same : (p q : List ℕ → Bool) (names : List (List ℕ)) → ((name : List ℕ) → p name ≡ q name) → list_any p names ≡ list_any q names
 any-same p q [] same = refl

@@ -45,7 +45,7 @@ use Rattle.unit_works.specs.Trips.{Wholly}
 use Rattle.unit_works.specs.Claims.{AreOrGone}
 use Rattle.unit_works.proofs.ClaimLemmas.{Contains-last, held-out, next-fresh, stands-gone}
 use Rattle.unit_works.proofs.StateLemmas.{committed-record}
-use Rattle.unit_works.proofs.FellLemmas.{claims-fell, fell-was_cut, finished-fell}
+use Rattle.unit_works.proofs.FellLemmas.{claims-fell, fell-was_cut, finished-fell, gone-fell}
 use Rattle.unit_works.proofs.GrowthLemmas.{happened-wholly}
 use Rattle.unit_works.proofs.LogLemmas.{among-behind, grown-record, listed, record-here}
 use Rattle.unit_works.proofs.WentLemmas.{went-happened, went-fell, went-short}
@@ -190,10 +190,10 @@ module _ {R A V : Type 0} (meaning : R → Meaning) (lawful : (r : R) → IsLawf
     ]
 
     -- no claim is added but that of a run that begins
-    same-claims : after ≡ before → AreOrGone after.world.claims before.world.claims
+    same-claims : after ≡ before → AreOrGone before.world after.world before.world.claims
     same-claims same = inl (ap (λ (k : KeptOf R A V). k.world.claims) same)
 
-    pub claims-arrived : (given : Arrival) → Comes given → ClaimsCome before.world.claims after.world.claims given
+    pub claims-arrived : (given : Arrival) → Comes given → ClaimsCome before.world after.world given
     claims-arrived (arrival.New receipt) did =
         let new = world-new did.0 in
         inl (ap (λ (w : World R). w.claims) new.0 ∙ claims-record before.world unit.receiver (log.Accept unit) None)
@@ -211,7 +211,7 @@ module _ {R A V : Type 0} (meaning : R → Meaning) (lawful : (r : R) → IsLawf
     claims-arrived arrival.SysFail did = same-claims did.1
     claims-arrived arrival.Down did = elim did [
       | inl idle ↦ same-claims idle.1
-      | inr fell ↦ inr (claims-fell meaning lawful faults before after is (event.Arrive unit.tid) fell.1)
+      | inr fell ↦ gone-fell meaning lawful faults before after is (event.Arrive unit.tid) fell.1 before.world.claims
     ]
 
     -- a unit that arrives where it begins no run begins none
@@ -241,7 +241,7 @@ module _ {R A V : Type 0} (meaning : R → Meaning) (lawful : (r : R) → IsLawf
         ap listed (arrival-record (meaning before.world.rules) before.world unit given (arrives given refl)) ∙ accepted-is unit given
 
     -- the receiver that takes the unit in appends that, unless it falls in its place
-    pub has-arrived : (given : Arrival) → Comes given → ArrivedSo (meaning before.world.rules) before.world after.world unit given
+    pub has-arrived : (given : Arrival) → Comes given → ArrivedSo (meaning before.world.rules) before after unit given
     has-arrived (arrival.New receipt) did = inl (record {
       tells = (did.0.0, did.1);
       grew = wholly-answered answer.New did.0.0 did.0.1;

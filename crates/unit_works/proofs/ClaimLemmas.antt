@@ -112,10 +112,16 @@ stands-gone_in world claim gone = ap (λ claims. is_on claim.tid (claim_of claim
 -- ---- no claim is added
 
 -- where claims are those before, or are gone
-pub none-added : (before after : List Held) → AreOrGone after before → NoneAdded before after
+pub none-added-same : (before after : List Held) → after ≡ before → NoneAdded before after
+none-added-same before after same is each = ap (list_all is) same ∙ each
+
+pub none-added-gone : (before after : List Held) → after ≡ [] → NoneAdded before after
+none-added-gone before after gone is each = ap (list_all is) gone
+
+pub none-added : {R : Type 0} (before after : World R) → AreOrGone before after before.claims → NoneAdded before.claims after.claims
 none-added before after left is each = elim left [
-  | inl same ↦ ap (list_all is) same ∙ each
-  | inr gone ↦ ap (list_all is) gone
+  | inl same ↦ none-added-same before.claims after.claims same is each
+  | inr gone ↦ none-added-gone before.claims after.claims gone.0 is each
 ]
 
 -- where some of those before are left

@@ -2,8 +2,8 @@
 use Rattle.std.specs.Prelude.{Contains, fold, is_some}
 use Rattle.std.specs.List.{list_all, list_any}
 use Rattle.std.specs.Option.{option_map_or}
-use Rattle.std.proofs.Common.{◌≡◌, ◌≤◌, ◌==◌, ◌&&◌, ℕ, not, Bool, true, false, cond, Option, Some, None, List, [], ◌∷◌, ◌++◌, inl, inr, refl, sym, ap, subst, ◌∙◌, append-nil, append_assoc}
-use Rattle.std.proofs.lemmas.Bool.{and_from, and_parts, both_ways, cases_Bool, or_from}
+use Rattle.std.proofs.Common.{◌≡◌, ◌&&◌, ℕ, not, Bool, true, false, cond, Option, Some, None, List, [], ◌∷◌, ◌++◌, inl, inr, refl, sym, ap, subst, ◌∙◌, append-nil, append_assoc}
+use Rattle.std.proofs.lemmas.Bool.{and_parts, both_ways, cases_Bool, or_from}
 use Rattle.std.proofs.lemmas.List.Elements.{Contains-append_left, filter_map-append}
 use Rattle.std.proofs.lemmas.List.Sums.{fold-append}
 use Rattle.ale_base.specs.Tid.{TidOf, is_tid}
@@ -24,14 +24,11 @@ use Rattle.trfc_protocol.specs.declared.answer.Answer.TheVariants as answer
 use Rattle.trfc_protocol.specs.declared.held.HeldKind.TheVariants.{Direct}
 use Rattle.trfc_protocol.specs.declared.world.World.{World}
 use Rattle.trfc_protocol.specs.Legal.{is_empty, is_free_inbound, offers_that_of}
-use Rattle.trfc_protocol.specs.Meaning.{Meaning}
 use Rattle.trfc_protocol.specs.Offered.{answer_to, is_stopped_inbound, may_move, offers_received_now}
 use Rattle.trfc_protocol.specs.RecordOf.{Writing}
-use Rattle.trfc_protocol.specs.Safe.{Safe}
 use Rattle.trfc_protocol.specs.Worlds.{committed_unit, is_claimed, is_up, log_of, offers_now}
 use Rattle.trfc_protocol.proofs.LegalLemmas.{is_free-parts}
 use Rattle.trfc_protocol.proofs.SafeLemmas.{committed_unit-is, received-is}
-use Rattle.trfc_protocol.proofs.WorldLemmas.{is_up-known, state_of-least, state_of-most}
 use Rattle.kept_world.specs.Kept.{KeptOf}
 use Rattle.unit_landscape.specs.Kept.{IsLandscape}
 use Rattle.document_tables.specs.declared.document_tables.DocumentTables.{DocumentTables}
@@ -45,9 +42,8 @@ use Rattle.unit_works.specs.Through.{AreOffered, AreUp, IsClear, NoneLeft}
 use Rattle.unit_works.specs.Trips.{AppendedAs, HaveGrown, Wholly, confirmation, execution, forgot, records_at, shipment}
 use Rattle.unit_works.specs.Went.{HaveWorksBehind}
 use Rattle.unit_works.specs.Worked.{HasTaken, HaveOnlyClaimed, Lines}
-use Rattle.unit_works.proofs.LogLemmas.{EachIs, offers-log, works-on, works-same}
-use Rattle.unit_works.proofs.LossLemmas.{AreAppended, acted-up, all-up, each-confirmed, only-committed, only-log, only-up}
-use Rattle.unit_works.proofs.OnceLemmas.{IsOfWork, acted-appended}
+use Rattle.unit_works.proofs.LogLemmas.{EachIs, all-at, fold-all, offers-log, works-on, works-same}
+use Rattle.unit_works.proofs.LossLemmas.{acted-up, acted-went, all-up, each-confirmed, only-committed, only-log, only-up}
 use Rattle.unit_works.proofs.PreparedLemmas.{no-text}
 use Rattle.unit_works.proofs.WorkedLemmas.{is_lawful, meaning}
 
@@ -70,22 +66,7 @@ started-on way destination name (log.Start w d n) is = elim (cases_Bool (is_queu
   | inr differs ↦ ap (λ b. cond b false false) differs
 ]
 started-on way destination name (log.Stop w d n) is = cc
-started-on way destination name (log.Genesis system text) is = refl
-started-on way destination name (log.Commit origin docs) is = refl
-started-on way destination name log.Dispatch is = refl
-started-on way destination name (log.Mark tid cause) is = refl
-started-on way destination name (log.Done tid) is = refl
-started-on way destination name (log.Ended tid) is = refl
-started-on way destination name (log.Accept unit) is = refl
-started-on way destination name (log.Execute tid) is = refl
-started-on way destination name (log.Direct unit) is = refl
-started-on way destination name (log.Fail tid) is = refl
-started-on way destination name (log.Forget tid) is = refl
-started-on way destination name (log.Retry w tid) is = refl
-started-on way destination name (log.Put kind key fields) is = refl
-started-on way destination name (log.App doc) is = refl
-started-on way destination name (log.Repost doc) is = refl
-started-on way destination name (log.Model text) is = refl
+started-on way destination name _ is = refl
 
 none-cond : (b : Bool) → ◌≡◌ {A = Option Cause} (cond b None None) None
 none-cond true = refl
@@ -100,48 +81,8 @@ unmarked-on Outgoing tid (log.Retry Outgoing other) is = none-cond (is_tid other
 unmarked-on Incoming tid (log.Retry Incoming other) is = none-cond (is_tid other tid)
 unmarked-on Outgoing tid (log.Retry Incoming other) is = refl
 unmarked-on Incoming tid (log.Retry Outgoing other) is = refl
-unmarked-on Outgoing tid (log.Genesis system text) is = refl
-unmarked-on Outgoing tid (log.Commit origin docs) is = refl
-unmarked-on Outgoing tid log.Dispatch is = refl
-unmarked-on Outgoing tid (log.Done other) is = refl
-unmarked-on Outgoing tid (log.Ended other) is = refl
-unmarked-on Outgoing tid (log.Accept unit) is = refl
-unmarked-on Outgoing tid (log.Execute other) is = refl
-unmarked-on Outgoing tid (log.Direct unit) is = refl
-unmarked-on Outgoing tid (log.Forget other) is = refl
-unmarked-on Outgoing tid (log.Start w d n) is = refl
-unmarked-on Outgoing tid (log.Put kind key fields) is = refl
-unmarked-on Outgoing tid (log.App doc) is = refl
-unmarked-on Outgoing tid (log.Repost doc) is = refl
-unmarked-on Outgoing tid (log.Model text) is = refl
-unmarked-on Incoming tid (log.Genesis system text) is = refl
-unmarked-on Incoming tid (log.Commit origin docs) is = refl
-unmarked-on Incoming tid log.Dispatch is = refl
-unmarked-on Incoming tid (log.Done other) is = refl
-unmarked-on Incoming tid (log.Ended other) is = refl
-unmarked-on Incoming tid (log.Accept unit) is = refl
-unmarked-on Incoming tid (log.Execute other) is = refl
-unmarked-on Incoming tid (log.Direct unit) is = refl
-unmarked-on Incoming tid (log.Forget other) is = refl
-unmarked-on Incoming tid (log.Start w d n) is = refl
-unmarked-on Incoming tid (log.Put kind key fields) is = refl
-unmarked-on Incoming tid (log.App doc) is = refl
-unmarked-on Incoming tid (log.Repost doc) is = refl
-unmarked-on Incoming tid (log.Model text) is = refl
-
-started-all : (way : Way) (destination : ℕ) (name : List ℕ) (added : List Record) → list_all is_harmless added ≡ true
-    → fold (stopped_after way destination name) false added ≡ false
-started-all way destination name [] each = refl
-started-all way destination name (next ∷ added) each =
-    let parts = and_parts (is_harmless next) (list_all is_harmless added) each in
-    ap (λ b. fold (stopped_after way destination name) b added) (started-on way destination name next parts.0)
-    ∙ started-all way destination name added parts.1
-
-unmarked-all : (way : Way) (tid : TidOf) (added : List Record) → list_all is_harmless added ≡ true → fold (mark_after way tid) None added ≡ None
-unmarked-all way tid [] each = refl
-unmarked-all way tid (next ∷ added) each =
-    let parts = and_parts (is_harmless next) (list_all is_harmless added) each in
-    ap (λ mark. fold (mark_after way tid) mark added) (unmarked-on way tid next parts.0) ∙ unmarked-all way tid added parts.1
+unmarked-on Outgoing tid _ is = refl
+unmarked-on Incoming tid _ is = refl
 
 -- a unit that is not marked has no mark
 pub no-mark : (mark : Option Cause) → is_some mark ≡ false → mark ≡ None
@@ -157,26 +98,19 @@ clear-behind before after clear grew = record {
       ap (is_stopped way destination name) more.1
       ∙ fold-append (stopped_after way destination name) false (log_of before system) more.0
       ∙ ap (λ b. fold (stopped_after way destination name) b more.0) (clear.started system way destination name)
-      ∙ started-all way destination name more.0 more.2;
+      ∙ fold-all (stopped_after way destination name) false is_harmless (started-on way destination name) more.0 more.2;
   unmarked = λ system way tid.
       let more = grew system in
       ap (is_marked way tid) more.1
       ∙ ap is_some (fold-append (mark_after way tid) None (log_of before system) more.0
       ∙ ap (λ mark. fold (mark_after way tid) mark more.0) (no-mark (mark_of way tid (log_of before system)) (clear.unmarked system way tid))
-      ∙ unmarked-all way tid more.0 more.2);
+      ∙ fold-all (mark_after way tid) None is_harmless (unmarked-on way tid) more.0 more.2);
 }
-
-harmless-at : (system : ℕ) (added : List Writing) → EachIs HoldsNothing added → list_all is_harmless (records_at system added) ≡ true
-harmless-at system [] each = refl
-harmless-at system (it ∷ rest) each = elim (cases_Bool (it.system == system)) [
-  | inl here ↦ rw here (and_from (is_harmless it.next) (list_all is_harmless (records_at system rest)) each.0 (harmless-at system rest each.1))
-  | inr other ↦ rw other (harmless-at system rest each.1)
-]
 
 pub clear-grown : {R : Type 0} (before after : World R) (added : List Writing) → HaveGrown before after added → EachIs HoldsNothing added → IsClear before
     → IsClear after
 clear-grown before after added grew each clear =
-    clear-behind before after clear (λ system. (records_at system added, grew system, harmless-at system added each))
+    clear-behind before after clear (λ system. (records_at system added, grew system, all-at is_harmless system added each))
 
 -- ---- a shipment of a unit that its receiver takes
 
@@ -216,16 +150,6 @@ offered-last system records (next ∷ added) function works =
 
 -- ---- acts, behind the last of which all systems are up
 
-works-at : (system : ℕ) (added : List Writing) → EachIs IsOfWork added → list_all is_works_record (records_at system added) ≡ true
-works-at system [] each = refl
-works-at system (it ∷ rest) each = elim (cases_Bool (it.system == system)) [
-  | inl here ↦ rw here (and_from (is_works_record it.next) (list_all is_works_record (records_at system rest)) each.0 (works-at system rest each.1))
-  | inr other ↦ rw other (works-at system rest each.1)
-]
-
-appended-works : {R : Type 0} (before after : World R) → AreAppended IsOfWork before after → HaveWorksBehind before after
-appended-works before after did system = (records_at system did.0, did.1 system, works-at system did.0 did.2)
-
 -- a letter was taken where none is left: none is
 left-none : (tid : TidOf) (lines after : Lines) → NoneLeft lines → HasTaken tid lines after → NoneLeft after
 left-none tid lines after none takes other = elim (cases_Bool (is_tid tid other)) [
@@ -238,21 +162,23 @@ module _ {V : Type 0} (faults : V → ℕ → ℕ) where
   only-works : (before after : KeptOf ModelRules DocumentTables V) → HaveOnlyClaimed before after → HaveWorksBehind before.world after.world
   only-works before after only = works-same before.world after.world (only-log before after only)
 
+  acted-works : (before after : KeptOf ModelRules DocumentTables V) (lines lines_after : Lines) (act : Act) → Acted faults before lines act after lines_after
+      → HaveWorksBehind before.world after.world
+  acted-works before after lines lines_after act did = let went = acted-went faults before after lines lines_after act did in went.logs
+
   all-works : (acts : List Act) (before after : KeptOf ModelRules DocumentTables V) (lines lines_after : Lines)
       → HaveActed faults before lines acts after lines_after → HaveWorksBehind before.world after.world
   all-works [] before after lines lines_after did = only-works before after did.0
   all-works (act ∷ acts) before after lines lines_after did =
       works-on before.world (did.0).world after.world (only-works before did.0 did.3)
       (works-on (did.0).world (did.1).world after.world
-      (appended-works (did.0).world (did.1).world (acted-appended faults did.0 did.1 lines did.2 act did.4))
+      (acted-works did.0 did.1 lines did.2 act did.4)
       (all-works acts did.1 after did.2 lines_after did.5))
 
   -- the units that are committed stay
   acted-same : (before after : KeptOf ModelRules DocumentTables V) (lines lines_after : Lines) (act : Act) → Acted faults before lines act after lines_after
       → (tid : TidOf) → committed_unit (meaning after.world.rules) after.world tid ≡ committed_unit (meaning before.world.rules) before.world tid
-  acted-same before after lines lines_after (ship of letter whole) did tid = let went = did.went in went.committed tid
-  acted-same before after lines lines_after (execute place of whole) did tid = let executed_so = did.0 in let went = executed_so.went in went.committed tid
-  acted-same before after lines lines_after (confirm of letter whole) did tid = let went = did.went in went.committed tid
+  acted-same before after lines lines_after act did = let went = acted-went faults before after lines lines_after act did in went.committed
 
   all-same : (acts : List Act) (before after : KeptOf ModelRules DocumentTables V) (lines lines_after : Lines)
       → HaveActed faults before lines acts after lines_after → (tid : TidOf)
@@ -324,13 +250,13 @@ module _ {V : Type 0} (faults : V → ℕ → ℕ) where
           ∙ subst (λ s. offers_now (meaning now.rules) now s unit.function ≡ true) got.0 well.1
 
     -- an act by which nothing falls is whole
-    acted-whole : {R : Type 0} (now after : World R) (added : List Writing) (whole : Bool) → AppendedAs now after added whole
-        → ((system : ℕ) → is_up now system ≡ true → is_up after system ≡ true) → Wholly now after added
+    acted-whole : {R A T : Type 0} (now after : KeptOf R A T) (added : List Writing) (whole : Bool) → AppendedAs now after added whole
+        → ((system : ℕ) → is_up now.world system ≡ true → is_up after.world system ≡ true) → Wholly now.world after.world added
     acted-whole now after added true did stay = did
     acted-whole now after added false did stay =
         let cut = did.4 in
         let next : Writing = did.2 in
-        absurd (both_ways (is_up after next.system) cut.fell (stay next.system cut.up))
+        absurd (both_ways (is_up after.world next.system) cut.fell (stay next.system cut.up))
 
     -- an act holds nothing up, takes no letter but one under which all comes, and loses no confirmation
     record Went (now after : KeptOf ModelRules DocumentTables V) (lines_after : Lines) (act : Act) : Type 0 where
@@ -345,7 +271,7 @@ module _ {V : Type 0} (faults : V → ℕ → ℕ) where
           let unit : AleUnit = did.unit in
           let given = answer_to (meaning now.world.rules) now.world unit in
           let comes : letter ≡ Whole = did.next ∙ ap next_letter (none tid) in
-          let grew = acted-whole now.world after.world (shipment letter given unit) whole did.grew stay in
+          let grew = acted-whole now after (shipment letter given unit) whole did.grew stay in
           record {
             clear = clear-grown now.world after.world (shipment letter given unit) grew.grew
                 (subst (λ l. EachIs HoldsNothing (shipment l given unit)) (sym comes) (arrives-well now.world leads tid unit did.committed)) clear;
@@ -359,7 +285,7 @@ module _ {V : Type 0} (faults : V → ℕ → ℕ) where
           let free = is_free_inbound (log_of now.world system) tid in
           let moves = may_move (is_stopped_inbound (log_of now.world system)) (unit_named tid (received (log_of now.world system))) in
           let is_free = (and_parts up free (and_parts (up && free) moves executed_so.may).0).1 in
-          let grew = acted-whole now.world after.world (execution offers_it system tid) whole executed_so.grew stay in
+          let grew = acted-whole now after (execution offers_it system tid) whole executed_so.grew stay in
           record {
             clear = clear-grown now.world after.world (execution offers_it system tid) grew.grew
                 (execution-harmless offers_it system tid (executes-well now.world leads system tid is_free)) clear;
@@ -370,7 +296,7 @@ module _ {V : Type 0} (faults : V → ℕ → ℕ) where
           let unit : AleUnit = did.unit in
           let comes : letter ≡ Whole = did.next ∙ ap next_letter (none tid) in
           let forgotten = forgot now.world unit in
-          let grew = acted-whole now.world after.world (confirmation letter forgotten unit) whole did.grew stay in
+          let grew = acted-whole now after (confirmation letter forgotten unit) whole did.grew stay in
           record {
             clear = clear-grown now.world after.world (confirmation letter forgotten unit) grew.grew
                 (each-confirmed HoldsNothing unit refl refl letter forgotten) clear;
@@ -392,7 +318,7 @@ module _ {V : Type 0} (faults : V → ℕ → ℕ) where
         λ system up. stay system (sym (only-up now start did.3 system) ∙ up) in
         let leads : Leads start.world = record {
           behind = works-on start.world between.world last.world
-              (appended-works start.world between.world (acted-appended faults start between lines did.2 act did.4))
+              (acted-works start between lines did.2 act did.4)
               (all-works acts between last did.2 lines_last did.5);
           same = λ tid. all-same acts between last did.2 lines_last did.5 tid ∙ acted-same start between lines did.2 act did.4 tid;
           back = λ system up. acted-up faults start between lines did.2 act did.4 system (back system up);
@@ -401,12 +327,3 @@ module _ {V : Type 0} (faults : V → ℕ → ℕ) where
         let rest = acts-clear acts between did.2 lines_last did.5 went.clear went.none
         (λ system up. stay_start system (acted-up faults start between lines did.2 act did.4 system up)) in
         (rest.0, rest.1, λ tid. or_from (loses tid act) (list_any (loses tid) acts) (went.lost tid) (rest.2 tid))
-
--- the systems of a landscape that are up before acts are those that it has
-pub known-up : {R : Type 0} (rules : Meaning) (world : World R) → Safe rules world → (system : ℕ) → is_up world system ≡ true
-    → (1 ≤ system) × (system ≤ rules.systems)
-known-up rules world safe system up =
-    let known = is_up-known world system up in (
-      state_of-least world.systems system known.0 known.1,
-      subst (λ n. system ≤ n) safe.systems (state_of-most world.systems system known.0 known.1),
-    )

@@ -42,7 +42,7 @@ use Rattle.unit_works.specs.Claims.{AreOrGone}
 use Rattle.unit_works.specs.steps.Confirming.{Forgets, SentSo, sent_to}
 use Rattle.unit_works.specs.Trips.{Appended, Wholly, forgot, one_at}
 use Rattle.unit_works.proofs.StateLemmas.{committed-record}
-use Rattle.unit_works.proofs.FellLemmas.{claims-fell, fell-was_cut, finished-fell}
+use Rattle.unit_works.proofs.FellLemmas.{fell-was_cut, finished-fell, gone-fell}
 use Rattle.unit_works.proofs.GrowthLemmas.{happened-wholly, wholly-same}
 use Rattle.unit_works.proofs.LogLemmas.{if-met, listed}
 use Rattle.unit_works.proofs.WentLemmas.{went-same, went-happened, went-fell, went-short}
@@ -63,7 +63,7 @@ module _ {R A V : Type 0} (meaning : R → Meaning) (lawful : (r : R) → IsLawf
   same-count : after ≡ before → finished_in after.world ≡ finished_in before.world
   same-count same = ap (λ (k : KeptOf R A V). finished_in k.world) same
 
-  same-claims : after ≡ before → AreOrGone after.world.claims before.world.claims
+  same-claims : after ≡ before → AreOrGone before.world after.world before.world.claims
   same-claims same = inl (ap (λ (k : KeptOf R A V). k.world.claims) same)
 
   module _ (e : Event) (system : ℕ) (next : Record) (appends : Appends (meaning before.world.rules) before.world system next None e)
@@ -81,7 +81,7 @@ module _ {R A V : Type 0} (meaning : R → Meaning) (lawful : (r : R) → IsLawf
         ap finished_in joined ∙ finished-record before.world system next None joined-up ∙ ap (λ b. finished_in before.world + cond b 1 0) plain in
         omega (arith, count)
 
-    joined-claims : AreOrGone after.world.claims before.world.claims
+    joined-claims : AreOrGone before.world after.world before.world.claims
     joined-claims = inl (ap (λ (w : World R). w.claims) joined ∙ claims-record before.world system next None)
 
   -- ---- the confirmation comes to the receiver
@@ -120,12 +120,12 @@ module _ {R A V : Type 0} (meaning : R → Meaning) (lawful : (r : R) → IsLawf
       | inr fell ↦ finished-fell meaning lawful faults before after is (event.Confirm tid) fell
     ]
 
-    pub claims-confirmed : (given : Confirmed) → Sent given → AreOrGone after.world.claims before.world.claims
+    pub claims-confirmed : (given : Confirmed) → Sent given → AreOrGone before.world after.world before.world.claims
     claims-confirmed confirmed.Forgotten did = joined-claims (event.Confirm tid) Receiver (log.Forget tid) (forgets did.0 did.1) refl did.2
     claims-confirmed confirmed.Already did = same-claims did.2
     claims-confirmed confirmed.Down did = elim did [
       | inl idle ↦ same-claims idle.1
-      | inr fell ↦ inr (claims-fell meaning lawful faults before after is (event.Confirm tid) fell)
+      | inr fell ↦ gone-fell meaning lawful faults before after is (event.Confirm tid) fell before.world.claims
     ]
 
     -- the receiver has forgotten the unit in the event
@@ -191,7 +191,7 @@ module _ {R A V : Type 0} (meaning : R → Meaning) (lawful : (r : R) → IsLawf
           ∙ ap (λ b. listed (record_if b unit.receiver (log.Forget unit.tid))) is
           ∙ ap (λ b. sent_to b unit) (sym fresh)
 
-      pub has-sent : is_up before.world unit.receiver ≡ true → (given : Confirmed) → Sent given → SentSo before.world after.world tid unit given
+      pub has-sent : is_up before.world unit.receiver ≡ true → (given : Confirmed) → Sent given → SentSo before after tid unit given
       has-sent up confirmed.Forgotten did = inl (record {
         its = its;
         grew = subst (Wholly before.world after.world) (sent-lists did.0 did.1)
@@ -246,17 +246,17 @@ module _ {R A V : Type 0} (meaning : R → Meaning) (lawful : (r : R) → IsLawf
       | inr fell ↦ finished-fell meaning lawful faults before after is (event.Reply (Forgotten tid)) fell
     ]
 
-    pub claims-closed : (given : Closed) → Closes given → AreOrGone after.world.claims before.world.claims
+    pub claims-closed : (given : Closed) → Closes given → AreOrGone before.world after.world before.world.claims
     claims-closed closed.Recorded did = joined-claims (event.Reply (Forgotten tid)) tid.system (log.Ended tid) (ends did.0 did.1) refl did.2
     claims-closed closed.Already did = same-claims did.2
     claims-closed closed.Down did = elim did [
       | inl idle ↦ same-claims idle.1
-      | inr fell ↦ inr (claims-fell meaning lawful faults before after is (event.Reply (Forgotten tid)) fell)
+      | inr fell ↦ gone-fell meaning lawful faults before after is (event.Reply (Forgotten tid)) fell before.world.claims
     ]
 
     -- the sender that is up appends that, unless it falls in its place
     pub appended-closed : is_up before.world tid.system ≡ true → is_listed tid (ended_in (log_of before.world tid.system)) ≡ false → (given : Closed)
-        → Closes given → Appended before.world after.world (one_at tid.system (log.Ended tid))
+        → Closes given → Appended before after (one_at tid.system (log.Ended tid))
     appended-closed up lasts closed.Recorded did =
         let appends = ends did.0 did.1 in (
           true,

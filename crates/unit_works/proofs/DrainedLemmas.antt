@@ -25,7 +25,6 @@ use Rattle.trfc_protocol.specs.declared.world.World.{World}
 use Rattle.trfc_protocol.specs.Legal.{IsUnitAt, is_free_inbound, is_free_outbound}
 use Rattle.trfc_protocol.specs.Offered.{is_offered_inbound, is_offered_outbound, is_stopped_inbound, is_stopped_outbound, may_move}
 use Rattle.trfc_protocol.specs.Worlds.{committed_by, committed_unit, is_claimed, is_kind, is_up, log_of}
-use Rattle.trfc_protocol.proofs.WorldLemmas.{is_up-known, state_of-least, state_of-most}
 use Rattle.kept_world.specs.Kept.{KeptOf}
 use Rattle.unit_landscape.specs.Kept.{IsLandscape}
 use Rattle.landscape.specs.Shown.{AreUnconfirmedAt}
@@ -35,7 +34,7 @@ use Rattle.wires.specs.declared.letter.Letter.{Letter}
 use Rattle.wires.specs.Wires.{letters_left, next_letter, rest_letters}
 use Rattle.unit_works.specs.Acts.{Act, HaveActed, confirm, each_but_last_cut, execute, loses, ship, takes}
 use Rattle.unit_works.specs.Drained.{AreLost, AreOnce, DrainedAs, Found, FoundAs, GoThrough, HasGone, HasWorked, IsIdle, is_round}
-use Rattle.unit_works.specs.Claims.{AreOrGone}
+use Rattle.unit_works.specs.Claims.{AreOrGone, AreOrNone}
 use Rattle.unit_works.specs.Finished.{finished_in}
 use Rattle.unit_works.specs.Events.{is_confirmation, is_execution, is_shipping, is_work}
 use Rattle.unit_works.specs.Trips.{Appended, confirmation, forgot, is_due}
@@ -43,18 +42,36 @@ use Rattle.unit_works.specs.steps.Confirming.{IsDueOf}
 use Rattle.unit_works.specs.Worked.{HasTaken, HaveEnded, HaveOnlyClaimed, HaveTaken, Lines, NothingIn, NothingOut, Worked}
 use Rattle.unit_works.specs.Works.{ExecutedAs, ShippedAs}
 use Rattle.unit_works.specs.steps.Rounds.{HasVisited, IsTo, NothingAt, NothingTo, RoundsAs, VisitedSo, joined}
-use Rattle.unit_works.proofs.ClearLemmas.{acts-clear, known-up}
+use Rattle.unit_works.proofs.ClearLemmas.{acts-clear}
 use Rattle.unit_works.proofs.IdleLemmas.{idle-through}
 use Rattle.unit_works.proofs.LossLemmas.{all-up, due-or-on, lost-or-due, only-committed, only-due}
 use Rattle.unit_works.proofs.OnceLemmas.{all-done, cut-each, none-taken, once-on, once-shipped}
 use Rattle.unit_works.proofs.TripLemmas.{due-parts}
-use Rattle.unit_works.proofs.WorkedLemmas.{confirmation-works, ended-on, ended-same, execution-works, is_lawful, meaning, on, shipping-works, still, wider}
+use Rattle.unit_works.proofs.WorkedLemmas.{confirmation-works, ended-same, execution-works, is_lawful, meaning, on, shipping-works, still, wider}
+use Rattle.unit_works.proofs.WentLemmas.{up-known}
 
 -- where there were no claims there are none
-pub none-left : (claims these : List Held) → AreOrGone claims these → these ≡ [] → claims ≡ []
+pub none-left : (claims these : List Held) → AreOrNone claims these → these ≡ [] → claims ≡ []
 none-left claims these left none = elim left [
   | inl same ↦ same ∙ none
   | inr gone ↦ gone
+]
+
+-- claims that are gone where a system fell are gone
+none-gone : (before after : World ModelRules) → AreOrGone before after before.claims → AreOrNone after.claims before.claims
+none-gone before after left = elim left [
+  | inl same ↦ inl same
+  | inr gone ↦ inr gone.0
+]
+
+-- claims that stay or go, and then stay or go
+none-on : (before between after : List Held) → AreOrNone between before → AreOrNone after between → AreOrNone after before
+none-on before between after first second = elim second [
+  | inl same ↦ elim first [
+    | inl same_before ↦ inl (same ∙ same_before)
+    | inr gone ↦ inr (same ∙ gone)
+  ]
+  | inr gone ↦ inr gone
 ]
 
 -- ---- letters
@@ -118,12 +135,10 @@ module _ (world : World ModelRules) (is : IsLandscape meaning world) (unit : Ale
       let number : unit.tid.unit ≡ has.0 + 1 = ap (λ (t : TidOf). t.unit) at.tid in
       let within = has.1 in
       let most : length (rules.committed system records) ≤ 65536 = (is_lawful world.rules).most system records legal in
-      let known = is_up-known world system up in
-      let least_system = state_of-least world.systems system known.0 known.1 in
-      let most_system = state_of-most world.systems system known.0 known.1 in
-      let systems = is.safe.systems in
+      let known = up-known rules world is.safe system up in
+      let most_system = known.1 in
       let few = (is_lawful world.rules).systems_most in
-      record { system_least = least_system; system_most = omega arith; unit_least = omega arith; unit_most = omega arith }
+      record { system_least = known.0; system_most = omega arith; unit_least = omega arith; unit_most = omega arith }
 
   -- it is among those that are found unconfirmed at its system
   pub due-found : (system : ℕ) (tids : List TidOf) → AreUnconfirmedAt world system tids → unit.tid.system ≡ system
@@ -253,7 +268,8 @@ module _ {V : Type 0} (faults : V → ℕ → ℕ) where
   worked-same before after lines lines_after same same_lines = record {
     went = still faults is_work true before after same;
     taken = subst (HaveTaken lines) (sym same_lines) (taken-none lines);
-    ended = ended-same faults before after same;
+    finished = let ended = ended-same faults before after same in ended.finished;
+    claims = inl (ap (λ (k : KeptOf ModelRules DocumentTables V). k.world.claims) same);
     acts = [];
     did = (only-same before after same, same_lines);
   }
@@ -265,7 +281,8 @@ module _ {V : Type 0} (faults : V → ℕ → ℕ) where
   worked-on before between after lines lines_between lines_after n m first second = record {
     went = on faults is_work true before between after first.went second.went;
     taken = taken-on lines lines_between lines_after first.taken second.taken;
-    ended = ended-on faults before between after n m first.ended second.ended;
+    finished = let one = first.finished in let two = second.finished in omega (arith, one, two);
+    claims = none-on before.world.claims between.world.claims after.world.claims first.claims second.claims;
     acts = first.acts ++ second.acts;
     did = acted-on first.acts second.acts before between after lines lines_between lines_after first.did second.did;
   }
@@ -294,9 +311,8 @@ module _ {V : Type 0} (faults : V → ℕ → ℕ) where
         worked = worked-on before between after lines lines_between lines_after n m one two;
         ships = list_all-append is_round one.acts two.acts ∙ and_from (list_all is_round one.acts) (list_all is_round two.acts) first.ships second.ships;
         once = λ none tid.
-            let ended = one.ended in
             once-on faults one.acts two.acts before between after lines lines_between lines_after two.did second.ships tid (first.once none tid)
-            (second.once (none-left between.world.claims before.world.claims ended.claims none) tid);
+            (second.once (none-left between.world.claims before.world.claims one.claims none) tid);
       }
 
   -- ---- what was found
@@ -307,12 +323,14 @@ module _ {V : Type 0} (faults : V → ℕ → ℕ) where
     shipped-found system None did = did
     shipped-found system (Some n) did =
         let letter = next_letter (letters_left lines did.0) in
-        let shipped = did.3 in (
+        let shipped = did.3 in
+        let ended = did.4 in (
           record {
             worked = record {
               went = wider faults (is_shipping letter) is_work true before after (shipping-works letter) shipped.went;
               taken = taken-one did.0 lines lines_after shipped.taken;
-              ended = did.4;
+              finished = ended.finished;
+              claims = none-gone before.world after.world ended.claims;
               acts = ship did.0 letter did.2 ∷ [];
               did = (before, after, lines_after, only-same before before refl, did.3, (only-same after after refl, refl));
             };
@@ -391,7 +409,7 @@ module _ {V : Type 0} (faults : V → ℕ → ℕ) where
       → (tid : TidOf) (letter : Letter) → letter ≡ next_letter (letters_left lines tid) → HasTaken tid lines lines_after
       → IsDueOf (meaning before.world.rules) before.world tid
       → ((unit : AleUnit) → committed_unit (meaning before.world.rules) before.world tid ≡ Some unit → is_due before.world unit ≡ true
-      → OnOk result (Appended before.world after.world (confirmation letter (forgot before.world unit) unit)))
+      → OnOk result (Appended before after (confirmation letter (forgot before.world unit) unit)))
       → VisitedSo faults before lines after lines_after (λ (other : TidOf). other ≡ tid) result
   visited-confirmed before after lines lines_after (Ok done) safe went ended taken tid letter next takes is grew =
       let appended = grew is.unit is.committed is.due in
@@ -416,7 +434,8 @@ module _ {V : Type 0} (faults : V → ℕ → ℕ) where
         worked = record {
           went = wider faults is_confirmation is_work true before after confirmation-works went;
           taken = taken;
-          ended = ended;
+          finished = ended.finished;
+          claims = none-gone before.world after.world ended.claims;
           acts = act ∷ [];
           did = acted;
         };
@@ -511,15 +530,12 @@ module _ {V : Type 0} (faults : V → ℕ → ℕ) where
       → HasVisited faults start lines after lines_after These → HasVisited faults before lines after lines_after These
   visited-first before start after lines lines_after These went only none did =
       let worked = did.worked in
-      let ended = worked.ended in
       record {
         worked = record {
           went = on faults is_work true before start after went worked.went;
           taken = worked.taken;
-          ended = record {
-            finished = ended.finished ∙ ap (λ n. n + 0) (ap finished_in only.world);
-            claims = inr (none-left after.world.claims start.world.claims ended.claims none);
-          };
+          finished = worked.finished ∙ ap (λ n. n + 0) (ap finished_in only.world);
+          claims = inr (none-left after.world.claims start.world.claims worked.claims none);
           acts = worked.acts;
           did = only-first worked.acts before start after lines lines_after only worked.did;
         };
@@ -583,7 +599,7 @@ module _ {V : Type 0} (faults : V → ℕ → ℕ) where
   went-through acts before after lines lines_after is is_after rules did idle unclaimed lost clear none ups offers_all =
       let stay : (system : ℕ) → is_up before.world system ≡ true → is_up after.world system ≡ true =
       λ system up.
-      let known = known-up (meaning before.world.rules) before.world is.safe system up in
+      let known = up-known (meaning before.world.rules) before.world is.safe system up in
       ups system known.0 (subst (λ (r : ModelRules). system ≤ r.systems) (sym rules) known.1) in
       let went = acts-clear faults after is_after ups offers_all acts before lines lines_after did clear none stay in (
         went.0,
@@ -607,16 +623,15 @@ module _ {V : Type 0} (faults : V → ℕ → ℕ) where
       let both = worked-on before between after lines lines_between lines_after 0 n one two in
       let went = both.went in
       let visited_worked = visited.worked in
-      let visited_ended = visited_worked.ended in
-      let ended = two.ended in
-      let bare = none-left between.world.claims start.world.claims visited_ended.claims none in
-      let unclaimed = none-left after.world.claims between.world.claims ended.claims bare in
+      let bare = none-left between.world.claims start.world.claims visited_worked.claims none in
+      let unclaimed = none-left after.world.claims between.world.claims two.claims bare in
       let lost = visited-lost before between after lines lines_between lines_after is first bare n gone in
       record {
         worked = record {
           went = went;
           taken = both.taken;
-          ended = subst (HaveEnded faults before after) (zero-more n) both.ended;
+          finished = let count = both.finished in omega (arith, count);
+          claims = both.claims;
           acts = one.acts ++ two.acts;
           did = both.did;
         };
@@ -626,9 +641,6 @@ module _ {V : Type 0} (faults : V → ℕ → ℕ) where
         once = visited-once before between after lines lines_between lines_after is first bare n gone;
         through = went-through (one.acts ++ two.acts) before after lines lines_after is is_after went.rules both.did second.1 unclaimed lost;
       }
-    where
-      zero-more : (m : ℕ) → 0 + m ≡ m
-      zero-more m = omega arith
   drained-on before start between after lines lines_between lines_after (Err why) is is_after begun only none visited second =
       let one = visited.worked in
       on faults is_work false before between after (on faults is_work true before start between begun one.went) second
@@ -652,7 +664,8 @@ module _ {V : Type 0} (faults : V → ℕ → ℕ) where
       worked = record {
         went = let executed = did.3 in wider faults is_execution is_work true before after execution-works executed.went;
         taken = taken-none lines;
-        ended = did.4;
+        finished = let ended = did.4 in ended.finished;
+        claims = let ended = did.4 in none-gone before.world after.world ended.claims;
         acts = execute system did.0 did.2 ∷ [];
         did = (before, after, lines, only-same before before refl, (did.3, refl), (only-same after after refl, refl));
       };
@@ -724,12 +737,10 @@ module _ (world : World ModelRules) where
     where
       at : (system : ℕ) → is_up world system ≡ true → NothingAt world system
       at system up =
-          let known = is_up-known world system up in
-          let least = state_of-least world.systems system known.0 known.1 in
-          let most = state_of-most world.systems system known.0 known.1 in
-          let all = is.safe.systems in
+          let known = up-known (meaning world.rules) world is.safe system up in
+          let most = known.1 in
           let few = (is_lawful world.rules).systems_most in
-          nothing system least (omega arith)
+          nothing system known.0 (omega arith)
 
       outbound : (tid : TidOf) → is_offered_outbound (meaning world.rules) world tid ≡ false
       outbound tid = elim (cases_Bool (is_up world tid.system)) [

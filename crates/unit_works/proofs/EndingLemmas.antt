@@ -1,6 +1,6 @@
 -- The work of a claim ends: one more run or execution has ended, and its claim is gone.
 use Rattle.std.specs.Prelude.{Result, Ok, Err, IfOk, filter}
-use Rattle.std.proofs.Common.{◌≡◌, ◌==◌, ◌+◌, ℕ, not, Bool, true, false, cond, Option, Some, None, List, [], ◌∷◌, ◌++◌, inl, inr, refl, sym, ap, subst, ◌∙◌, arith}
+use Rattle.std.proofs.Common.{◌≡◌, ◌==◌, ◌+◌, ℕ, not, Bool, true, false, cond, Option, Some, List, [], ◌∷◌, inl, inr, refl, sym, ap, subst, ◌∙◌, arith}
 use Rattle.std.specs.Option.{option_and_then}
 use Rattle.std.proofs.lemmas.Bool.{both_ways, cases_Bool, cond_both, not-true}
 use Rattle.ale_base.specs.declared.way.Way.TheVariants.{Incoming}
@@ -44,11 +44,11 @@ use Rattle.unit_works.specs.Events.{is_end}
 use Rattle.unit_works.specs.Finished.{finished_in, is_ending}
 use Rattle.unit_works.specs.Went.{WentOn}
 use Rattle.unit_works.specs.Claims.{AreOrGone, NoneAdded}
-use Rattle.unit_works.specs.steps.Claims.{AreWith, IsHeldIn}
+use Rattle.unit_works.specs.steps.Claims.{AreWith}
 use Rattle.unit_works.specs.steps.Ending.{FinishedSo, IsDownFor, IsRun, ended_by, ended_of, run_at, worked_by}
 use Rattle.unit_works.specs.Trips.{Wholly, execution, one_at}
-use Rattle.unit_works.proofs.ClaimLemmas.{found-last, held-in, none-added, none-added-left, stands-found_in, without-last}
-use Rattle.unit_works.proofs.FellLemmas.{claims-fell, fell-was_cut, finished-fell}
+use Rattle.unit_works.proofs.ClaimLemmas.{found-last, held-in, none-added-gone, none-added-left, none-added-same, stands-found_in, without-last}
+use Rattle.unit_works.proofs.FellLemmas.{claims-fell, fell-was_cut, finished-fell, gone-fell}
 use Rattle.unit_works.proofs.GrowthLemmas.{happened-wholly}
 use Rattle.unit_works.proofs.LogLemmas.{if-met, listed}
 use Rattle.unit_works.proofs.StateLemmas.{is_step}
@@ -103,17 +103,11 @@ module _ {R A V : Type 0} (meaning : R → Meaning) (lawful : (r : R) → IsLawf
       (receiver-up there.0 holds (there.0).kind refl unit.0 unit.1)
 
   -- a claim that is among those of the world stands
-  are-stands : (others : List Held) (held : Held) → IsHeldIn claim held → claim_of claim.number others ≡ None → before.world.claims ≡ others ++ held ∷ []
-      → stands_in before.world claim ≡ true
-  are-stands others held its fresh are =
-      stands-found_in before.world claim held (ap (claim_of claim.number) are ∙ found-last claim.number others held its.number fresh) its.tid its.kind
-
-  -- where the claim does not stand there are none
-  pub with-gone : (others : List Held) → AreWith before.world.claims others claim → (stands_in before.world claim ≡ true → ⊥) → before.world.claims ≡ []
-  with-gone others with none = elim with.are [
-    | inl are ↦ absurd (none (are-stands others with.held with.its with.fresh are))
-    | inr gone ↦ gone
-  ]
+  pub with-stands : (others : List Held) → AreWith before.world.claims others claim → stands_in before.world claim ≡ true
+  with-stands others with =
+      let its = with.its in
+      stands-found_in before.world claim with.held
+      (ap (claim_of claim.number) with.are ∙ found-last claim.number others with.held its.number with.fresh) its.tid its.kind
 
   module _ (faults : V → ℕ → ℕ) (after : KeptOf R A V) where
     abbrev Ends : Result Finished WorkEnd → Type 0
@@ -218,15 +212,11 @@ module _ {R A V : Type 0} (meaning : R → Meaning) (lawful : (r : R) → IsLawf
         ∙ ap (λ b. finished_in before.world + cond b 1 0) ended.ending
 
     others-left : (others : List Held) → AreWith before.world.claims others claim → HasEnded before.world after.world claim.number
-        → AreOrGone after.world.claims others
+        → AreOrGone before.world after.world others
     others-left others with ended =
-        let left : after.world.claims ≡ filter (λ (h : Held). not (h.number == claim.number)) before.world.claims =
-        ap (λ (w : World R). w.claims) ended.world ∙ claims-record before.world ended.system ended.next (Some claim.number) in
-        elim with.are [
-          | inl are ↦ inl (left ∙ ap (filter (λ (h : Held). not (h.number == claim.number))) are
-              ∙ without-last claim.number others with.held (with.its).number with.fresh)
-          | inr gone ↦ inr (left ∙ ap (filter (λ (h : Held). not (h.number == claim.number))) gone)
-        ]
+        inl (ap (λ (w : World R). w.claims) ended.world ∙ claims-record before.world ended.system ended.next (Some claim.number)
+        ∙ ap (filter (λ (h : Held). not (h.number == claim.number))) with.are
+        ∙ without-last claim.number others with.held (with.its).number with.fresh)
 
     same-count : after ≡ before → finished_in after.world ≡ finished_in before.world + 0
     same-count same = let count = ap (λ (k : KeptOf R A V). finished_in k.world) same in omega (arith, count)
@@ -244,14 +234,12 @@ module _ {R A V : Type 0} (meaning : R → Meaning) (lawful : (r : R) → IsLawf
 
     -- and its claim is gone
     pub claims-finished : (result : Result Finished WorkEnd) → Ends result → (others : List Held) → AreWith before.world.claims others claim
-        → IfOk (ended_of result) (λ given. AreOrGone after.world.claims others)
+        → IfOk (ended_of result) (λ given. AreOrGone before.world after.world others)
     claims-finished (Ok (finished.Executed receipt)) did others with = others-left others with (executed-is did.0 did.1 did.2)
     claims-finished (Ok finished.Failed) did others with = others-left others with (failed-is did.0 did.1 did.2)
     claims-finished (Ok finished.Down) did others with =
-        inr (claims-fell meaning lawful faults before after is (finish_event (meaning before.world.rules) before.world claim) did.1)
-    claims-finished (Err end.Stale) did others with =
-        let same = did.1 in
-        inr (ap (λ (k : KeptOf R A V). k.world.claims) same ∙ with-gone others with (both_ways (stands_in before.world claim) did.0))
+        gone-fell meaning lawful faults before after is (finish_event (meaning before.world.rules) before.world claim) did.1 others
+    claims-finished (Err end.Stale) did others with = absurd (both_ways (stands_in before.world claim) did.0 (with-stands others with))
     claims-finished (Err end.OutOfMemory) did others with = tt
 
     claims-ended : HasEnded before.world after.world claim.number
@@ -264,10 +252,10 @@ module _ {R A V : Type 0} (meaning : R → Meaning) (lawful : (r : R) → IsLawf
     fewer-finished (Ok finished.Failed) did =
         none-added-left (λ (h : Held). not (h.number == claim.number)) before.world.claims after.world.claims (claims-ended (failed-is did.0 did.1 did.2))
     fewer-finished (Ok finished.Down) did =
-        none-added before.world.claims after.world.claims
-        (inr (claims-fell meaning lawful faults before after is (finish_event (meaning before.world.rules) before.world claim) did.1))
+        none-added-gone before.world.claims after.world.claims
+        (claims-fell meaning lawful faults before after is (finish_event (meaning before.world.rules) before.world claim) did.1)
     fewer-finished (Err end.Stale) did =
-        none-added before.world.claims after.world.claims (inl (ap (λ (k : KeptOf R A V). k.world.claims) did.1))
+        none-added-same before.world.claims after.world.claims (ap (λ (k : KeptOf R A V). k.world.claims) did.1)
     fewer-finished (Err end.OutOfMemory) did = tt
 
     -- ---- what is appended
@@ -359,7 +347,7 @@ module _ {R A V : Type 0} (meaning : R → Meaning) (lawful : (r : R) → IsLawf
 
     -- the record of the work is appended, and the claim is gone; or the system fell in its place
     pub has-finished : (held : Held) → HoldsIn before.world claim held → (result : Result Finished WorkEnd) → Ends result
-        → IfOk (ended_of result) (FinishedSo (meaning before.world.rules) before.world after.world claim held)
+        → IfOk (ended_of result) (FinishedSo (meaning before.world.rules) before after claim held)
     has-finished held holds (Ok (finished.Executed receipt)) did =
         let lists = executed-lists held holds held.kind refl did.1 in
         inl (record {

@@ -1,8 +1,9 @@
 -- A system fell as it was to append the record of an event: nothing more has ended, and there are no claims.
-use Rattle.std.proofs.Common.{◌≡◌, ◌⊎◌, ℕ, true, Option, Some, None, List, [], inl, inr, refl, sym, ap, ◌∙◌}
+use Rattle.std.proofs.Common.{◌≡◌, ◌⊎◌, ℕ, true, Option, Some, None, List, [], inl, inr, sym, ap, subst, ◌∙◌}
 use Rattle.std.proofs.lemmas.Bool.{cond-true}
 use Rattle.unit_core.specs.declared.records.Record.{Record}
 use Rattle.trfc_protocol.specs.declared.event.Event.{Event}
+use Rattle.trfc_protocol.specs.declared.held.Held.{Held}
 use Rattle.trfc_protocol.specs.declared.world.World.{World}
 use Rattle.trfc_protocol.specs.Keeping.{may_keep}
 use Rattle.trfc_protocol.specs.Legal.{IsLawful}
@@ -11,12 +12,15 @@ use Rattle.trfc_protocol.specs.RecordOf.{Writing, record_of}
 use Rattle.trfc_protocol.specs.Worlds.{is_up, log_of, rest_of, rest_or_none, state_of, up_or_not, with_fall}
 use Rattle.trfc_protocol.proofs.KeepingLemmas.{kept-is}
 use Rattle.trfc_protocol.proofs.RecordLemmas.{MayWrite-record}
+use Rattle.system_journals.specs.declared.journals.SystemJournals.{SystemJournals}
 use Rattle.kept_world.specs.Kept.{KeptOf}
 use Rattle.unit_landscape.specs.Ends.{Failed, FellInstead, Overflowed}
 use Rattle.unit_landscape.specs.Kept.{IsLandscape}
 use Rattle.unit_landscape.proofs.EndsLemmas.{falls-up}
+use Rattle.unit_works.specs.Claims.{AreOrGone}
 use Rattle.unit_works.specs.Finished.{finished_in}
-use Rattle.unit_works.specs.Trips.{CutAt}
+use Rattle.unit_landscape.specs.Writes.{IsTooLong}
+use Rattle.unit_works.specs.Trips.{CutAt, DidNotFit}
 use Rattle.unit_works.specs.steps.Claims.{WasCut}
 use Rattle.unit_works.proofs.LogLemmas.{grown-same, listed}
 use Rattle.unit_works.proofs.StateLemmas.{fall-is_down, fall-log, fall-other, fall-rest}
@@ -28,12 +32,6 @@ record HasFallen {R : Type 0} (before after : World R) : Type 0 where
   rest : Option Record
   up : is_up before system ≡ true
   world : after ≡ with_fall before system rest
-
--- it fell as it was to append this, which it may find
-record HasFallenAt {R : Type 0} (before after : World R) (it : Writing) : Type 0 where
-  rest : Option Record
-  world : after ≡ with_fall before it.system rest
-  kept : (rest ≡ None) ⊎ (rest ≡ Some it.next)
 
 module _ {R A V : Type 0} (meaning : R → Meaning) (lawful : (r : R) → IsLawful (meaning r)) (faults : V → ℕ → ℕ) (before after : KeptOf R A V)
     (is : IsLandscape meaning before.world) (e : Event) (did : FellInstead (meaning before.world.rules) faults before after e) where
@@ -64,44 +62,47 @@ module _ {R A V : Type 0} (meaning : R → Meaning) (lawful : (r : R) → IsLawf
   pub claims-fell : after.world.claims ≡ []
   claims-fell = let f = fell in ap (λ (w : World R). w.claims) f.world ∙ claims-fall before.world f.system f.rest
 
-  -- where its volume failed or was full, the system is down, and may find the record or nothing
+  -- it was to append this
   abbrev Given : Writing
   Given = did.0
 
-  fallen-rest : (HasFallenAt before.world after.world Given) → (rest_of after.world (did.0).system ≡ None)
-      ⊎ (rest_of after.world (did.0).system ≡ Some (did.0).next)
-  fallen-rest f = elim f.kept [
-    | inl none ↦ inl (rest f ∙ none)
-    | inr some ↦ inr (rest f ∙ some)
+  -- so nothing was appended, where it fell so
+  cut-at : (rest : Option Record) → after.world ≡ with_fall before.world (did.0).system rest
+      → (rest_of after.world (did.0).system ≡ Some (did.0).next) ⊎ DidNotFit after Given → CutAt before after [] Given
+  cut-at rest world why = record {
+    grew = grown-same before.world after.world (λ system. ap (λ (w : World R). log_of w system) world
+        ∙ fall-log before.world (did.0).system fell-up rest system);
+    up = fell-up;
+    fell = ap (λ (w : World R). is_up w (did.0).system) world ∙ fall-is_down before.world (did.0).system fell-up rest;
+    why = why;
+    others = λ system differs.
+        let state = ap (λ (w : World R). state_of w.systems system) world
+        ∙ fall-other before.world (did.0).system fell-up rest system differs in
+        (ap up_or_not state, ap rest_or_none state);
+  }
+
+  finds : (rest : Option Record) → after.world ≡ with_fall before.world (did.0).system rest → rest_of after.world (did.0).system ≡ rest
+  finds rest world = ap (λ (w : World R). rest_of w (did.0).system) world ∙ fall-rest before.world (did.0).system fell-up rest
+
+  -- its volume failed, and it may find the record; or the record did not fit
+  pub fell-cut : CutAt before after [] Given
+  fell-cut = elim did.2 [
+    | inl failed ↦ let world = fell-failed failed in cut-at (Some (did.0).next) world (inl (finds (Some (did.0).next) world))
+    | inr full ↦
+        let world = fell-full full in
+        cut-at None world (inr (record {
+          nothing = finds None world;
+          size = full.size;
+          long = subst (λ (j : SystemJournals). IsTooLong j Given full.size) (sym full.journals) full.long;
+          told = full.told;
+        }))
   ]
-    where
-      rest : (f : HasFallenAt before.world after.world Given) → rest_of after.world (did.0).system ≡ f.rest
-      rest f =
-          ap (λ (w : World R). rest_of w (did.0).system) f.world ∙ fall-rest before.world (did.0).system fell-up f.rest
 
-  fell-at : HasFallenAt before.world after.world Given
-  fell-at = elim did.2 [
-    | inl failed ↦ record { rest = Some (did.0).next; world = fell-failed failed; kept = inr refl }
-    | inr full ↦ record { rest = None; world = fell-full full; kept = inl refl }
-  ]
+  -- there are no claims, and it is down
+  pub gone-fell : (these : List Held) → AreOrGone before.world after.world these
+  gone-fell these = let cut = fell-cut in inr (claims-fell, ((did.0).system, fell-up, cut.fell))
 
-  -- so nothing was appended, and the record was the one at which the system fell
-  pub fell-cut : CutAt before.world after.world [] Given
-  fell-cut =
-      let f = fell-at in
-      record {
-        grew = grown-same before.world after.world (λ system. ap (λ (w : World R). log_of w system) f.world
-            ∙ fall-log before.world (did.0).system fell-up f.rest system);
-        up = fell-up;
-        fell = ap (λ (w : World R). is_up w (did.0).system) f.world ∙ fall-is_down before.world (did.0).system fell-up f.rest;
-        rest = fallen-rest f;
-        others = λ system differs.
-            let state = ap (λ (w : World R). state_of w.systems system) f.world
-            ∙ fall-other before.world (did.0).system fell-up f.rest system differs in
-            (ap up_or_not state, ap rest_or_none state);
-      }
-
-  pub fell-was_cut : (added : List Writing) → listed (record_of (meaning before.world.rules) before.world e) ≡ added → WasCut before.world after.world added
+  pub fell-was_cut : (added : List Writing) → listed (record_of (meaning before.world.rules) before.world e) ≡ added → WasCut before after added
   fell-was_cut added lists = record {
     cut = ([], [], Given, sym lists ∙ ap listed did.1, fell-cut);
     claims = claims-fell;

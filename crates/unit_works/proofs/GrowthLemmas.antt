@@ -1,5 +1,5 @@
 -- What is appended, one after the other, until a system falls: of works each, and of one event.
-use Rattle.std.proofs.Common.{◌≡◌, ℕ, Bool, true, false, Option, List, [], ◌∷◌, ◌++◌, inl, inr, sym, ap, subst, ◌∙◌, append_assoc}
+use Rattle.std.proofs.Common.{◌≡◌, ℕ, Bool, true, false, Option, List, [], ◌∷◌, ◌++◌, sym, ap, subst, ◌∙◌, append_assoc}
 use Rattle.std.proofs.lemmas.Bool.{both_ways}
 use Rattle.trfc_protocol.specs.declared.event.Event.{Event}
 use Rattle.trfc_protocol.specs.declared.world.World.{World}
@@ -12,8 +12,7 @@ use Rattle.kept_world.specs.Kept.{KeptOf}
 use Rattle.unit_landscape.specs.Ends.{Happened}
 use Rattle.unit_landscape.specs.Kept.{IsLandscape}
 use Rattle.unit_works.specs.Trips.{AppendedAs, CutAt, HaveGrown, Wholly}
-use Rattle.unit_works.specs.steps.Claims.{WasCut}
-use Rattle.unit_works.proofs.LogLemmas.{grown-event, grown-on, grown-same, grown-then_none, listed}
+use Rattle.unit_works.proofs.LogLemmas.{grown-event, grown-on, grown-same, listed}
 use Rattle.unit_works.proofs.StateLemmas.{is_step, step-rest, step-up}
 
 module _ {R : Type 0} where
@@ -32,46 +31,24 @@ module _ {R : Type 0} where
     stand = λ system. ((second.stand system).0 ∙ (first.stand system).0, (second.stand system).1 ∙ (first.stand system).1);
   }
 
-  pub wholly-then_none : (before between after : World R) (xs : List Writing) → Wholly before between xs → Wholly between after []
-      → Wholly before after xs
-  wholly-then_none before between after xs first second = record {
-    grew = grown-then_none before between after xs first.grew second.grew;
-    stand = λ system. ((second.stand system).0 ∙ (first.stand system).0, (second.stand system).1 ∙ (first.stand system).1);
-  }
-
+module _ {R A V : Type 0} where
   -- records, and then a system fell
-  cut-behind : (before between after : World R) (xs done : List Writing) (next : Writing) → Wholly before between xs → CutAt between after done next
-      → CutAt before after (xs ++ done) next
+  cut-behind : (before between after : KeptOf R A V) (xs done : List Writing) (next : Writing) → Wholly before.world between.world xs
+      → CutAt between after done next → CutAt before after (xs ++ done) next
   cut-behind before between after xs done next first second = record {
-    grew = grown-on before between after xs done first.grew second.grew;
+    grew = grown-on before.world between.world after.world xs done first.grew second.grew;
     up = sym (first.stand next.system).0 ∙ second.up;
     fell = second.fell;
-    rest = second.rest;
+    why = second.why;
     others = λ system differs.
         let now = second.others system differs in
         (now.0 ∙ (first.stand system).0, now.1 ∙ (first.stand system).1);
   }
 
-  -- a system fell, and then nothing happened
-  cut-then : (before between after : World R) (done : List Writing) (next : Writing) → CutAt before between done next → Wholly between after []
-      → CutAt before after done next
-  cut-then before between after done next first second = record {
-    grew = grown-then_none before between after done first.grew second.grew;
-    up = first.up;
-    fell = (second.stand next.system).0 ∙ first.fell;
-    rest = elim first.rest [
-      | inl none ↦ inl ((second.stand next.system).1 ∙ none)
-      | inr some ↦ inr ((second.stand next.system).1 ∙ some)
-    ];
-    others = λ system differs.
-        let was = first.others system differs in
-        ((second.stand system).0 ∙ was.0, (second.stand system).1 ∙ was.1);
-  }
-
   -- records, and then others, whole or cut
-  pub appended-on : (before between after : World R) (xs ys : List Writing) → Wholly before between xs → (whole : Bool)
+  pub appended-on : (before between after : KeptOf R A V) (xs ys : List Writing) → Wholly before.world between.world xs → (whole : Bool)
       → AppendedAs between after ys whole → AppendedAs before after (xs ++ ys) whole
-  appended-on before between after xs ys first true second = wholly-on before between after xs ys first second
+  appended-on before between after xs ys first true second = wholly-on before.world between.world after.world xs ys first second
   appended-on before between after xs ys first false second =
       let done : List Writing = second.0 in
       let next : Writing = second.2 in (
@@ -82,38 +59,18 @@ module _ {R : Type 0} where
         cut-behind before between after xs done next first second.4,
       )
 
-  -- records that were cut, and then nothing happened
-  pub cut-still : (before between after : World R) (xs ys : List Writing) → AppendedAs before between xs false → Wholly between after []
-      → AppendedAs before after (xs ++ ys) false
-  cut-still before between after xs ys first second =
-      let done : List Writing = first.0 in
-      let next : Writing = first.2 in (
-        done,
-        first.1 ++ ys,
-        next,
-        ap (λ l. l ++ ys) first.3 ∙ append_assoc done (next ∷ first.1) ys,
-        cut-then before between after done next first.4 second,
-      )
-
-  pub cut-then_none : (before between after : World R) (xs : List Writing) → AppendedAs before between xs false → Wholly between after []
-      → AppendedAs before after xs false
-  cut-then_none before between after xs first second =
-      (first.0, first.1, first.2, first.3, cut-then before between after first.0 first.2 first.4 second)
-
-  pub was_cut-then : (before between after : World R) (xs : List Writing) → WasCut before between xs → Wholly between after []
-      → after.claims ≡ between.claims → WasCut before after xs
-  was_cut-then before between after xs first second claims = record {
-    cut = cut-then_none before between after xs first.cut second;
-    claims = claims ∙ first.claims;
-  }
+  -- of records that were cut, and others behind them, none is appended behind the cut
+  pub cut-before : (before after : KeptOf R A V) (xs ys : List Writing) → AppendedAs before after xs false → AppendedAs before after (xs ++ ys) false
+  cut-before before after xs ys first =
+      (first.0, first.1 ++ ys, first.2, ap (λ l. l ++ ys) first.3 ∙ append_assoc first.0 (first.2 ∷ first.1) ys, first.4)
 
   -- a system that is up after it was before
-  pub appended-up : (before after : World R) (xs : List Writing) (whole : Bool) → AppendedAs before after xs whole → (system : ℕ)
-      → is_up after system ≡ true → is_up before system ≡ true
+  pub appended-up : (before after : KeptOf R A V) (xs : List Writing) (whole : Bool) → AppendedAs before after xs whole → (system : ℕ)
+      → is_up after.world system ≡ true → is_up before.world system ≡ true
   appended-up before after xs true did system up = sym (did.stand system).0 ∙ up
   appended-up before after xs false did system up =
       let cut = did.4 in
-      sym (cut.others system (λ same. both_ways (is_up after system) (ap (is_up after) same ∙ cut.fell) up)).0 ∙ up
+      sym (cut.others system (λ same. both_ways (is_up after.world system) (ap (is_up after.world) same ∙ cut.fell) up)).0 ∙ up
 
 module _ {R A V : Type 0} (meaning : R → Meaning) (lawful : (r : R) → IsLawful (meaning r)) (faults : V → ℕ → ℕ) (before after : KeptOf R A V)
     (is : IsLandscape meaning before.world) (e : Event) (step : is_step e ≡ true) where

@@ -1,8 +1,8 @@
 -- Records one after the other at the logs of systems, and how the record of an event lets logs grow.
 use Rattle.std.specs.Prelude.{⊤, Contains, filter, map}
-use Rattle.std.specs.List.{filter_map, list_all}
+use Rattle.std.specs.List.{filter_map, fold, list_all}
 use Rattle.std.proofs.Common.{◌≡◌, ◌≢◌, ◌==◌, ℕ, Bool, true, false, cond, Option, Some, None, List, [], ◌∷◌, ◌++◌, inl, inr, refl, sym, ap, subst, ◌∙◌, append-nil, append_assoc}
-use Rattle.std.proofs.lemmas.Bool.{and_from, cases_Bool, cases_eq, cond-true, eq-eqb, ne_eqb}
+use Rattle.std.proofs.lemmas.Bool.{and_from, and_parts, cases_Bool, cases_eq, cond-true, eq-eqb, ne_eqb}
 use Rattle.std.proofs.lemmas.List.{map-append}
 use Rattle.std.proofs.lemmas.List.Elements.{filter-append, filter_map-append}
 use Rattle.std.proofs.lemmas.List.Folds.{list_all-append}
@@ -46,6 +46,27 @@ pub record-elsewhere : (system other : ℕ) (next : Record) → other ≢ system
 record-elsewhere system other next differs =
     ap (λ b. map (λ (it : Writing). it.next) (cond b (one_at system next) [])) (ne_eqb system other (λ same. differs (sym same)))
 
+-- each of these records is such a one
+abbrev pub EachIs : (Writing → Type 0) → List Writing → Type 0
+EachIs P [] = ⊤
+EachIs P (it ∷ rest) = P it × EachIs P rest
+
+-- so are those of a system
+pub all-at : (is : Record → Bool) (system : ℕ) (added : List Writing) → EachIs (λ it. is it.next ≡ true) added → list_all is (records_at system added) ≡ true
+all-at is system [] each = refl
+all-at is system (it ∷ rest) each = elim (cases_Bool (it.system == system)) [
+  | inl here ↦ rw here (and_from (is it.next) (list_all is (records_at system rest)) each.0 (all-at is system rest each.1))
+  | inr other ↦ rw other (all-at is system rest each.1)
+]
+
+-- records that leave what is read of a log so far, each and all
+pub fold-all : {T : Type 0} (of : T → Record → T) (before : T) (is : Record → Bool) → ((next : Record) → is next ≡ true → of before next ≡ before)
+    → (added : List Record) → list_all is added ≡ true → fold of before added ≡ before
+fold-all of before is leaves [] each = refl
+fold-all of before is leaves (next ∷ added) each =
+    let parts = and_parts (is next) (list_all is added) each in
+    ap (λ b. fold of b added) (leaves next parts.0) ∙ fold-all of before is leaves added parts.1
+
 module _ {R : Type 0} where
   -- logs that are as they were have grown by nothing
   pub grown-same : (before after : World R) → ((system : ℕ) → log_of after system ≡ log_of before system) → HaveGrown before after []
@@ -61,10 +82,6 @@ module _ {R : Type 0} where
       second system ∙ ap (λ l. l ++ records_at system ys) (first system)
       ∙ append_assoc (log_of before system) (records_at system xs) (records_at system ys)
       ∙ ap (λ l. log_of before system ++ l) (sym (records-on system xs ys))
-
-  pub grown-then_none : (before between after : World R) (xs : List Writing) → HaveGrown before between xs → HaveGrown between after []
-      → HaveGrown before after xs
-  grown-then_none before between after xs first second system = second system ∙ append-nil (log_of between system) ∙ first system
 
   grown-from_none : (before between after : World R) (xs : List Writing) → HaveGrown before between [] → HaveGrown between after xs
       → HaveGrown before after xs
@@ -128,10 +145,7 @@ module _ {R : Type 0} (rules : Meaning) (lawful : IsLawful rules) (world : World
     where
       one : (found : Option Writing) → IsOfWorks rules world found → list_all is_works_record (records_at system (listed found)) ≡ true
       one None works = refl
-      one (Some it) works = elim (cases_Bool (it.system == system)) [
-        | inl here ↦ rw here (and_from (is_works_record it.next) true works refl)
-        | inr other ↦ rw other refl
-      ]
+      one (Some it) works = all-at is_works_record system (it ∷ []) (works, tt)
 
 module _ {R : Type 0} where
   -- logs that are as they were
@@ -154,11 +168,6 @@ if-met true system next it is = refl
 if-met false system next it is = cc
 
 -- ---- what is read of a log behind which records stand
-
--- each of these records is such a one
-abbrev pub EachIs : (Writing → Type 0) → List Writing → Type 0
-EachIs P [] = ⊤
-EachIs P (it ∷ rest) = P it × EachIs P rest
 
 pub each-append : (P : Writing → Type 0) (xs ys : List Writing) → EachIs P xs → EachIs P ys → EachIs P (xs ++ ys)
 each-append P [] ys first second = second

@@ -33,13 +33,13 @@ use Rattle.model_rules.specs.declared.model_rules.ModelRules.{ModelRules}
 use Rattle.wires.specs.declared.letter.Letter.{Letter}
 use Rattle.wires.specs.declared.letter.Letter.TheVariants.{Whole, LostRequest, LostReply, Twice, LostConfirmation}
 use Rattle.unit_works.specs.Acts.{Act, Acted, HasConfirmed, HasShipped, HaveActed, confirm, execute, loses, ship, takes}
-use Rattle.unit_works.specs.Events.{arrives_under, is_confirmed_under, is_sent_under}
+use Rattle.unit_works.specs.Events.{arrives_under, is_confirmation, is_confirmed_under, is_execution, is_sent_under, is_shipping, is_work}
 use Rattle.unit_works.specs.Trips.{AppendedAs, HaveGrown, closing, confirmation, execution, forgot, is_done, is_due, learnt_under, may_ship, noted_of, one_at, records_at, shipment, taken_in}
-use Rattle.unit_works.specs.Worked.{HaveOnlyClaimed, Lines}
+use Rattle.unit_works.specs.Worked.{HaveOnlyClaimed, Lines, Worked}
 use Rattle.unit_works.proofs.GrowthLemmas.{appended-up}
 use Rattle.unit_works.proofs.LogLemmas.{EachIs, each-append, each-first, each-if, each-next, each-wider, listed-behind, record-here, records-on}
 use Rattle.unit_works.proofs.TripLemmas.{due-parts}
-use Rattle.unit_works.proofs.WorkedLemmas.{meaning}
+use Rattle.unit_works.proofs.WorkedLemmas.{confirmation-works, execution-works, meaning, shipping-works, wider}
 
 -- ---- ids that records name
 
@@ -150,8 +150,8 @@ abbrev pub AreAppended : {R : Type 0} → (Writing → Type 0) → World R → W
 AreAppended P before after = (done : List Writing) × HaveGrown before after done × EachIs P done
 
 -- those of an act that was cut are the first of them
-pub are-appended : {R : Type 0} (P : Writing → Type 0) (before after : World R) (added : List Writing) (whole : Bool) → AppendedAs before after added whole
-    → EachIs P added → AreAppended P before after
+pub are-appended : {R A V : Type 0} (P : Writing → Type 0) (before after : KeptOf R A V) (added : List Writing) (whole : Bool)
+    → AppendedAs before after added whole → EachIs P added → AreAppended P before.world after.world
 are-appended P before after added true did each = (added, did.grew, each)
 are-appended P before after added false did each =
     let cut = did.4 in (did.0, cut.grew, each-first P did.0 (did.2 ∷ did.1) (subst (EachIs P) did.3 each))
@@ -288,14 +288,14 @@ abbrev IsAt : AleUnit → Writing → Type 0
 IsAt unit it = (it.system ≡ unit.receiver) ⊎ (it.system ≡ unit.tid.system)
 
 -- where an act on a unit was cut, its confirmation is not due
-cut-due : {R : Type 0} (before after : World R) (unit : AleUnit) (added : List Writing) → AppendedAs before after added false → EachIs (IsAt unit) added
-    → is_due after unit ≡ true → ⊥
+cut-due : {R A V : Type 0} (before after : KeptOf R A V) (unit : AleUnit) (added : List Writing) → AppendedAs before after added false
+    → EachIs (IsAt unit) added → is_due after.world unit ≡ true → ⊥
 cut-due before after unit added did each due =
-    let parts = due-parts after unit due in
+    let parts = due-parts after.world unit due in
     let cut = did.4 in
     elim (each-next (IsAt unit) did.0 did.2 did.1 (subst (EachIs (IsAt unit)) did.3 each)) [
-      | inl receiver ↦ both_ways (is_up after unit.receiver) (sym (ap (is_up after) receiver) ∙ cut.fell) parts.1
-      | inr sender ↦ both_ways (is_up after unit.tid.system) (sym (ap (is_up after) sender) ∙ cut.fell) parts.0
+      | inl receiver ↦ both_ways (is_up after.world unit.receiver) (sym (ap (is_up after.world) receiver) ∙ cut.fell) parts.1
+      | inr sender ↦ both_ways (is_up after.world unit.tid.system) (sym (ap (is_up after.world) sender) ∙ cut.fell) parts.0
     ]
 
 -- claims that are made or given up leave what is read of units
@@ -318,21 +318,26 @@ module _ {V : Type 0} (faults : V → ℕ → ℕ) where
     pub acted-up : (act : Act) → Acted faults before lines act after lines_after → (system : ℕ) → is_up after.world system ≡ true
         → is_up before.world system ≡ true
     acted-up (ship tid letter whole) did system up =
-        appended-up before.world after.world
+        appended-up before after
         (shipment letter (answer_to (meaning before.world.rules) before.world did.unit) did.unit) whole did.grew system up
     acted-up (execute place tid whole) did system up =
         let executed = did.0 in
-        appended-up before.world after.world
+        appended-up before after
         (execution (offers_received_now (meaning before.world.rules) before.world place tid) place tid) whole executed.grew system up
     acted-up (confirm tid letter whole) did system up =
-        appended-up before.world after.world (confirmation letter (forgot before.world did.unit) did.unit) whole did.grew system up
+        appended-up before after (confirmation letter (forgot before.world did.unit) did.unit) whole did.grew system up
+
+    -- an act is work
+    pub acted-went : (act : Act) → Acted faults before lines act after lines_after → Worked faults before after is_work true
+    acted-went (ship of letter whole) did = wider faults (is_shipping letter) is_work true before after (shipping-works letter) did.went
+    acted-went (execute place of whole) did =
+        let executed = did.0 in wider faults is_execution is_work true before after execution-works executed.went
+    acted-went (confirm of letter whole) did = wider faults is_confirmation is_work true before after confirmation-works did.went
 
     -- a unit that was committed is
     acted-committed : (act : Act) → Acted faults before lines act after lines_after → (tid : TidOf) (unit : AleUnit)
         → committed_unit (meaning before.world.rules) before.world tid ≡ Some unit → committed_unit (meaning after.world.rules) after.world tid ≡ Some unit
-    acted-committed (ship of letter whole) did tid unit named = let went = did.went in went.committed tid ∙ named
-    acted-committed (execute place of whole) did tid unit named = let executed = did.0 in let went = executed.went in went.committed tid ∙ named
-    acted-committed (confirm of letter whole) did tid unit named = let went = did.went in went.committed tid ∙ named
+    acted-committed act did tid unit named = let went = acted-went act did in went.committed tid ∙ named
 
     -- an act on no unit of an id leaves what is read of it
     reads-other : (tid : TidOf) (act : Act) → Acted faults before lines act after lines_after → takes tid act ≡ false
@@ -343,7 +348,7 @@ module _ {V : Type 0} (faults : V → ℕ → ℕ) where
         let differs : is_tid unit.tid tid ≡ false = ap (λ t. is_tid t tid) its ∙ off in
         let given = answer_to (meaning before.world.rules) before.world unit in
         leaves-reads before.world after.world tid
-        (are-appended (Leaves tid) before.world after.world (shipment letter given unit) whole did.grew
+        (are-appended (Leaves tid) before after (shipment letter given unit) whole did.grew
         (each-shipped (Leaves tid) unit (leaves-none tid (at unit.receiver (log.Accept unit)) refl refl)
         (leaves-none tid (at unit.receiver (log.Direct unit)) refl refl)
         (one-spares done_by tid (log.Done unit.tid) unit.tid refl differs, none-spares ended_by tid (log.Done unit.tid) refl)
@@ -355,7 +360,7 @@ module _ {V : Type 0} (faults : V → ℕ → ℕ) where
         let executed = did.0 in
         let offered = offers_received_now (meaning before.world.rules) before.world system other in
         leaves-reads before.world after.world tid
-        (are-appended (Leaves tid) before.world after.world (execution offered system other) whole executed.grew
+        (are-appended (Leaves tid) before after (execution offered system other) whole executed.grew
         (each-executed (Leaves tid) system other (leaves-none tid (at system (log.Execute other)) refl refl)
         (leaves-none tid (at system (log.Fail other)) refl refl) offered))
     reads-other tid (confirm other letter whole) did off =
@@ -364,7 +369,7 @@ module _ {V : Type 0} (faults : V → ℕ → ℕ) where
         let differs : is_tid unit.tid tid ≡ false = ap (λ t. is_tid t tid) its ∙ off in
         let forgotten = forgot before.world unit in
         leaves-reads before.world after.world tid
-        (are-appended (Leaves tid) before.world after.world (confirmation letter forgotten unit) whole did.grew
+        (are-appended (Leaves tid) before after (confirmation letter forgotten unit) whole did.grew
         (each-confirmed (Leaves tid) unit (leaves-none tid (at unit.receiver (log.Forget unit.tid)) refl refl)
         (none-spares done_by tid (log.Ended unit.tid) refl, one-spares ended_by tid (log.Ended unit.tid) unit.tid refl differs) letter forgotten))
 
@@ -389,7 +394,7 @@ module _ {V : Type 0} (faults : V → ℕ → ℕ) where
             (subst (λ (t : TidOf). is_listed sent.tid (done_in (log_of before.world t.system)) ≡ false) same
             (may-undone (meaning before.world.rules) before.world tid sent did.committed did.may))
 
-        wrong : (l : Letter) → letter ≡ l → (l ≡ LostConfirmation → ⊥) → (b : Bool) → AppendedAs before.world after.world
+        wrong : (l : Letter) → letter ≡ l → (l ≡ LostConfirmation → ⊥) → (b : Bool) → AppendedAs before after
             (shipment l (answer_to (meaning before.world.rules) before.world unit) unit) b → ⊥
         wrong l is other true grew =
             let reads = due-reads after.world unit due in
@@ -406,14 +411,14 @@ module _ {V : Type 0} (faults : V → ℕ → ℕ) where
             ]
         wrong l is other false grew =
             let given = answer_to (meaning before.world.rules) before.world unit in
-            cut-due before.world after.world unit (shipment l given unit) grew
+            cut-due before after unit (shipment l given unit) grew
             (each-shipped (IsAt unit) unit (inl refl) (inl refl) (inr refl) (inr refl) (inr refl) (inl refl) (inr refl) l given) due
 
         grew_so : (l : Letter) → letter ≡ l
-            → AppendedAs before.world after.world (shipment l (answer_to (meaning before.world.rules) before.world unit) unit) whole
+            → AppendedAs before after (shipment l (answer_to (meaning before.world.rules) before.world unit) unit) whole
         grew_so l is =
-            subst (λ m. AppendedAs before.world after.world (shipment m (answer_to (meaning before.world.rules) before.world unit) unit) whole) is
-            (subst (λ (u : AleUnit). AppendedAs before.world after.world (shipment letter (answer_to (meaning before.world.rules) before.world u) u) whole)
+            subst (λ m. AppendedAs before after (shipment m (answer_to (meaning before.world.rules) before.world unit) unit) whole) is
+            (subst (λ (u : AleUnit). AppendedAs before after (shipment letter (answer_to (meaning before.world.rules) before.world u) u) whole)
             equal
             did.grew)
 
@@ -440,20 +445,20 @@ module _ {V : Type 0} (faults : V → ℕ → ℕ) where
             (sym (went.committed tid ∙ did.committed) ∙ ap (committed_unit (meaning after.world.rules) after.world) same ∙ named)
 
         wrong : (l : Letter) → (l ≡ LostConfirmation → ⊥) → (b : Bool)
-            → AppendedAs before.world after.world (confirmation l (forgot before.world unit) unit) b → ⊥
+            → AppendedAs before after (confirmation l (forgot before.world unit) unit) b → ⊥
         wrong l other true grew =
             let reads = due-reads after.world unit due in
             let ends = confirm-ends l (forgot before.world unit) unit other in
             both_ways (is_listed unit.tid (ended_in (log_of after.world unit.tid.system))) reads.1
             (ended-last before.world after.world unit.tid ends.0 (subst (HaveGrown before.world after.world) ends.1 grew.grew))
         wrong l other false grew =
-            cut-due before.world after.world unit (confirmation l (forgot before.world unit) unit) grew
+            cut-due before after unit (confirmation l (forgot before.world unit) unit) grew
             (each-confirmed (IsAt unit) unit (inl refl) (inr refl) l (forgot before.world unit)) due
 
-        grew_so : (l : Letter) → letter ≡ l → AppendedAs before.world after.world (confirmation l (forgot before.world unit) unit) whole
+        grew_so : (l : Letter) → letter ≡ l → AppendedAs before after (confirmation l (forgot before.world unit) unit) whole
         grew_so l is =
-            subst (λ m. AppendedAs before.world after.world (confirmation m (forgot before.world unit) unit) whole) is
-            (subst (λ (u : AleUnit). AppendedAs before.world after.world (confirmation letter (forgot before.world u) u) whole) equal did.grew)
+            subst (λ m. AppendedAs before after (confirmation m (forgot before.world unit) unit) whole) is
+            (subst (λ (u : AleUnit). AppendedAs before after (confirmation letter (forgot before.world u) u) whole) equal did.grew)
 
         by : (l : Letter) → letter ≡ l → letter ≡ LostConfirmation
         by LostConfirmation is = is

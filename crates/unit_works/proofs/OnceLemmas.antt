@@ -217,13 +217,13 @@ module _ {V : Type 0} (faults : V → ℕ → ℕ) where
     pub acted-appended : (act : Act) → Acted faults before lines act after lines_after → AreAppended IsOfWork before.world after.world
     acted-appended (ship tid letter whole) did =
         let given = answer_to (meaning before.world.rules) before.world did.unit in
-        are-appended IsOfWork before.world after.world (shipment letter given did.unit) whole did.grew (shipment-works letter given did.unit)
+        are-appended IsOfWork before after (shipment letter given did.unit) whole did.grew (shipment-works letter given did.unit)
     acted-appended (execute system tid whole) did =
         let executed = did.0 in
         let offered = offers_received_now (meaning before.world.rules) before.world system tid in
-        are-appended IsOfWork before.world after.world (execution offered system tid) whole executed.grew (execution-works offered system tid)
+        are-appended IsOfWork before after (execution offered system tid) whole executed.grew (execution-works offered system tid)
     acted-appended (confirm tid letter whole) did =
-        are-appended IsOfWork before.world after.world (confirmation letter (forgot before.world did.unit) did.unit) whole did.grew
+        are-appended IsOfWork before after (confirmation letter (forgot before.world did.unit) did.unit) whole did.grew
         (confirmation-works letter (forgot before.world did.unit) did.unit)
 
     -- a unit that is settled is not shipped

@@ -1,6 +1,6 @@
 -- A shipment is replied to: nothing has ended, and its claim is gone.
 use Rattle.std.specs.Prelude.{Result, Ok, Err, filter}
-use Rattle.std.proofs.Common.{◌≡◌, ◌==◌, ◌+◌, ◌&&◌, ℕ, not, Bool, true, false, cond, Option, Some, None, List, [], inl, inr, refl, sym, ap, subst, ◌∙◌, arith}
+use Rattle.std.proofs.Common.{◌≡◌, ◌==◌, ◌+◌, ◌&&◌, ℕ, not, Bool, true, false, cond, Option, Some, None, List, inl, refl, sym, ap, subst, ◌∙◌, arith}
 use Rattle.std.proofs.lemmas.Bool.{both_ways, cond_both}
 use Rattle.ale_base.specs.Tid.{TidOf, is_tid}
 use Rattle.ale_base.specs.declared.mark.Mark.TheVariants.{Cpicerr, Sysfail}
@@ -43,8 +43,8 @@ use Rattle.unit_works.specs.Claims.{AreOrGone, NoneAdded}
 use Rattle.unit_works.specs.Trips.{Appended, Wholly, noted_of, one_at}
 use Rattle.unit_works.specs.steps.Arriving.{event_of}
 use Rattle.unit_works.specs.steps.Claims.{AreWithOut, out_held}
-use Rattle.unit_works.proofs.ClaimLemmas.{found-last, held-out, none-added, none-added-left, stands-found_out, without-last}
-use Rattle.unit_works.proofs.FellLemmas.{claims-fell, fell-was_cut, finished-fell}
+use Rattle.unit_works.proofs.ClaimLemmas.{found-last, held-out, none-added-gone, none-added-left, none-added-same, stands-found_out, without-last}
+use Rattle.unit_works.proofs.FellLemmas.{claims-fell, fell-was_cut, finished-fell, gone-fell}
 use Rattle.unit_works.proofs.GrowthLemmas.{happened-wholly}
 use Rattle.unit_works.proofs.LogLemmas.{listed}
 use Rattle.unit_works.proofs.StateLemmas.{is_step}
@@ -166,29 +166,23 @@ module _ {R A V : Type 0} (meaning : R → Meaning) (lawful : (r : R) → IsLawf
   -- ---- the claims
 
   left-by : (others : List Held) → AreWithOut before.world.claims others claim → HasClosed before.world after.world claim.number
-      → AreOrGone after.world.claims others
-  left-by others with closed = elim with.are [
-    | inl are ↦ inl (closed.claims ∙ ap (filter (λ (h : Held). not (h.number == claim.number))) are
-        ∙ without-last claim.number others (out_held claim) refl with.fresh)
-    | inr gone ↦ inr (closed.claims ∙ ap (filter (λ (h : Held). not (h.number == claim.number))) gone)
-  ]
+      → AreOrGone before.world after.world others
+  left-by others with closed =
+      inl (closed.claims ∙ ap (filter (λ (h : Held). not (h.number == claim.number))) with.are
+      ∙ without-last claim.number others (out_held claim) refl with.fresh)
 
-  stale-gone : (others : List Held) → AreWithOut before.world.claims others claim → stands_out before.world claim ≡ false → before.world.claims ≡ []
-  stale-gone others with stale = elim with.are [
-    | inl are ↦
-        absurd (both_ways (stands_out before.world claim) stale
-        (stands-found_out before.world claim (out_held claim)
-        (ap (claim_of claim.number) are ∙ found-last claim.number others (out_held claim) refl with.fresh) refl refl))
-    | inr gone ↦ gone
-  ]
+  with-stands : (others : List Held) → AreWithOut before.world.claims others claim → stands_out before.world claim ≡ true
+  with-stands others with =
+      stands-found_out before.world claim (out_held claim)
+      (ap (claim_of claim.number) with.are ∙ found-last claim.number others (out_held claim) refl with.fresh) refl refl
 
   pub claims-replied : (result : Result Replied WorkEnd) → RepliedAs (meaning before.world.rules) faults before after claim given result
-      → (result ≡ Err end.OutOfMemory → ⊥) → (others : List Held) → AreWithOut before.world.claims others claim → AreOrGone after.world.claims others
+      → (result ≡ Err end.OutOfMemory → ⊥) → (others : List Held) → AreWithOut before.world.claims others claim
+      → AreOrGone before.world after.world others
   claims-replied (Ok replied.Recorded) did other others with = left-by others with (recorded-is did.0 did.1 did.2)
   claims-replied (Ok replied.Released) did other others with = left-by others with (released did.1 did.0 did.2)
-  claims-replied (Ok replied.Down) did other others with = inr (claims-fell meaning lawful faults before after is ItsEvent did.1)
-  claims-replied (Err end.Stale) did other others with =
-      let same = did.1 in inr (ap (λ (k : KeptOf R A V). k.world.claims) same ∙ stale-gone others with did.0)
+  claims-replied (Ok replied.Down) did other others with = gone-fell meaning lawful faults before after is ItsEvent did.1 others
+  claims-replied (Err end.Stale) did other others with = absurd (both_ways (stands_out before.world claim) did.0 (with-stands others with))
   claims-replied (Err end.OutOfMemory) did other others with = absurd (other refl)
 
   pub fewer-replied : (result : Result Replied WorkEnd) → RepliedAs (meaning before.world.rules) faults before after claim given result
@@ -200,9 +194,9 @@ module _ {R A V : Type 0} (meaning : R → Meaning) (lawful : (r : R) → IsLawf
       let closed = released did.1 did.0 did.2 in
       none-added-left (λ (h : Held). not (h.number == claim.number)) before.world.claims after.world.claims closed.claims
   fewer-replied (Ok replied.Down) did other =
-      none-added before.world.claims after.world.claims (inr (claims-fell meaning lawful faults before after is ItsEvent did.1))
+      none-added-gone before.world.claims after.world.claims (claims-fell meaning lawful faults before after is ItsEvent did.1)
   fewer-replied (Err end.Stale) did other =
-      none-added before.world.claims after.world.claims (inl (ap (λ (k : KeptOf R A V). k.world.claims) did.1))
+      none-added-same before.world.claims after.world.claims (ap (λ (k : KeptOf R A V). k.world.claims) did.1)
   fewer-replied (Err end.OutOfMemory) did other = absurd (other refl)
 
   -- ---- what is appended
@@ -295,13 +289,13 @@ module _ {R A V : Type 0} (meaning : R → Meaning) (lawful : (r : R) → IsLawf
   pub appended-replied : (learnt : Option CoreAnswer) → stands_out before.world claim ≡ true
       → reply_event (meaning before.world.rules) before.world claim given ≡ event_of learnt claim.number
       → (result : Result Replied WorkEnd) → RepliedAs (meaning before.world.rules) faults before after claim given result
-      → (result ≡ Err end.OutOfMemory → ⊥) → Appended before.world after.world (noted_of learnt claim.tid)
+      → (result ≡ Err end.OutOfMemory → ⊥) → Appended before after (noted_of learnt claim.tid)
   appended-replied learnt stands same result did other = by_end result did other
     where
       lists : listed (record_of (meaning before.world.rules) before.world ItsEvent) ≡ noted_of learnt claim.tid
       lists = let there = held-out before.world claim stands in noted there.0 there.1 learnt given same
 
-      appended : Happened (meaning before.world.rules) faults before after ItsEvent → Appended before.world after.world (noted_of learnt claim.tid)
+      appended : Happened (meaning before.world.rules) faults before after ItsEvent → Appended before after (noted_of learnt claim.tid)
       appended was = (
         true,
         subst (Wholly before.world after.world) lists
@@ -310,7 +304,7 @@ module _ {R A V : Type 0} (meaning : R → Meaning) (lawful : (r : R) → IsLawf
       )
 
       by_end : (r : Result Replied WorkEnd) → RepliedAs (meaning before.world.rules) faults before after claim given r
-          → (r ≡ Err end.OutOfMemory → ⊥) → Appended before.world after.world (noted_of learnt claim.tid)
+          → (r ≡ Err end.OutOfMemory → ⊥) → Appended before after (noted_of learnt claim.tid)
       by_end (Ok replied.Recorded) ends some = appended ends.2
       by_end (Ok replied.Released) ends some = appended ends.2
       by_end (Ok replied.Down) ends some =

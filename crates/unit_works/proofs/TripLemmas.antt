@@ -33,6 +33,7 @@ use Rattle.trfc_protocol.specs.Worlds.{claim_of, committed_unit, is_claimed, is_
 use Rattle.trfc_protocol.proofs.ClaimLemmas.{claim_of-Some}
 use Rattle.trfc_protocol.proofs.ForCallers.{claim_up, forgotten_unit, shipped_by, shipped_unit}
 use Rattle.trfc_protocol.proofs.SafeLemmas.{committed_unit-is, sound_now}
+use Rattle.kept_world.specs.Kept.{KeptOf}
 use Rattle.unit_landscape.specs.declared.answers.Arrival.{Arrival}
 use Rattle.unit_landscape.specs.declared.answers.Arrival.TheVariants as arrival
 use Rattle.unit_landscape.specs.declared.answers.Finished.{Finished}
@@ -46,27 +47,15 @@ use Rattle.wires.specs.declared.letter.Letter.{Letter}
 use Rattle.wires.specs.declared.letter.Letter.TheVariants.{Whole, LostRequest, LostReply, Twice, LostConfirmation}
 use Rattle.unit_works.specs.Events.{arrives_under, is_answered_under, is_confirmed_under, told_of}
 use Rattle.unit_works.specs.Trips.{Appended, AppendedAs, HaveGrown, Wholly, back_of, closing, confirmation, forgot, is_done, is_due, learnt_under, noted_of, one_at, shipment, taken_in}
-use Rattle.unit_works.specs.steps.Arriving.{AnsweredSo, ArrivedSo, ClaimsAre, HasAnswered, HasArrived, HasDelivered, Says, Tells, accepted, back_under, delivery, event_of, run_held, run_of}
-use Rattle.unit_works.specs.steps.Claims.{WasCut}
+use Rattle.unit_works.specs.steps.Arriving.{AnsweredSo, ClaimsAre, HasAnswered, HasArrived, HasDelivered, Says, Tells, accepted, back_under, delivery, event_of, run_held, run_of}
+use Rattle.unit_works.specs.steps.Claims.{AreWith, WasCut}
 use Rattle.unit_works.specs.steps.Confirming.{sent_to}
 use Rattle.unit_works.specs.steps.Ending.{FinishedSo, IsRun, run_at}
 use Rattle.unit_works.proofs.ClaimLemmas.{found-last, held-out, without-last}
-use Rattle.unit_works.proofs.GrowthLemmas.{appended-on, cut-still, was_cut-then, wholly-on, wholly-same, wholly-then_none}
+use Rattle.unit_works.proofs.GrowthLemmas.{appended-on, cut-before, wholly-on, wholly-same}
 use Rattle.unit_works.proofs.LogLemmas.{EachIs, NoneCounts, among-behind, each-first, each-next, same-grown, listed-behind, offers-log, read-same, record-here}
 
 -- ---- a unit arrives, and is answered
-
--- a unit arrived, and once more, where nothing came of it
-pub arrived-twice : {R : Type 0} (rules : Meaning) (before between after : World R) (unit : AleUnit) (given : Arrival)
-    → ArrivedSo rules before between unit given → Wholly between after [] × (after.claims ≡ between.claims) → ArrivedSo rules before after unit given
-arrived-twice rules before between after unit given first second = elim first [
-  | inl arrived ↦ inl (record {
-    tells = arrived.tells;
-    grew = wholly-then_none before between after (accepted (answer_to rules before unit) unit) arrived.grew second.0;
-    claims = subst (λ c. ClaimsAre c before.claims given) (sym second.1) arrived.claims;
-  })
-  | inr fell ↦ inr (was_cut-then before between after (accepted (answer_to rules before unit) unit) fell.0 second.0 second.1, fell.1)
-]
 
 -- the reply to an arrival that begins no run
 abbrev pub reply_at : Arrival → Reply
@@ -100,10 +89,20 @@ module _ {R : Type 0} (world : World R) (unit : AleUnit) (given : Answer) (other
       by arrival.SysFail none tells claims = at_once answer.SysFail reply.SysFail tells refl claims tt
       by arrival.Down none tells claims = at_once answer.Down reply.Lost tells refl claims tt
 
-module _ {R : Type 0} (rules : Meaning) (before : World R) (unit : AleUnit) (given : Answer) (others : List Held) (claim : InClaim)
-    (tells : Tells given unit (arrival.Run claim)) (claims : ClaimsAre before.claims others (arrival.Run claim)) where
+-- the claim of a run that an arrival began is beside the others
+pub run-with : {R : Type 0} (world : World R) (others : List Held) (claim : InClaim) → ClaimsAre world.claims others (arrival.Run claim)
+    → AreWith world.claims others claim
+run-with world others claim claims = record {
+  held = run_held claim;
+  its = record { number = refl; tid = refl; kind = refl };
+  fresh = claims.1;
+  are = claims.0;
+}
+
+module _ {R A V : Type 0} (rules : Meaning) (before : KeptOf R A V) (unit : AleUnit) (given : Answer) (others : List Held) (claim : InClaim)
+    (tells : Tells given unit (arrival.Run claim)) (claims : ClaimsAre before.world.claims others (arrival.Run claim)) where
   -- the claim of a run that an arrival began is there
-  pub run-holds : HoldsIn before claim (run_held claim)
+  pub run-holds : HoldsIn before.world claim (run_held claim)
   run-holds = record {
     found = ap (claim_of claim.number) claims.0 ∙ found-last claim.number others (run_held claim) refl claims.1;
     its = refl;
@@ -111,13 +110,13 @@ module _ {R : Type 0} (rules : Meaning) (before : World R) (unit : AleUnit) (giv
   }
 
   -- it is answered once the run has ended, unless its receiver fell then
-  pub answered-run : committed_unit rules before unit.tid ≡ Some unit → (after : World R) (how : Finished) (told : Reply)
+  pub answered-run : committed_unit rules before.world unit.tid ≡ Some unit → (after : KeptOf R A V) (how : Finished) (told : Reply)
       → FinishedSo rules before after claim (run_held claim) how
       → ((tid : TidOf) → IsRun Direct tid how → Says (Some core.Done) tid told) → AnsweredSo before after unit given others told
   answered-run committed after how told ends says =
       subst (λ a. AnsweredSo before after unit a others told) (sym tells.0) (elim ends [
         | inl finished ↦ inl (record {
-          grew = subst (Wholly before after) its_run finished.grew;
+          grew = subst (Wholly before.world after.world) its_run finished.grew;
           claims = finished.claims ∙ ap (filter (λ (h : Held). not (h.number == claim.number))) claims.0
               ∙ without-last claim.number others (run_held claim) refl claims.1;
           says = says unit.tid (subst (λ t. IsRun Direct t how) tells.1 finished.run);
@@ -125,9 +124,9 @@ module _ {R : Type 0} (rules : Meaning) (before : World R) (unit : AleUnit) (giv
         | inr fell ↦ inr (subst (WasCut before after) its_run fell.0)
       ])
     where
-      its_run : run_at claim.system (committed_unit rules before claim.tid) ≡ run_of answer.Run unit
+      its_run : run_at claim.system (committed_unit rules before.world claim.tid) ≡ run_of answer.Run unit
       its_run =
-          ap (λ t. run_at claim.system (committed_unit rules before t)) tells.1 ∙ ap (run_at claim.system) committed
+          ap (λ t. run_at claim.system (committed_unit rules before.world t)) tells.1 ∙ ap (run_at claim.system) committed
           ∙ ap (λ s. one_at s (log.Direct unit)) tells.2
 
 -- ---- what the answers say
@@ -281,21 +280,20 @@ module _ {R : Type 0} (rules later : Meaning) (before between after : World R) (
       refused-is answer.Busy is = cc
       refused-is answer.Down is = cc
 
-module _ {R : Type 0} (rules : Meaning) (before between after : World R) (unit : AleUnit) (given : Answer) (letter : Letter)
+module _ {R A V : Type 0} (before between after : KeptOf R A V) (unit : AleUnit) (given : Answer) (letter : Letter)
     (arrives : arrives_under letter ≡ true) where
   delivery-parts : accepted given unit ++ run_of given unit ≡ delivery letter given unit
   delivery-parts = taken-parts given unit ∙ sym (ap (λ b. cond b (taken_in given unit) []) arrives)
 
   -- its receiver fell as it was to take it in
   pub delivered-first : WasCut before between (accepted given unit) → after ≡ between → WasCut before after (delivery letter given unit)
-  delivered-first fell same = record {
-    cut = subst (λ xs. AppendedAs before after xs false) delivery-parts
-        (cut-still before between after (accepted given unit) (run_of given unit) fell.cut (wholly-same between after same));
-    claims = ap (λ (w : World R). w.claims) same ∙ fell.claims;
-  }
+  delivered-first fell same = subst (λ (k : KeptOf R A V). WasCut before k (delivery letter given unit)) (sym same) (record {
+    cut = subst (λ xs. AppendedAs before between xs false) delivery-parts (cut-before before between (accepted given unit) (run_of given unit) fell.cut);
+    claims = fell.claims;
+  })
 
   -- or as the run of it was to end
-  pub delivered-run : Wholly before between (accepted given unit) → WasCut between after (run_of given unit)
+  pub delivered-run : Wholly before.world between.world (accepted given unit) → WasCut between after (run_of given unit)
       → WasCut before after (delivery letter given unit)
   delivered-run first fell = record {
     cut = subst (λ xs. AppendedAs before after xs false) delivery-parts
@@ -425,26 +423,26 @@ noted-here (Some core.SysFail) tid = (refl, tt)
 noted-here (Some core.Busy) tid = tt
 noted-here None tid = (refl, tt)
 
-module _ {R : Type 0} (rules : Meaning) (lawful : IsLawful rules) (before delivered : World R) (safe : Safe rules before)
-    (claim : OutClaim) (stands : stands_out before claim ≡ true) (unit : AleUnit) (named : committed_unit rules before claim.tid ≡ Some unit)
+module _ {R A V : Type 0} (rules : Meaning) (lawful : IsLawful rules) (before delivered : KeptOf R A V) (safe : Safe rules before.world)
+    (claim : OutClaim) (stands : stands_out before.world claim ≡ true) (unit : AleUnit) (named : committed_unit rules before.world claim.tid ≡ Some unit)
     (letter : Letter) where
   abbrev Given : Answer
-  Given = answer_to rules before unit
+  Given = answer_to rules before.world unit
 
   abbrev Learnt : Option CoreAnswer
-  Learnt = learnt_under letter (answer_to rules before unit)
+  Learnt = learnt_under letter (answer_to rules before.world unit)
 
   abbrev Taken : List Writing
-  Taken = delivery letter (answer_to rules before unit) unit
+  Taken = delivery letter (answer_to rules before.world unit) unit
 
   abbrev Closing : List Writing
   Closing = cond (is_confirmed_under letter && is_done Learnt) (closing unit) []
 
   its : unit.tid ≡ claim.tid
-  its = (committed_unit-is rules lawful before safe claim.tid unit named).1
+  its = (committed_unit-is rules lawful before.world safe claim.tid unit named).1
 
-  open_ : IsOpen before unit
-  open_ = claimed-open rules lawful before safe claim stands unit named
+  open_ : IsOpen before.world unit
+  open_ = claimed-open rules lawful before.world safe claim stands unit named
 
   -- what was taken in says of no unit that it is done
   taken-counts : {T : Type 0} (of : Record → Option T) → of (log.Accept unit) ≡ None → of (log.Direct unit) ≡ None → NoneCounts of Taken
@@ -459,80 +457,83 @@ module _ {R : Type 0} (rules : Meaning) (lawful : IsLawful rules) (before delive
       (subst (λ (t : TidOf). is_listed t (done_in (log_of world t.system)) ≡ false) its undone))
 
   -- its receiver fell as it was delivered, and then nothing happened
-  pub shipped-cut : WasCut before delivered Taken → (replied confirmed : World R) → replied ≡ delivered
-      → ((is_up replied claim.tid.system && is_unconfirmed claim.tid (log_of replied claim.tid.system)) ≡ false → confirmed ≡ replied)
-      → Appended before confirmed (shipment letter (answer_to rules before unit) unit)
+  pub shipped-cut : WasCut before delivered Taken → (replied confirmed : KeptOf R A V) → replied ≡ delivered
+      → ((is_up replied.world claim.tid.system && is_unconfirmed claim.tid (log_of replied.world claim.tid.system)) ≡ false → confirmed ≡ replied)
+      → Appended before confirmed (shipment letter (answer_to rules before.world unit) unit)
   shipped-cut fell replied confirmed still same = (
     false,
-    cut-still before delivered confirmed (Taken ++ noted_of Learnt unit.tid) Closing
-        (cut-still before delivered delivered Taken (noted_of Learnt unit.tid) fell.cut (wholly-same delivered delivered refl))
-        (wholly-same delivered confirmed (same undone ∙ still)),
+    subst (λ (k : KeptOf R A V). AppendedAs before k (shipment letter (answer_to rules before.world unit) unit) false) (sym (same undone ∙ still))
+        (cut-before before delivered (Taken ++ noted_of Learnt unit.tid) Closing
+        (cut-before before delivered Taken (noted_of Learnt unit.tid) fell.cut)),
   )
     where
-      undone : (is_up replied claim.tid.system && is_unconfirmed claim.tid (log_of replied claim.tid.system)) ≡ false
+      undone : (is_up replied.world claim.tid.system && is_unconfirmed claim.tid (log_of replied.world claim.tid.system)) ≡ false
       undone =
           let cut = fell.cut in
           let at = cut.4 in
           let none : NoneCounts done_by cut.0 =
           each-first (λ it. done_by it.next ≡ None) cut.0 (cut.2 ∷ cut.1)
           (subst (EachIs (λ it. done_by it.next ≡ None)) cut.3 (taken-counts done_by refl refl)) in
-          undone-not replied
-          (ap (λ (w : World R). is_listed unit.tid (done_in (log_of w unit.tid.system))) still
-          ∙ ap (is_listed unit.tid) (grown-read done_by before delivered cut.0 at.grew none unit.tid.system)
+          undone-not replied.world
+          (ap (λ (k : KeptOf R A V). is_listed unit.tid (done_in (log_of k.world unit.tid.system))) still
+          ∙ ap (is_listed unit.tid) (grown-read done_by before.world delivered.world cut.0 at.grew none unit.tid.system)
           ∙ open_.not_done)
 
-  module _ (replied confirmed : World R) (first : Wholly before delivered Taken) where
-    module _ (second : Wholly delivered replied (noted_of Learnt unit.tid)) where
-      not-ended : is_listed unit.tid (ended_in (log_of replied unit.tid.system)) ≡ false
+  module _ (replied confirmed : KeptOf R A V) (first : Wholly before.world delivered.world Taken) where
+    module _ (second : Wholly delivered.world replied.world (noted_of Learnt unit.tid)) where
+      not-ended : is_listed unit.tid (ended_in (log_of replied.world unit.tid.system)) ≡ false
       not-ended =
-          ap (is_listed unit.tid) (grown-read ended_by delivered replied (noted_of Learnt unit.tid) second.grew
+          ap (is_listed unit.tid) (grown-read ended_by delivered.world replied.world (noted_of Learnt unit.tid) second.grew
           (noted-none ended_by unit.tid refl refl refl Learnt) unit.tid.system
-          ∙ grown-read ended_by before delivered Taken first.grew (taken-counts ended_by refl refl) unit.tid.system)
+          ∙ grown-read ended_by before.world delivered.world Taken first.grew (taken-counts ended_by refl refl) unit.tid.system)
           ∙ open_.not_ended
 
-      not-forgot : forgot replied unit ≡ false
+      not-forgot : forgot replied.world unit ≡ false
       not-forgot =
-          ap (is_listed unit.tid) (grown-read forgotten_by delivered replied (noted_of Learnt unit.tid) second.grew
+          ap (is_listed unit.tid) (grown-read forgotten_by delivered.world replied.world (noted_of Learnt unit.tid) second.grew
           (noted-none forgotten_by unit.tid refl refl refl Learnt) unit.receiver
-          ∙ grown-read forgotten_by before delivered Taken first.grew (taken-counts forgotten_by refl refl) unit.receiver)
+          ∙ grown-read forgotten_by before.world delivered.world Taken first.grew (taken-counts forgotten_by refl refl) unit.receiver)
           ∙ open_.not_forgot
 
-      still-up : (system : ℕ) → is_up before system ≡ true → is_up replied system ≡ true
+      still-up : (system : ℕ) → is_up before.world system ≡ true → is_up replied.world system ≡ true
       still-up system up = (second.stand system).0 ∙ (first.stand system).0 ∙ up
 
       -- where the sender learnt that the unit is done, its confirmation is due
-      due : is_done Learnt ≡ true → is_due replied unit ≡ true
+      due : is_done Learnt ≡ true → is_due replied.world unit ≡ true
       due is =
           let learnt = done-is Learnt is in
           let up = still-up unit.tid.system open_.up in
-          let receiver = still-up unit.receiver (done-up rules before unit (done-back (is_answered_under letter) (back_of Given) learnt)) in
-          let grew : HaveGrown delivered replied (one_at unit.tid.system (log.Done unit.tid)) =
-          subst (λ l. HaveGrown delivered replied (noted_of l unit.tid)) learnt second.grew in
-          let done : is_listed unit.tid (done_in (log_of replied unit.tid.system)) ≡ true =
+          let receiver = still-up unit.receiver (done-up rules before.world unit (done-back (is_answered_under letter) (back_of Given) learnt)) in
+          let grew : HaveGrown delivered.world replied.world (one_at unit.tid.system (log.Done unit.tid)) =
+          subst (λ l. HaveGrown delivered.world replied.world (noted_of l unit.tid)) learnt second.grew in
+          let done : is_listed unit.tid (done_in (log_of replied.world unit.tid.system)) ≡ true =
           ap (λ l. is_listed unit.tid (done_in l))
-          (grew unit.tid.system ∙ ap (λ l. log_of delivered unit.tid.system ++ l) (record-here unit.tid.system (log.Done unit.tid)))
-          ∙ ap (is_listed unit.tid) (filter_map-Some done_by (log_of delivered unit.tid.system) (log.Done unit.tid) unit.tid refl)
-          ∙ listed-behind unit.tid (done_in (log_of delivered unit.tid.system)) in
-          and_from (is_up replied unit.tid.system && is_up replied unit.receiver) (is_unconfirmed unit.tid (log_of replied unit.tid.system))
-          (and_from (is_up replied unit.tid.system) (is_up replied unit.receiver) up receiver)
-          (and_from (is_listed unit.tid (done_in (log_of replied unit.tid.system))) (not (is_listed unit.tid (ended_in (log_of replied unit.tid.system)))) done
+          (grew unit.tid.system ∙ ap (λ l. log_of delivered.world unit.tid.system ++ l) (record-here unit.tid.system (log.Done unit.tid)))
+          ∙ ap (is_listed unit.tid) (filter_map-Some done_by (log_of delivered.world unit.tid.system) (log.Done unit.tid) unit.tid refl)
+          ∙ listed-behind unit.tid (done_in (log_of delivered.world unit.tid.system)) in
+          and_from (is_up replied.world unit.tid.system && is_up replied.world unit.receiver) (is_unconfirmed unit.tid (log_of replied.world unit.tid.system))
+          (and_from (is_up replied.world unit.tid.system) (is_up replied.world unit.receiver) up receiver)
+          (and_from (is_listed unit.tid (done_in (log_of replied.world unit.tid.system)))
+          (not (is_listed unit.tid (ended_in (log_of replied.world unit.tid.system)))) done
           (ap not not-ended))
 
       -- and else it is not done
-      undone : is_done Learnt ≡ false → is_listed unit.tid (done_in (log_of replied unit.tid.system)) ≡ false
+      undone : is_done Learnt ≡ false → is_listed unit.tid (done_in (log_of replied.world unit.tid.system)) ≡ false
       undone is =
-          ap (is_listed unit.tid) (grown-read done_by delivered replied (noted_of Learnt unit.tid) second.grew (undone-none unit.tid Learnt is) unit.tid.system
-          ∙ grown-read done_by before delivered Taken first.grew (taken-counts done_by refl refl) unit.tid.system)
+          ap (is_listed unit.tid)
+          (grown-read done_by delivered.world replied.world (noted_of Learnt unit.tid) second.grew (undone-none unit.tid Learnt is) unit.tid.system
+          ∙ grown-read done_by before.world delivered.world Taken first.grew (taken-counts done_by refl refl) unit.tid.system)
           ∙ open_.not_done
 
     -- the records of the whole shipment, or those before the one at which a system fell
     pub shipped-noted : (whole : Bool) → AppendedAs delivered replied (noted_of Learnt claim.tid) whole
-        → (is_due replied unit ≡ true
-        → Appended replied confirmed (cond (is_confirmed_under letter) (confirmation Whole (forgot replied unit) unit) []))
-        → ((is_up replied claim.tid.system && is_unconfirmed claim.tid (log_of replied claim.tid.system)) ≡ false → confirmed ≡ replied)
-        → Appended before confirmed (shipment letter (answer_to rules before unit) unit)
+        → (is_due replied.world unit ≡ true
+        → Appended replied confirmed (cond (is_confirmed_under letter) (confirmation Whole (forgot replied.world unit) unit) []))
+        → ((is_up replied.world claim.tid.system && is_unconfirmed claim.tid (log_of replied.world claim.tid.system)) ≡ false → confirmed ≡ replied)
+        → Appended before confirmed (shipment letter (answer_to rules before.world unit) unit)
     shipped-noted true second sent same =
-        let noted : Wholly delivered replied (noted_of Learnt unit.tid) = subst (λ t. Wholly delivered replied (noted_of Learnt t)) (sym its) second in
+        let noted : Wholly delivered.world replied.world (noted_of Learnt unit.tid) =
+        subst (λ t. Wholly delivered.world replied.world (noted_of Learnt t)) (sym its) second in
         let last : Appended replied confirmed Closing =
         elim (cases_Bool (is_done Learnt)) [
           | inl is ↦
@@ -542,11 +543,11 @@ module _ {R : Type 0} (rules : Meaning) (lawful : IsLawful rules) (before delive
               (sent (due noted is))
           | inr other ↦
               subst (Appended replied confirmed) (sym (closing-not (is_confirmed_under letter) (is_done Learnt) (closing unit) other))
-              (true, wholly-same replied confirmed (same (undone-not replied (undone noted other))))
+              (true, wholly-same replied.world confirmed.world (ap (λ (k : KeptOf R A V). k.world) (same (undone-not replied.world (undone noted other)))))
         ] in (
           last.0,
           appended-on before replied confirmed (Taken ++ noted_of Learnt unit.tid) Closing
-              (wholly-on before delivered replied Taken (noted_of Learnt unit.tid) first noted) last.0 last.1,
+              (wholly-on before.world delivered.world replied.world Taken (noted_of Learnt unit.tid) first noted) last.0 last.1,
         )
     shipped-noted false second sent same =
         let noted : AppendedAs delivered replied (noted_of Learnt unit.tid) false =
@@ -555,12 +556,12 @@ module _ {R : Type 0} (rules : Meaning) (lawful : IsLawful rules) (before delive
         let here : second.2.system ≡ claim.tid.system =
         each-next (λ it. it.system ≡ claim.tid.system) second.0 second.2 second.1
         (subst (EachIs (λ it. it.system ≡ claim.tid.system)) second.3 (noted-here Learnt claim.tid)) in
-        let down : is_up replied claim.tid.system ≡ false = subst (λ s. is_up replied s ≡ false) here cut.fell in (
+        let down : is_up replied.world claim.tid.system ≡ false = subst (λ s. is_up replied.world s ≡ false) here cut.fell in (
           false,
-          cut-still before replied confirmed (Taken ++ noted_of Learnt unit.tid) Closing
-              (appended-on before delivered replied Taken (noted_of Learnt unit.tid) first false noted)
-              (wholly-same replied confirmed
-              (same (ap (λ b. b && is_unconfirmed claim.tid (log_of replied claim.tid.system)) down))),
+          subst (λ (k : KeptOf R A V). AppendedAs before k (shipment letter (answer_to rules before.world unit) unit) false)
+              (sym (same (ap (λ b. b && is_unconfirmed claim.tid (log_of replied.world claim.tid.system)) down)))
+              (cut-before before replied (Taken ++ noted_of Learnt unit.tid) Closing
+              (appended-on before delivered replied Taken (noted_of Learnt unit.tid) first false noted)),
         )
 
 -- ---- a unit is confirmed
@@ -577,38 +578,41 @@ sent-none : (unit : AleUnit) (forgotten : Bool) → NoneCounts ended_by (sent_to
 sent-none unit true = tt
 sent-none unit false = (refl, tt)
 
-module _ {R : Type 0} (before sent : World R) (tid : TidOf) (unit : AleUnit) where
-  module _ (its : unit.tid ≡ tid) (due : is_due before unit ≡ true) (first : Wholly before sent (sent_to (forgot before unit) unit)) where
+module _ {R A V : Type 0} (before sent : KeptOf R A V) (tid : TidOf) (unit : AleUnit) where
+  module _ (its : unit.tid ≡ tid) (due : is_due before.world unit ≡ true)
+      (first : Wholly before.world sent.world (sent_to (forgot before.world unit) unit)) where
     -- a unit that is sent its confirmation is not ended yet
-    pub sent-lasts : is_listed tid (ended_in (log_of sent tid.system)) ≡ false
+    pub sent-lasts : is_listed tid (ended_in (log_of sent.world tid.system)) ≡ false
     sent-lasts =
-        let parts = due-parts before unit due in
-        let lasts = and_parts (is_listed unit.tid (done_in (log_of before unit.tid.system)))
-        (not (is_listed unit.tid (ended_in (log_of before unit.tid.system)))) parts.2 in
-        subst (λ (t : TidOf). is_listed t (ended_in (log_of sent t.system)) ≡ false) its
+        let parts = due-parts before.world unit due in
+        let lasts = and_parts (is_listed unit.tid (done_in (log_of before.world unit.tid.system)))
+        (not (is_listed unit.tid (ended_in (log_of before.world unit.tid.system)))) parts.2 in
+        subst (λ (t : TidOf). is_listed t (ended_in (log_of sent.world t.system)) ≡ false) its
         (ap (is_listed unit.tid)
-        (grown-read ended_by before sent (sent_to (forgot before unit) unit) first.grew (sent-none unit (forgot before unit)) unit.tid.system)
-        ∙ not-true (is_listed unit.tid (ended_in (log_of before unit.tid.system))) lasts.1)
+        (grown-read ended_by before.world sent.world (sent_to (forgot before.world unit) unit) first.grew (sent-none unit (forgot before.world unit))
+        unit.tid.system)
+        ∙ not-true (is_listed unit.tid (ended_in (log_of before.world unit.tid.system))) lasts.1)
 
-    pub sent-up : is_up sent tid.system ≡ true
+    pub sent-up : is_up sent.world tid.system ≡ true
     sent-up =
-        let parts = due-parts before unit due in
-        (first.stand tid.system).0 ∙ subst (λ (t : TidOf). is_up before t.system ≡ true) its parts.0
+        let parts = due-parts before.world unit due in
+        (first.stand tid.system).0 ∙ subst (λ (t : TidOf). is_up before.world t.system ≡ true) its parts.0
 
     -- the records of the whole confirmation, or that of the receiver alone where the sender fell
-    pub confirmed-ended : (ended : World R) → Appended sent ended (one_at tid.system (log.Ended tid))
-        → Appended before ended (confirmation Whole (forgot before unit) unit)
+    pub confirmed-ended : (ended : KeptOf R A V) → Appended sent ended (one_at tid.system (log.Ended tid))
+        → Appended before ended (confirmation Whole (forgot before.world unit) unit)
     confirmed-ended ended last = (
       last.0,
-      appended-on before sent ended (sent_to (forgot before unit) unit) (one_at unit.tid.system (log.Ended unit.tid)) first last.0
+      appended-on before sent ended (sent_to (forgot before.world unit) unit) (one_at unit.tid.system (log.Ended unit.tid)) first last.0
           (subst (λ (t : TidOf). AppendedAs sent ended (one_at t.system (log.Ended t)) last.0) (sym its) last.1),
     )
 
   -- where the receiver fell, nothing is appended
-  pub confirmed-cut : AppendedAs before sent (sent_to (forgot before unit) unit) false → Appended before sent (confirmation Whole (forgot before unit) unit)
+  pub confirmed-cut : AppendedAs before sent (sent_to (forgot before.world unit) unit) false
+      → Appended before sent (confirmation Whole (forgot before.world unit) unit)
   confirmed-cut cut = (
     false,
-    cut-still before sent sent (sent_to (forgot before unit) unit) (one_at unit.tid.system (log.Ended unit.tid)) cut (wholly-same sent sent refl),
+    cut-before before sent (sent_to (forgot before.world unit) unit) (one_at unit.tid.system (log.Ended unit.tid)) cut,
   )
 
 -- a unit of an id is due where both its systems are up and the id is unconfirmed

@@ -16,10 +16,11 @@ use Rattle.trfc_protocol.specs.Happens.{happens, run}
 use Rattle.trfc_protocol.specs.Legal.{IsLawful, may_follow}
 use Rattle.trfc_protocol.specs.Meaning.{Meaning}
 use Rattle.trfc_protocol.specs.RecordOf.{Writing, record_of}
+use Rattle.trfc_protocol.specs.Safe.{Safe}
 use Rattle.trfc_protocol.specs.Worlds.{committed_unit, is_up, log_of, log_or_none, rest_of, rest_or_none, state_of, up_or_not, with_fall}
 use Rattle.trfc_protocol.proofs.EventLemmas.{Safe-step}
 use Rattle.trfc_protocol.proofs.RecordLemmas.{MayWrite-record}
-use Rattle.trfc_protocol.proofs.WorldLemmas.{is_up-known, state_of-least}
+use Rattle.trfc_protocol.proofs.WorldLemmas.{is_up-known, state_of-least, state_of-most}
 use Rattle.system_journals.specs.declared.journals.SystemJournals.{SystemJournals}
 use Rattle.system_journals.specs.Changes.{OnlyAt}
 use Rattle.system_journals.specs.OnDisk.{full_at, last_moment, later, moment_of, next_moment}
@@ -123,6 +124,13 @@ module _ {R A V : Type 0} (meaning : R → Meaning) (faults : V → ℕ → ℕ)
 -- a system that is up has a number from 1 on
 pub up-least : {R : Type 0} (world : World R) (system : ℕ) → is_up world system ≡ true → 1 ≤ system
 up-least world system up = let known = is_up-known world system up in state_of-least world.systems system known.0 known.1
+
+-- and is one of those that the landscape has
+pub up-known : {R : Type 0} (rules : Meaning) (world : World R) → Safe rules world → (system : ℕ) → is_up world system ≡ true
+    → (1 ≤ system) × (system ≤ rules.systems)
+up-known rules world safe system up =
+    let known = is_up-known world system up in
+    (up-least world system up, subst (λ n. system ≤ n) safe.systems (state_of-most world.systems system known.0 known.1))
 
 module _ {R A V : Type 0} (meaning : R → Meaning) (faults : V → ℕ → ℕ) (may : Event → Bool) where
   -- nothing has happened

@@ -3,7 +3,7 @@ use Rattle.std.specs.Prelude.{Result, Ok, Err, IfOk, IsErr, OnOk}
 use Rattle.ale_base.specs.declared.out_of_memory.OutOfMemory.{OutOfMemory}
 use Rattle.std.specs.Result.{is_ok}
 use Rattle.std.proofs.Common.{◌≡◌, ◌≤◌, ◌+◌, ℕ, Bool, true, not, cond, Option, Some, List, [], ◌&&◌, inl, inr, refl, sym, ap, subst, ◌∙◌, arith, false}
-use Rattle.std.proofs.lemmas.Bool.{cases_Bool}
+use Rattle.std.proofs.lemmas.Bool.{both_ways, cases_Bool}
 use Rattle.std.proofs.lemmas.Option.{same_Some}
 use Rattle.ale_base.specs.Tid.{TidOf}
 use Rattle.unit_core.specs.declared.ale_unit.AleUnit.{AleUnit}
@@ -44,14 +44,14 @@ use Rattle.unit_landscape.specs.Kept.{IsLandscape}
 use Rattle.wires.specs.declared.letter.Letter.{Letter}
 use Rattle.wires.specs.declared.letter.Letter.TheVariants.{Whole}
 use Rattle.wires.specs.Wires.{letters_left, next_letter}
-use Rattle.unit_works.specs.Claims.{AreOrGone, NoneAdded}
+use Rattle.unit_works.specs.Claims.{AreOrGone, NoneAdded, OneFell}
 use Rattle.unit_works.specs.Events.{arrives_under, is_answered_under, is_arrival, is_confirmation, is_confirmed_under, is_confirming, is_delivery, is_end, is_claim, is_run, is_execution, is_lost, is_reply, is_shipping, is_work, told_of}
 use Rattle.unit_works.specs.Finished.{finished_in}
 use Rattle.unit_works.specs.Acts.{HasShipped}
-use Rattle.unit_works.specs.Trips.{Appended, AppendedAs, Wholly, confirmation, execution, forgot, is_due, learnt_under, may_ship, noted_of, one_at, shipment}
+use Rattle.unit_works.specs.Trips.{Appended, AppendedAs, confirmation, execution, forgot, is_due, learnt_under, may_ship, noted_of, one_at, shipment}
 use Rattle.unit_works.specs.Worked.{HasTaken, HaveEnded, Lines, Worked}
 use Rattle.unit_works.specs.Works.{ClaimExecutedAs, ClaimShippedAs, ExecutedAs, ShippedAs}
-use Rattle.unit_works.specs.steps.Arriving.{AnsweredSo, ArrivedSo, ClaimsAre, ClaimsCome, ClaimsLeft, DeliveredSo, IsAnswered, Tells, event_of, run_held}
+use Rattle.unit_works.specs.steps.Arriving.{AnsweredSo, ArrivedSo, ClaimsAre, ClaimsCome, DeliveredSo, IsAnswered, Tells, event_of}
 use Rattle.unit_works.specs.steps.Confirming.{SentSo}
 use Rattle.unit_works.specs.steps.Claiming.{IsExecuted, IsShipped, in_held}
 use Rattle.unit_works.specs.steps.Claims.{AreWith, AreWithOut}
@@ -59,8 +59,8 @@ use Rattle.unit_works.specs.steps.Ending.{FinishedSo, ended_by, worked_by}
 use Rattle.unit_works.proofs.ArrivingLemmas.{claimed-committed}
 use Rattle.unit_works.proofs.ClaimLemmas.{claimed-executes, claimed-ships, found-last, stands-gone}
 use Rattle.unit_works.proofs.GrowthLemmas.{appended-on}
-use Rattle.unit_works.proofs.TripLemmas.{arrived-twice, confirmed-cut, confirmed-ended, delivered-first, delivered-on, delivered-run, event-told, sent-lasts, sent-up, shipped-cut, shipped-noted}
-use Rattle.unit_works.proofs.WentLemmas.{went-on, went-same, went-whole, went-wider}
+use Rattle.unit_works.proofs.TripLemmas.{confirmed-cut, confirmed-ended, delivered-first, delivered-on, delivered-run, event-told, sent-lasts, sent-up, shipped-cut, shipped-noted}
+use Rattle.unit_works.proofs.WentLemmas.{up-least, went-on, went-same, went-whole, went-wider}
 
 -- what the rules of a landscape mean
 abbrev pub meaning : ModelRules → Meaning
@@ -73,35 +73,6 @@ is_lawful rules = lawful rules.systems rules.least rules.most
 pub ok-of : {T E Q : Type 0} (result : Result T E) (P : T → Type 0) → IfOk result P → ((x : T) → P x → Q) → OnOk result Q
 ok-of (Ok x) P is follows = follows x is
 ok-of (Err e) P is follows = tt
-
--- ---- claims
-
--- claims that went, or went on, and then went
-pub gone-on : (before between after : List Held) → AreOrGone between before → AreOrGone after between → AreOrGone after before
-gone-on before between after first second = elim second [
-  | inl same ↦ elim first [
-    | inl same_before ↦ inl (same ∙ same_before)
-    | inr gone ↦ inr (same ∙ gone)
-  ]
-  | inr gone ↦ inr gone
-]
-
--- what an arrival leaves, and another that begins no run
-pub left-on : (given : Arrival) (before between after : List Held) → ClaimsCome before between given → AreOrGone after between → ClaimsLeft after before given
-left-on (arrival.Run claim) before between after come second = record {
-  held = run_held claim;
-  its = record { number = refl; tid = refl; kind = refl };
-  fresh = come.1;
-  are = elim second [
-    | inl same ↦ inl (same ∙ come.0)
-    | inr gone ↦ inr gone
-  ];
-}
-left-on (arrival.New receipt) before between after come second = gone-on before between after come second
-left-on (arrival.Known receipt) before between after come second = gone-on before between after come second
-left-on arrival.Busy before between after come second = gone-on before between after come second
-left-on arrival.SysFail before between after come second = gone-on before between after come second
-left-on arrival.Down before between after come second = gone-on before between after come second
 
 -- ---- events
 
@@ -126,6 +97,83 @@ module _ {V : Type 0} (faults : V → ℕ → ℕ) where
       → Worked faults before after may false → Worked faults before after may (is_ok result)
   short-of may before after (Ok done) short went = absurd (cc)
   short-of may before after (Err why) short went = went
+
+-- ---- claims
+
+module _ {V : Type 0} (faults : V → ℕ → ℕ) (may might : Event → Bool) (whole : Bool) (before between after : KeptOf ModelRules DocumentTables V)
+    (first : Worked faults before between may true) (second : Worked faults between after might whole) where
+  -- a system that fell stays down
+  fell-first : OneFell before.world between.world → OneFell before.world after.world
+  fell-first fell = let stays = second.stays fell.0 (up-least before.world fell.0 fell.1) fell.2 in (fell.0, fell.1, stays.down)
+
+  -- one that fell at last was up before
+  fell-last : OneFell between.world after.world → OneFell before.world after.world
+  fell-last fell = elim (cases_Bool (is_up before.world fell.0)) [
+    | inl up ↦ (fell.0, up, fell.2)
+    | inr down ↦
+        let stays = first.stays fell.0 (up-least between.world fell.0 fell.1) down in absurd (both_ways (is_up between.world fell.0) stays.down fell.1)
+  ]
+
+  -- claims that are these, or are gone, and then stay or go
+  pub gone-on : (these : List Held) → AreOrGone before.world between.world these → AreOrGone between.world after.world between.world.claims
+      → AreOrGone before.world after.world these
+  gone-on these at_first at_last = elim at_last [
+    | inl same ↦ elim at_first [
+      | inl are ↦ inl (same ∙ are)
+      | inr gone ↦ inr (same ∙ gone.0, fell-first gone.1)
+    ]
+    | inr gone ↦ inr (gone.0, fell-last gone.1)
+  ]
+
+  -- claims that are these, or are gone, at last
+  pub gone-last : (these : List Held) → AreOrGone between.world after.world these → AreOrGone before.world after.world these
+  gone-last these at_last = elim at_last [
+    | inl are ↦ inl are
+    | inr gone ↦ inr (gone.0, fell-last gone.1)
+  ]
+
+  -- an arrival, and the end of the run that it begins
+  come-on : (given : Arrival) → ClaimsCome before.world between.world given
+      → ((others : List Held) → ClaimsAre between.world.claims others given → AreOrGone between.world after.world others)
+      → AreOrGone before.world after.world before.world.claims
+  come-on (arrival.Run claim) come answers = gone-last before.world.claims (answers before.world.claims come)
+  come-on (arrival.New receipt) come answers = gone-on before.world.claims come (answers between.world.claims refl)
+  come-on (arrival.Known receipt) come answers = gone-on before.world.claims come (answers between.world.claims refl)
+  come-on arrival.Busy come answers = gone-on before.world.claims come (answers between.world.claims refl)
+  come-on arrival.SysFail come answers = gone-on before.world.claims come (answers between.world.claims refl)
+  come-on arrival.Down come answers = gone-on before.world.claims come (answers between.world.claims refl)
+
+-- the same of a call
+pub come-answered : {T E V : Type 0} (faults : V → ℕ → ℕ) (may might : Event → Bool) (before between after : KeptOf ModelRules DocumentTables V)
+    (given : Arrival) (result : Result T E) → Worked faults before between may true → Worked faults between after might (is_ok result)
+    → ClaimsCome before.world between.world given
+    → ((others : List Held) → ClaimsAre between.world.claims others given → OnOk result (AreOrGone between.world after.world others))
+    → OnOk result (AreOrGone before.world after.world before.world.claims)
+come-answered faults may might before between after given (Ok x) first second come answers =
+    come-on faults may might true before between after first second given come answers
+come-answered faults may might before between after given (Err why) first second come answers = tt
+
+module _ {V : Type 0} (faults : V → ℕ → ℕ) (may might all last : Event → Bool) (before delivered replied confirmed : KeptOf ModelRules DocumentTables V)
+    (first : Worked faults before delivered may true) (second : Worked faults delivered replied might true) (both : Worked faults before replied all true)
+    (third : Worked faults replied confirmed last true) where
+  -- the claim of a shipment goes, once it was delivered, replied to and confirmed
+  pub shipped-claims : (claim : OutClaim) → AreOrGone before.world delivered.world before.world.claims
+      → ((others : List Held) → AreWithOut delivered.world.claims others claim → AreOrGone delivered.world replied.world others)
+      → (stands_out delivered.world claim ≡ false → replied ≡ delivered)
+      → AreOrGone replied.world confirmed.world replied.world.claims
+      → (others : List Held) → AreWithOut before.world.claims others claim → AreOrGone before.world confirmed.world others
+  shipped-claims claim delivers replies stale confirms others with =
+      gone-on faults all last true before replied confirmed both third others left confirms
+    where
+      left : AreOrGone before.world replied.world others
+      left = elim delivers [
+        | inl same ↦
+            gone-last faults may might true before delivered replied first second others
+            (replies others (subst (λ claims. AreWithOut claims others claim) (sym same) with))
+        | inr gone ↦
+            subst (λ (k : KeptOf ModelRules DocumentTables V). AreOrGone before.world k.world others)
+            (sym (stale (stands-gone delivered.world claim gone.0))) (inr gone)
+      ]
 
 pub arrival-delivers : (letter : Letter) → arrives_under letter ≡ true → (e : Event) → is_arrival e ≡ true → is_delivery letter e ≡ true
 arrival-delivers letter arrives (event.Arrive tid) is = arrives
@@ -211,11 +259,12 @@ confirming-works letter _ is = cc
 -- ---- what has ended
 
 module _ {V : Type 0} (faults : V → ℕ → ℕ) where
-  pub ended-on : (before between after : KeptOf ModelRules DocumentTables V) (n m : ℕ) → HaveEnded faults before between n → HaveEnded faults between after m
+  pub ended-on : (may : Event → Bool) (before between after : KeptOf ModelRules DocumentTables V) (n m : ℕ) → Worked faults before between may true
+      → Worked faults between after may true → HaveEnded faults before between n → HaveEnded faults between after m
       → HaveEnded faults before after (n + m)
-  ended-on before between after n m first second = record {
+  ended-on may before between after n m went_first went_second first second = record {
     finished = let one = first.finished in let two = second.finished in omega (arith, one, two);
-    claims = gone-on before.world.claims between.world.claims after.world.claims first.claims second.claims;
+    claims = gone-on faults may may true before between after went_first went_second before.world.claims first.claims second.claims;
   }
 
   pub ended-same : (before after : KeptOf ModelRules DocumentTables V) → after ≡ before → HaveEnded faults before after 0
@@ -231,9 +280,9 @@ module _ {V : Type 0} (faults : V → ℕ → ℕ) where
       → IsShipped (meaning before.world.rules) before.world claimed.world system claim
       → tid ≡ claim.tid → letter ≡ next_letter (letters_left lines tid) → HasTaken tid lines lines_after
       → Worked faults claimed after (is_shipping letter) true → IsAnswered claimed.world after.world n
-      → ((others : List Held) → AreWithOut claimed.world.claims others claim → AreOrGone after.world.claims others)
+      → ((others : List Held) → AreWithOut claimed.world.claims others claim → AreOrGone claimed.world after.world others)
       → ((unit : AleUnit) → committed_unit (meaning claimed.world.rules) claimed.world claim.tid ≡ Some unit
-      → Appended claimed.world after.world (shipment letter (answer_to (meaning claimed.world.rules) claimed.world unit) unit))
+      → Appended claimed after (shipment letter (answer_to (meaning claimed.world.rules) claimed.world unit) unit))
       → ShippedAs faults before after lines lines_after system (Ok (Some n))
   shipped before claimed after lines lines_after system claim tid letter n went_claim count is its next taken went answered claims grew = (
     tid,
@@ -247,20 +296,21 @@ module _ {V : Type 0} (faults : V → ℕ → ℕ) where
       taken = taken;
       went = on faults (is_shipping letter) true before claimed after (wider faults is_claim (is_shipping letter) true before claimed (claim-ships letter)
           went_claim) went;
-      grew = appended-on before.world claimed.world after.world [] (shipment letter (answer_to (meaning before.world.rules) before.world is.unit) is.unit)
+      grew = appended-on before claimed after [] (shipment letter (answer_to (meaning before.world.rules) before.world is.unit) is.unit)
           is.grew
           appended.0
-          (subst (λ a. AppendedAs claimed.world after.world (shipment letter a is.unit) appended.0)
+          (subst (λ a. AppendedAs claimed after (shipment letter a is.unit) appended.0)
           (ap (λ (r : ModelRules). answer_to (meaning r) claimed.world is.unit) went_claim.rules ∙ is.answers) appended.1);
     }),
     record {
       finished = let more = answered.count in omega (arith, count, more);
-      claims = claims before.world.claims (record { fresh = is.fresh; are = inl is.claims });
+      claims = gone-last faults is_claim (is_shipping letter) true before claimed after went_claim went before.world.claims
+          (claims before.world.claims (record { fresh = is.fresh; are = is.claims }));
     },
     answered.few,
   )
     where
-      appended : Appended claimed.world after.world (shipment letter (answer_to (meaning claimed.world.rules) claimed.world is.unit) is.unit)
+      appended : Appended claimed after (shipment letter (answer_to (meaning claimed.world.rules) claimed.world is.unit) is.unit)
       appended = grew is.unit (went_claim.committed claim.tid ∙ is.committed)
 
   -- a unit that was claimed and executed
@@ -268,8 +318,8 @@ module _ {V : Type 0} (faults : V → ℕ → ℕ) where
       → Worked faults before claimed is_run true → finished_in claimed.world ≡ finished_in before.world
       → IsExecuted (meaning before.world.rules) before.world claimed.world system claim
       → Worked faults claimed after is_end true → finished_in after.world ≡ finished_in claimed.world + ended_by given
-      → ((others : List Held) → AreWith claimed.world.claims others claim → AreOrGone after.world.claims others)
-      → ((held : Held) → HoldsIn claimed.world claim held → FinishedSo (meaning claimed.world.rules) claimed.world after.world claim held given)
+      → ((others : List Held) → AreWith claimed.world.claims others claim → AreOrGone claimed.world after.world others)
+      → ((held : Held) → HoldsIn claimed.world claim held → FinishedSo (meaning claimed.world.rules) claimed after claim held given)
       → (n : ℕ) → n ≡ ended_by given → ExecutedAs faults before after system (Ok (Some n))
   executed before claimed after system claim given went_run count is went more claims grew n told = elim (grew (in_held claim) holds) [
     | inl ended ↦ made true ended.grew (told ∙ ended.ended)
@@ -283,7 +333,7 @@ module _ {V : Type 0} (faults : V → ℕ → ℕ) where
         kind = refl;
       }
 
-      made : (whole : Bool) → AppendedAs claimed.world after.world (worked_by (meaning claimed.world.rules) claimed.world (in_held claim) In) whole
+      made : (whole : Bool) → AppendedAs claimed after (worked_by (meaning claimed.world.rules) claimed.world (in_held claim) In) whole
           → n ≡ cond whole 1 0 → ExecutedAs faults before after system (Ok (Some n))
       made whole appended ends = (
         claim.tid,
@@ -293,17 +343,18 @@ module _ {V : Type 0} (faults : V → ℕ → ℕ) where
           may = is.may;
           went = on faults is_execution true before claimed after (wider faults is_run is_execution true before claimed run-executes went_run)
               (wider faults is_end is_execution true claimed after end-executes went);
-          grew = appended-on before.world claimed.world after.world []
+          grew = appended-on before claimed after []
               (execution (offers_received_now (meaning before.world.rules) before.world system claim.tid) system claim.tid) is.grew whole
-              (subst (λ xs. AppendedAs claimed.world after.world xs whole)
+              (subst (λ xs. AppendedAs claimed after xs whole)
               (ap (λ (r : ModelRules). execution (offers_received_now (meaning r) claimed.world claim.system claim.tid) claim.system claim.tid) went_run.rules
               ∙ ap (λ s. execution (offers_received_now (meaning before.world.rules) claimed.world s claim.tid) s claim.tid) is.here
               ∙ ap (λ b. execution b system claim.tid) is.offers) appended);
         },
         record {
           finished = omega (arith, count, more, told);
-          claims = claims before.world.claims
-              (record { held = in_held claim; its = record { number = refl; tid = refl; kind = refl }; fresh = is.fresh; are = inl is.claims });
+          claims = gone-last faults is_run is_end true before claimed after went_run went before.world.claims
+              (claims before.world.claims
+              (record { held = in_held claim; its = record { number = refl; tid = refl; kind = refl }; fresh = is.fresh; are = is.claims }));
         },
         ends,
       )
@@ -327,7 +378,7 @@ module _ {V : Type 0} (faults : V → ℕ → ℕ) where
       → Worked faults before after (is_shipping letter) true → IsAnswered before.world after.world n
       → NoneAdded before.world.claims after.world.claims
       → ((unit : AleUnit) → committed_unit (meaning before.world.rules) before.world claim.tid ≡ Some unit
-      → Appended before.world after.world (shipment letter (answer_to (meaning before.world.rules) before.world unit) unit))
+      → Appended before after (shipment letter (answer_to (meaning before.world.rules) before.world unit) unit))
       → ClaimShippedAs faults before after lines lines_after claim (Ok (Some n))
   claim-shipped before after lines lines_after claim tid letter n is stands its next taken went answered fewer grew = (
     stands,
@@ -364,7 +415,7 @@ module _ {V : Type 0} (faults : V → ℕ → ℕ) where
       → (stands_in before.world claim ≡ false → after ≡ before)
       → Worked faults before after is_end true → finished_in after.world ≡ finished_in before.world + ended_by given
       → NoneAdded before.world.claims after.world.claims
-      → ((held : Held) → HoldsIn before.world claim held → FinishedSo (meaning before.world.rules) before.world after.world claim held given)
+      → ((held : Held) → HoldsIn before.world claim held → FinishedSo (meaning before.world.rules) before after claim held given)
       → n ≡ ended_by given → ClaimExecutedAs faults before after claim (Ok n)
   claim-executed before after claim given n is stale went more fewer grew told = (
     stale,
@@ -375,13 +426,13 @@ module _ {V : Type 0} (faults : V → ℕ → ℕ) where
         elim (grew held holds) [
           | inl ended ↦ (
             true,
-            record { may = may; went = wide; grew = subst (λ xs. AppendedAs before.world after.world xs true) its ended.grew },
+            record { may = may; went = wide; grew = subst (λ xs. AppendedAs before after xs true) its ended.grew },
             told ∙ ended.ended,
           )
           | inr fell ↦
               let cut = fell.0 in (
                 false,
-                record { may = may; went = wide; grew = subst (λ xs. AppendedAs before.world after.world xs false) its cut.cut },
+                record { may = may; went = wide; grew = subst (λ xs. AppendedAs before after xs false) its cut.cut },
                 told ∙ fell.1,
               )
         ],
@@ -436,13 +487,13 @@ module _ {V : Type 0} (faults : V → ℕ → ℕ) where
   -- a unit that arrived twice
   pub arrived-on : (before between after : KeptOf ModelRules DocumentTables V) (tid : TidOf) (sent : AleUnit) (given : Arrival)
       → committed_unit (meaning before.world.rules) before.world tid ≡ Some sent
-      → ArrivedSo (meaning before.world.rules) before.world between.world sent given
-      → Wholly between.world after.world [] × (after.world.claims ≡ between.world.claims)
+      → ArrivedSo (meaning before.world.rules) before between sent given
+      → after ≡ between
       → (unit : AleUnit) → committed_unit (meaning before.world.rules) before.world tid ≡ Some unit
-      → ArrivedSo (meaning before.world.rules) before.world after.world unit given
-  arrived-on before between after tid sent given committed first second unit named =
-      subst (λ (u : AleUnit). ArrivedSo (meaning before.world.rules) before.world after.world u given) (same_Some sent unit (sym committed ∙ named))
-      (arrived-twice (meaning before.world.rules) before.world between.world after.world sent given first second)
+      → ArrivedSo (meaning before.world.rules) before after unit given
+  arrived-on before between after tid sent given committed first same unit named =
+      subst (λ (u : AleUnit). ArrivedSo (meaning before.world.rules) before after u given) (same_Some sent unit (sym committed ∙ named))
+      (subst (λ (k : KeptOf ModelRules DocumentTables V). ArrivedSo (meaning before.world.rules) before k sent given) (sym same) first)
 
   -- a unit that arrived, and was answered
   pub delivered : {T : Type 0} (before between after : KeptOf ModelRules DocumentTables V) (claim : OutClaim) (letter : Letter) (came : Arrival)
@@ -450,14 +501,14 @@ module _ {V : Type 0} (faults : V → ℕ → ℕ) where
       → IsLandscape meaning before.world → arrives_under letter ≡ true
       → Worked faults before between is_arrival true → Worked faults between after is_end (is_ok result)
       → ((unit : AleUnit) → committed_unit (meaning before.world.rules) before.world claim.tid ≡ Some unit
-      → ArrivedSo (meaning before.world.rules) before.world between.world unit came)
+      → ArrivedSo (meaning before.world.rules) before between unit came)
       → ((unit : AleUnit) (given : Answer) (others : List Held) → committed_unit (meaning between.world.rules) between.world unit.tid ≡ Some unit
       → Tells given unit came → ClaimsAre between.world.claims others came
-      → IfOk result (λ answered. AnsweredSo between.world after.world unit given others (told answered)))
+      → IfOk result (λ answered. AnsweredSo between after unit given others (told answered)))
       → (came ≡ arrival.Down → after ≡ between)
       → IfOk result (λ answered. (unit : AleUnit)
       → committed_unit (meaning before.world.rules) before.world claim.tid ≡ Some unit
-      → DeliveredSo (meaning after.world.rules) before.world after.world claim unit letter (answer_to (meaning before.world.rules) before.world unit)
+      → DeliveredSo (meaning after.world.rules) before after claim unit letter (answer_to (meaning before.world.rules) before.world unit)
       (told answered))
   delivered before between after claim letter came (Err why) told is arrives went_first went_second first second idle = tt
   delivered before between after claim letter came (Ok answered) told is arrives went_first went_second first second idle = λ unit named.
@@ -474,11 +525,10 @@ module _ {V : Type 0} (faults : V → ℕ → ℕ) where
                   (λ s. let later = replied.grew in let sooner = arrived.grew in (later.stand s).0 ∙ (sooner.stand s).0)
                   letter came (told answered) arrives arrived replied)
               | inr fell ↦
-                  inr (delivered-run (meaning before.world.rules) before.world between.world after.world unit given letter arrives arrived.grew fell)
+                  inr (delivered-run before between after unit given letter arrives arrived.grew fell)
             ]
         | inr fell ↦
-            inr (delivered-first (meaning before.world.rules) before.world between.world after.world unit given letter arrives fell.0
-            (ap (λ (k : KeptOf ModelRules DocumentTables V). k.world) (idle fell.1)))
+            inr (delivered-first before between after unit given letter arrives fell.0 (idle fell.1))
       ]
 
   -- a unit that was delivered, of which its sender learnt, and that was confirmed
@@ -487,17 +537,17 @@ module _ {V : Type 0} (faults : V → ℕ → ℕ) where
       → IsLandscape meaning before.world → stands_out before.world claim ≡ true → told ≡ told_of letter given → tid ≡ claim.tid
       → Worked faults before delivered (is_delivery letter) true → Worked faults delivered replied (is_reply told) true
       → ((unit : AleUnit) → committed_unit (meaning before.world.rules) before.world claim.tid ≡ Some unit
-      → DeliveredSo (meaning delivered.world.rules) before.world delivered.world claim unit letter
+      → DeliveredSo (meaning delivered.world.rules) before delivered claim unit letter
       (answer_to (meaning before.world.rules) before.world unit) given)
       → ((learnt : Option CoreAnswer) → stands_out delivered.world claim ≡ true
       → reply_event (meaning delivered.world.rules) delivered.world claim told ≡ event_of learnt claim.number
-      → Appended delivered.world replied.world (noted_of learnt claim.tid))
+      → Appended delivered replied (noted_of learnt claim.tid))
       → (stands_out delivered.world claim ≡ false → replied ≡ delivered)
       → ((unit : AleUnit) → committed_unit (meaning replied.world.rules) replied.world tid ≡ Some unit → is_due replied.world unit ≡ true
-      → Appended replied.world confirmed.world (cond (is_confirmed_under letter) (confirmation Whole (forgot replied.world unit) unit) []))
+      → Appended replied confirmed (cond (is_confirmed_under letter) (confirmation Whole (forgot replied.world unit) unit) []))
       → ((is_up replied.world tid.system && is_unconfirmed tid (log_of replied.world tid.system)) ≡ false → confirmed ≡ replied)
       → (unit : AleUnit) → committed_unit (meaning before.world.rules) before.world claim.tid ≡ Some unit
-      → Appended before.world confirmed.world (shipment letter (answer_to (meaning before.world.rules) before.world unit) unit)
+      → Appended before confirmed (shipment letter (answer_to (meaning before.world.rules) before.world unit) unit)
   shipped-appended before delivered replied confirmed claim letter given told tid is stands tells its went_first went_second first second stale sent same unit
       named = elim (first unit named) [
         | inl came ↦
@@ -507,42 +557,39 @@ module _ {V : Type 0} (faults : V → ℕ → ℕ) where
             (ap (reply_event (meaning delivered.world.rules) delivered.world claim) tells
             ∙ event-told (meaning delivered.world.rules) delivered.world claim letter (answer_to (meaning before.world.rules) before.world unit) given
             came.event) in
-            shipped-noted (meaning before.world.rules) (is_lawful before.world.rules) before.world delivered.world is.safe
-            claim stands unit named letter replied.world confirmed.world came.grew noted.0 noted.1
+            shipped-noted (meaning before.world.rules) (is_lawful before.world.rules) before delivered is.safe
+            claim stands unit named letter replied confirmed came.grew noted.0 noted.1
             (λ due. sent unit
             (ap (committed_unit (meaning replied.world.rules) replied.world) its
             ∙ went_second.committed claim.tid ∙ went_first.committed claim.tid ∙ named) due)
             unchanged
         | inr fell ↦
-            shipped-cut (meaning before.world.rules) (is_lawful before.world.rules) before.world delivered.world is.safe
-            claim stands unit named letter fell replied.world confirmed.world
-            (ap (λ (k : KeptOf ModelRules DocumentTables V). k.world) (stale (stands-gone delivered.world claim fell.claims))) unchanged
+            shipped-cut (meaning before.world.rules) (is_lawful before.world.rules) before delivered is.safe
+            claim stands unit named letter fell replied confirmed (stale (stands-gone delivered.world claim fell.claims)) unchanged
       ]
     where
       unchanged : (is_up replied.world claim.tid.system && is_unconfirmed claim.tid (log_of replied.world claim.tid.system)) ≡ false
-          → confirmed.world ≡ replied.world
-      unchanged undone =
-          ap (λ (k : KeptOf ModelRules DocumentTables V). k.world)
-          (same (ap (λ (t : TidOf). is_up replied.world t.system && is_unconfirmed t (log_of replied.world t.system)) its ∙ undone))
+          → confirmed ≡ replied
+      unchanged undone = same (ap (λ (t : TidOf). is_up replied.world t.system && is_unconfirmed t (log_of replied.world t.system)) its ∙ undone)
 
   -- a unit that was sent its confirmation, which was replied to
   pub confirmed-done : (before sent ended : KeptOf ModelRules DocumentTables V) (tid : TidOf) (unit : AleUnit) (given : Confirmed)
-      → is_due before.world unit ≡ true → SentSo before.world sent.world tid unit given → (given ≡ Down → ⊥)
+      → is_due before.world unit ≡ true → SentSo before sent tid unit given → (given ≡ Down → ⊥)
       → (is_up sent.world tid.system ≡ true → is_listed tid (ended_in (log_of sent.world tid.system)) ≡ false
-      → Appended sent.world ended.world (one_at tid.system (Ended tid)))
-      → Appended before.world ended.world (confirmation Whole (forgot before.world unit) unit)
+      → Appended sent ended (one_at tid.system (Ended tid)))
+      → Appended before ended (confirmation Whole (forgot before.world unit) unit)
   confirmed-done before sent ended tid unit given due first came second = elim first [
     | inl has ↦
-        confirmed-ended before.world sent.world tid unit has.its due has.grew ended.world
-        (second (sent-up before.world sent.world tid unit has.its due has.grew) (sent-lasts before.world sent.world tid unit has.its due has.grew))
+        confirmed-ended before sent tid unit has.its due has.grew ended
+        (second (sent-up before sent tid unit has.its due has.grew) (sent-lasts before sent tid unit has.its due has.grew))
     | inr fell ↦ absurd (came fell.1)
   ]
 
   -- nothing came back of it
   pub confirmed-down : (before sent : KeptOf ModelRules DocumentTables V) (tid : TidOf) (unit : AleUnit) (given : Confirmed)
-      → SentSo before.world sent.world tid unit given → given ≡ Down
-      → Appended before.world sent.world (confirmation Whole (forgot before.world unit) unit)
+      → SentSo before sent tid unit given → given ≡ Down
+      → Appended before sent (confirmation Whole (forgot before.world unit) unit)
   confirmed-down before sent tid unit given first down = elim first [
     | inl has ↦ absurd (has.came down)
-    | inr fell ↦ confirmed-cut before.world sent.world tid unit fell.0
+    | inr fell ↦ confirmed-cut before sent tid unit fell.0
   ]

@@ -26,13 +26,13 @@ module _ {V : Type 0} (faults : V → ℕ → ℕ) (before after : KeptOf ModelR
     pub next : letter ≡ next_letter (letters_left lines tid)
     pub taken : HasTaken tid lines lines_after
     pub went : Worked faults before after (is_shipping letter) true
-    pub grew : AppendedAs before.world after.world (shipment letter (answer_to (model_meaning before.world.rules.systems) before.world unit) unit) whole
+    pub grew : AppendedAs before after (shipment letter (answer_to (model_meaning before.world.rules.systems) before.world unit) unit) whole
 
   -- A unit that may be executed at a system was: the record of that was appended, or it was cut.
   pub record HasExecuted (system : ℕ) (tid : TidOf) (whole : Bool) : Type 0 where
     pub may : may_execute before.world system tid ≡ true
     pub went : Worked faults before after is_execution true
-    pub grew : AppendedAs before.world after.world
+    pub grew : AppendedAs before after
         (execution (offers_received_now (model_meaning before.world.rules.systems) before.world system tid) system tid) whole
 
   -- A unit whose confirmation was due took its next letter, which is this one, and was confirmed under it: the records of that were appended,
@@ -44,7 +44,7 @@ module _ {V : Type 0} (faults : V → ℕ → ℕ) (before after : KeptOf ModelR
     pub next : letter ≡ next_letter (letters_left lines tid)
     pub taken : HasTaken tid lines lines_after
     pub went : Worked faults before after is_confirmation true
-    pub grew : AppendedAs before.world after.world (confirmation letter (forgot before.world unit) unit) whole
+    pub grew : AppendedAs before after (confirmation letter (forgot before.world unit) unit) whole
 
 -- an act: a unit is shipped under a letter, is executed at a system, or is confirmed under a letter; it was whole, or was cut
 pub data Act : Type 0 where

@@ -1,13 +1,22 @@
 -- The claims that are left.
-use Rattle.std.specs.Prelude.{◌≡◌, ◌⊎◌, Bool, true, not, List, []}
+use Rattle.std.specs.Prelude.{◌≡◌, ◌⊎◌, ℕ, Bool, true, false, not, List, []}
 use Rattle.std.specs.List.{list_all}
 use Rattle.trfc_protocol.specs.declared.held.Held.{Held}
 use Rattle.trfc_protocol.specs.declared.held.HeldKind.TheVariants.{Direct}
-use Rattle.trfc_protocol.specs.Worlds.{is_kind}
+use Rattle.trfc_protocol.specs.declared.world.World.{World}
+use Rattle.trfc_protocol.specs.Worlds.{is_kind, is_up}
 
--- claims are these, or there are none, as where a system fell
-abbrev pub AreOrGone : List Held → List Held → Type 0
-AreOrGone claims these = (claims ≡ these) ⊎ (claims ≡ [])
+-- a system that was up is down
+abbrev pub OneFell : {R : Type 0} → World R → World R → Type 0
+OneFell before after = (system : ℕ) × (is_up before system ≡ true) × (is_up after system ≡ false)
+
+-- claims are these; or there are none, and a system fell
+abbrev pub AreOrGone : {R : Type 0} → World R → World R → List Held → Type 0
+AreOrGone before after these = (after.claims ≡ these) ⊎ ((after.claims ≡ []) × OneFell before after)
+
+-- claims are these; or there are none, as where a system fell or all were given up
+abbrev pub AreOrNone : List Held → List Held → Type 0
+AreOrNone claims these = (claims ≡ these) ⊎ (claims ≡ [])
 
 -- no claim was added: what is so of each claim before is so of each one now
 abbrev pub NoneAdded : List Held → List Held → Type 0

@@ -1,5 +1,5 @@
 -- A drain: works are done until none is left.
-use Rattle.std.specs.Prelude.{◌≡◌, ◌≤◌, ◌⊎◌, ℕ, Bool, false, Option, Some, None, List, [], Result, Ok, Err, true, filter}
+use Rattle.std.specs.Prelude.{◌≡◌, ◌≤◌, ◌+◌, ◌⊎◌, ℕ, Bool, false, Option, Some, None, List, [], Result, Ok, Err, true, filter}
 use Rattle.std.specs.List.{list_all, list_any}
 use Rattle.ale_base.specs.Tid.{TidOf}
 use Rattle.ale_base.specs.declared.way.Way.TheVariants.{Outgoing}
@@ -14,8 +14,10 @@ use Rattle.kept_world.specs.Kept.{KeptOf}
 use Rattle.document_tables.specs.declared.document_tables.DocumentTables.{DocumentTables}
 use Rattle.model_rules.specs.declared.model_rules.ModelRules.{ModelRules}
 use Rattle.model_rules.specs.Meaning.{model_meaning}
+use Rattle.unit_works.specs.Claims.{AreOrNone}
 use Rattle.unit_works.specs.Events.{is_work}
-use Rattle.unit_works.specs.Worked.{HaveEnded, HaveTaken, Lines, Worked}
+use Rattle.unit_works.specs.Finished.{finished_in}
+use Rattle.unit_works.specs.Worked.{HaveTaken, Lines, Worked}
 use Rattle.unit_works.specs.Acts.{Act, HaveActed, confirm, each_but_last_cut, execute, is_cut, loses, ship, takes}
 use Rattle.unit_works.specs.Through.{AreOffered, AreThrough, AreUp, IsClear, NoneLeft}
 use Rattle.unit_works.specs.Trips.{is_due}
@@ -27,11 +29,13 @@ pub record IsIdle (world : World ModelRules) : Type 0 where
 
 module _ {V : Type 0} (faults : V → ℕ → ℕ) (before : KeptOf ModelRules DocumentTables V) (lines : Lines) (after : KeptOf ModelRules DocumentTables V)
     (lines_after : Lines) where
-  -- Acts were done one after the other, and nothing else; so many runs and executions ended; no claim was added.
+  -- Acts were done one after the other, and nothing else but that claims were made or given up between them; so many runs and executions
+  -- ended; and the claims are those before, or there are none.
   pub record HasWorked (n : ℕ) : Type 0 where
     pub went : Worked faults before after is_work true
     pub taken : HaveTaken lines lines_after
-    pub ended : HaveEnded faults before after n
+    pub finished : finished_in after.world ≡ finished_in before.world + n
+    pub claims : AreOrNone after.world.claims before.world.claims
     pub acts : List Act
     pub did : HaveActed faults before lines acts after lines_after
 

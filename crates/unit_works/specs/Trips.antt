@@ -18,6 +18,8 @@ use Rattle.trfc_protocol.specs.Worlds.{is_up, log_of, rest_of, committed_by, com
 use Rattle.trfc_protocol.specs.Legal.{is_free_outbound, is_free_inbound}
 use Rattle.trfc_protocol.specs.Offered.{is_stopped_outbound, is_stopped_inbound, may_move}
 use Rattle.trfc_protocol.specs.RecordOf.{Writing}
+use Rattle.kept_world.specs.Kept.{KeptOf, overrun_at}
+use Rattle.unit_landscape.specs.Writes.{IsTooLong}
 use Rattle.wires.specs.declared.letter.Letter.{Letter}
 use Rattle.unit_works.specs.Events.{arrives_under, is_answered_under, is_confirmed_under, is_sent_under}
 
@@ -34,25 +36,33 @@ pub record Wholly {R : Type 0} (before after : World R) (added : List Writing) :
   pub grew : HaveGrown before after added
   pub stand : (system : ℕ) → (is_up after system ≡ is_up before system) × (rest_of after system ≡ rest_of before system)
 
--- These records were appended, one after the other, and a system fell as it was to append one more: it may find that one, or nothing. All
--- other systems are up or down as before, and may find what they might.
-pub record CutAt {R : Type 0} (before after : World R) (done : List Writing) (next : Writing) : Type 0 where
-  pub grew : HaveGrown before after done
-  pub up : is_up before next.system ≡ true
-  pub fell : is_up after next.system ≡ false
-  pub rest : (rest_of after next.system ≡ None) ⊎ (rest_of after next.system ≡ Some next.next)
+-- A record did not fit on the volume of its system: that may find nothing, and the landscape keeps how long the volume would have been with
+-- this very record.
+pub record DidNotFit {R A V : Type 0} (after : KeptOf R A V) (next : Writing) : Type 0 where
+  pub nothing : rest_of after.world next.system ≡ None
+  pub size : ℕ
+  pub long : IsTooLong after.journals next size
+  pub told : overrun_at after next.system ≡ Some size
+
+-- These records were appended, one after the other, and a system fell as it was to append one more: its volume failed, and it may find that
+-- one; or that one did not fit. All other systems are up or down as before, and may find what they might.
+pub record CutAt {R A V : Type 0} (before after : KeptOf R A V) (done : List Writing) (next : Writing) : Type 0 where
+  pub grew : HaveGrown before.world after.world done
+  pub up : is_up before.world next.system ≡ true
+  pub fell : is_up after.world next.system ≡ false
+  pub why : (rest_of after.world next.system ≡ Some next.next) ⊎ DidNotFit after next
   pub others : (system : ℕ) → system ≢ next.system
-      → (is_up after system ≡ is_up before system) × (rest_of after system ≡ rest_of before system)
+      → (is_up after.world system ≡ is_up before.world system) × (rest_of after.world system ≡ rest_of before.world system)
 
 -- Of these records, in this order, all were appended: that was whole. Or it was cut, where a system fell as it was to append one of them:
 -- those before it were appended, and none behind it.
-abbrev pub AppendedAs : {R : Type 0} → World R → World R → List Writing → Bool → Type 0
-AppendedAs before after added true = Wholly before after added
+abbrev pub AppendedAs : {R A V : Type 0} → KeptOf R A V → KeptOf R A V → List Writing → Bool → Type 0
+AppendedAs before after added true = Wholly before.world after.world added
 AppendedAs before after added false =
     (done : List Writing) × (rest : List Writing) × (next : Writing) × (added ≡ done ++ next ∷ rest) × CutAt before after done next
 
 -- the same, whether it was whole or cut
-abbrev pub Appended : {R : Type 0} → World R → World R → List Writing → Type 0
+abbrev pub Appended : {R A V : Type 0} → KeptOf R A V → KeptOf R A V → List Writing → Type 0
 Appended before after added = (whole : Bool) × AppendedAs before after added whole
 
 -- one record more at a system

@@ -56,8 +56,9 @@ HaveWorksBehind before after = (system : ℕ)
     → (added : List Record) × (log_of after system ≡ log_of before system ++ added) × (list_all is_works_record added ≡ true)
 
 -- A landscape went on by events that may happen: its world is the one that these make of the one before, by the same rules. Each log is the
--- one before with records of works behind it, and the units that are committed are those that were. The moment that is set is as before. No count of faults fell, and none of a system that is up has changed.
--- Systems that were down stay so; and where the work is whole, those that fell had a cause.
+-- one before with records of works behind it, and the units that are committed are those that were. The moment that is set is as before. No
+-- count of faults fell, and that of a system that is up has not changed. Systems that were down stay so; and where the work is whole, those
+-- that fell had a cause.
 pub record WentOn {R A V : Type 0} (meaning : R → Meaning) (faults : V → ℕ → ℕ) (may : Event → Bool) (whole : Bool) (before after : KeptOf R A V) : Type 0
   where
     pub events : List Event

@@ -48,7 +48,7 @@ module _ {V : Type 0} (faults : V → ℕ → ℕ) (before after : KeptOf ModelR
   abbrev pub Worked : (Event → Bool) → Bool → Type 0
   Worked may whole = WentOn (λ (rules : ModelRules). model_meaning rules.systems) faults may whole before after
 
-  -- So many runs and executions have ended. No claim was added: they are as before, or there are none, as where a system fell.
+  -- So many runs and executions have ended. No claim was added: they are as before; or there are none, and a system fell.
   pub record HaveEnded (n : ℕ) : Type 0 where
     pub finished : finished_in after.world ≡ finished_in before.world + n
-    pub claims : AreOrGone after.world.claims before.world.claims
+    pub claims : AreOrGone before.world after.world before.world.claims

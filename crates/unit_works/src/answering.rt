@@ -20,7 +20,7 @@ ghost use Rattle.unit_works.specs.Events.{arrives_under, is_delivery, is_end, is
 ghost use Rattle.unit_works.specs.Finished.{finished_in};
 ghost use Rattle.unit_works.specs.Trips.{Appended, noted_of};
 ghost use Rattle.unit_works.specs.Worked.{Worked};
-ghost use Rattle.unit_works.specs.steps.Arriving.{AnsweredSo, ClaimsAre, ClaimsLeft, DeliveredSo, IsAnswered, IsReadyFor, Says, Tells, event_of};
+ghost use Rattle.unit_works.specs.steps.Arriving.{AnsweredSo, ClaimsAre, DeliveredSo, IsAnswered, IsReadyFor, Says, Tells, event_of};
 ghost use Rattle.unit_works.specs.steps.Claims.{AreWithOut};
 ghost use Rattle.unit_works.specs.steps.Ending.{IsRun, ended_by};
 
@@ -54,10 +54,10 @@ pub(crate) fn deliver<V: Volumes>(
     requires ready { IfSome ready (λ prepared. IsPreparedFor landscape.old.world claim.now.tid prepared.postings) }
     ensures went { Worked V.faults landscape.old landscape.new (is_delivery letter) (is_ok result) }
     ensures answered { IfOk result (λ answered. IsAnswered landscape.old.world landscape.new.world answered.finished) }
-    ensures claims { OnOk result (AreOrGone landscape.new.world.claims landscape.old.world.claims) }
+    ensures claims { OnOk result (AreOrGone landscape.old.world landscape.new.world landscape.old.world.claims) }
     ensures grew { IfOk result (λ answered. (unit : AleUnit)
         → committed_unit (model_meaning landscape.old.world.rules.systems) landscape.old.world claim.now.tid ≡ Some unit
-        → DeliveredSo (model_meaning landscape.new.world.rules.systems) landscape.old.world landscape.new.world claim.now unit letter
+        → DeliveredSo (model_meaning landscape.new.world.rules.systems) landscape.old landscape.new claim.now unit letter
         (answer_to (model_meaning landscape.old.world.rules.systems) landscape.old.world unit) answered.given) }
 {
     let _ = landscape.world();
@@ -81,12 +81,12 @@ fn answer_of<V: Volumes>(
     requires ready { IfSome ready (λ prepared. IsReadyFor landscape.old.world prepared.postings arrival) }
     ensures went { Worked V.faults landscape.old landscape.new is_end (is_ok result) }
     ensures answered { IfOk result (λ answered. IsAnswered landscape.old.world landscape.new.world answered.finished) }
-    ensures claims { (others : List Held) → ClaimsLeft landscape.old.world.claims others arrival
-        → OnOk result (AreOrGone landscape.new.world.claims others) }
+    ensures claims { (others : List Held) → ClaimsAre landscape.old.world.claims others arrival
+        → OnOk result (AreOrGone landscape.old.world landscape.new.world others) }
     ensures grew { (unit : AleUnit) (given : Answer) (others : List Held)
         → committed_unit (model_meaning landscape.old.world.rules.systems) landscape.old.world unit.tid ≡ Some unit → Tells given unit arrival
         → ClaimsAre landscape.old.world.claims others arrival
-        → IfOk result (λ answered. AnsweredSo landscape.old.world landscape.new.world unit given others answered.given) }
+        → IfOk result (λ answered. AnsweredSo landscape.old landscape.new unit given others answered.given) }
     ensures idle { arrival ≡ Down → landscape.new ≡ landscape.old }
 {
     match arrival {
@@ -136,11 +136,11 @@ pub(crate) fn reply<V: Volumes>(
     ensures went { Worked V.faults landscape.old landscape.new (is_reply given) (is_ok result) }
     ensures finished { OnOk result (finished_in landscape.new.world ≡ finished_in landscape.old.world) }
     ensures claims { (others : List Held) → AreWithOut landscape.old.world.claims others claim
-        → OnOk result (AreOrGone landscape.new.world.claims others) }
+        → OnOk result (AreOrGone landscape.old.world landscape.new.world others) }
     ensures fewer { OnOk result (NoneAdded landscape.old.world.claims landscape.new.world.claims) }
     ensures grew { (learnt : Option CoreAnswer) → stands_out landscape.old.world claim ≡ true
         → reply_event (model_meaning landscape.old.world.rules.systems) landscape.old.world claim given ≡ event_of learnt claim.number
-        → OnOk result (Appended landscape.old.world landscape.new.world (noted_of learnt claim.tid)) }
+        → OnOk result (Appended landscape.old landscape.new (noted_of learnt claim.tid)) }
     ensures stale { stands_out landscape.old.world claim ≡ false → OnOk result (landscape.new ≡ landscape.old) }
 {
     let _ = landscape.world();

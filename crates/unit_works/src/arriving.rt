@@ -1,18 +1,16 @@
 //! A unit that is shipped arrives at its receiver, once or twice.
 
-ghost use Rattle.std.specs.Prelude.{◌≡◌, [], Some, true, false, IfOk, OnOk};
+ghost use Rattle.std.specs.Prelude.{◌≡◌, Some, true, false, IfOk, OnOk};
 ghost use Rattle.std.specs.Result.{is_ok};
 ghost use Rattle.unit_core.specs.declared.ale_unit.AleUnit.{AleUnit as UnitOf};
 ghost use Rattle.trfc_protocol.specs.Worlds.{committed_unit};
 ghost use Rattle.unit_landscape.specs.declared.answers.Arrival.{Arrival as ArrivalOf};
 ghost use Rattle.unit_landscape.specs.Calls.{Arrived, stands_out};
 ghost use Rattle.model_rules.specs.Meaning.{model_meaning};
-ghost use Rattle.unit_works.specs.Claims.{AreOrGone};
 ghost use Rattle.unit_works.specs.Events.{is_arrival};
 ghost use Rattle.unit_works.specs.Finished.{finished_in};
-ghost use Rattle.unit_works.specs.Trips.{Wholly};
 ghost use Rattle.unit_works.specs.Worked.{Worked};
-ghost use Rattle.unit_works.specs.steps.Arriving.{ArrivedSo, BeginsNone, BeginsOn, BringsNothing, ClaimsCome, ClaimsLeft, is_twice};
+ghost use Rattle.unit_works.specs.steps.Arriving.{ArrivedSo, BeginsNone, BeginsOn, BringsNothing, ClaimsCome, is_twice};
 
 use crate::letters::is_twice;
 use ale_base::OutOfMemory;
@@ -31,11 +29,11 @@ pub(crate) fn arrive_under<V: Volumes>(
     requires stands { stands_out landscape.old.world claim.now ≡ true }
     ensures went { Worked V.faults landscape.old landscape.new is_arrival (is_ok result) }
     ensures finished { OnOk result (finished_in landscape.new.world ≡ finished_in landscape.old.world) }
-    ensures claims { IfOk result (ClaimsLeft landscape.new.world.claims landscape.old.world.claims) }
+    ensures claims { IfOk result (ClaimsCome landscape.old.world landscape.new.world) }
     ensures run { IfOk result (BeginsOn claim.now.tid) }
     ensures grew { IfOk result (λ given. (unit : UnitOf)
         → committed_unit (model_meaning landscape.old.world.rules.systems) landscape.old.world claim.now.tid ≡ Some unit
-        → ArrivedSo (model_meaning landscape.old.world.rules.systems) landscape.old.world landscape.new.world unit given) }
+        → ArrivedSo (model_meaning landscape.old.world.rules.systems) landscape.old landscape.new unit given) }
 {
     let unit = unit_of(landscape, claim)?;
     let first = arrive(landscape, claim, &unit)?;
@@ -67,9 +65,9 @@ fn arrive<V: Volumes>(
     ensures went { Worked V.faults landscape.old landscape.new is_arrival (is_ok result) }
     ensures finished { OnOk result (finished_in landscape.new.world ≡ finished_in landscape.old.world) }
     ensures arrived { IfOk result (Arrived (model_meaning landscape.old.world.rules.systems) V.faults landscape.old landscape.new unit.now) }
-    ensures claims { IfOk result (ClaimsCome landscape.old.world.claims landscape.new.world.claims) }
+    ensures claims { IfOk result (ClaimsCome landscape.old.world landscape.new.world) }
     ensures run { IfOk result (BeginsOn unit.now.tid) }
-    ensures grew { IfOk result (ArrivedSo (model_meaning landscape.old.world.rules.systems) landscape.old.world landscape.new.world unit.now) }
+    ensures grew { IfOk result (ArrivedSo (model_meaning landscape.old.world.rules.systems) landscape.old landscape.new unit.now) }
     ensures none { IfOk result (λ given. BringsNothing (model_meaning landscape.old.world.rules.systems) landscape.old.world claim.now unit.now
         → BeginsNone given) }
     ensures again { OnOk result (stands_out landscape.new.world claim.now ≡ true
@@ -90,8 +88,7 @@ fn arrive_again<V: Volumes>(
         → BringsNothing (model_meaning landscape.old.world.rules.systems) landscape.old.world claim.now unit.now }
     ensures went { Worked V.faults landscape.old landscape.new is_arrival (is_ok result) }
     ensures finished { OnOk result (finished_in landscape.new.world ≡ finished_in landscape.old.world) }
-    ensures claims { OnOk result (AreOrGone landscape.new.world.claims landscape.old.world.claims) }
-    ensures grew { OnOk result (Wholly landscape.old.world landscape.new.world [] × (landscape.new.world.claims ≡ landscape.old.world.claims)) }
+    ensures same { OnOk result (landscape.new ≡ landscape.old) }
     ensures arrived { OnOk result (is_twice letter ≡ true → stands_out landscape.old.world claim.now ≡ true
         → (given : ArrivalOf) × Arrived (model_meaning landscape.old.world.rules.systems) V.faults landscape.old landscape.new unit.now given) }
 {

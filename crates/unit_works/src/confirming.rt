@@ -39,7 +39,7 @@ pub fn confirm<V: Volumes>(landscape: &mut Landscape<V>, tid: Tid) -> Result<(),
         → landscape.new ≡ landscape.old }
     ensures due { (unit : AleUnit) → committed_unit (model_meaning landscape.old.world.rules.systems) landscape.old.world tid ≡ Some unit
         → is_due landscape.old.world unit ≡ true
-        → OnOk result (Appended landscape.old.world landscape.new.world (confirmation Whole (forgot landscape.old.world unit) unit)) }
+        → OnOk result (Appended landscape.old landscape.new (confirmation Whole (forgot landscape.old.world unit) unit)) }
 {
     let _ = landscape.world();
     if !landscape.is_unconfirmed(tid) {
@@ -55,7 +55,7 @@ fn confirm_done<V: Volumes>(landscape: &mut Landscape<V>, tid: Tid) -> Result<()
     ensures ended { OnOk result (HaveEnded V.faults landscape.old landscape.new 0) }
     ensures due { (unit : AleUnit) → committed_unit (model_meaning landscape.old.world.rules.systems) landscape.old.world tid ≡ Some unit
         → is_due landscape.old.world unit ≡ true
-        → OnOk result (Appended landscape.old.world landscape.new.world (confirmation Whole (forgot landscape.old.world unit) unit)) }
+        → OnOk result (Appended landscape.old landscape.new (confirmation Whole (forgot landscape.old.world unit) unit)) }
 {
     let confirmed = send(landscape, tid)?;
     match confirmed {
@@ -74,7 +74,7 @@ fn send<V: Volumes>(landscape: &mut Landscape<V>, tid: Tid) -> Result<Confirmed,
     ensures ended { OnOk result (HaveEnded V.faults landscape.old landscape.new 0) }
     ensures sent { (unit : AleUnit) → committed_unit (model_meaning landscape.old.world.rules.systems) landscape.old.world tid ≡ Some unit
         → is_up landscape.old.world unit.receiver ≡ true
-        → IfOk result (SentSo landscape.old.world landscape.new.world tid unit) }
+        → IfOk result (SentSo landscape.old landscape.new tid unit) }
     ensures forgets { IfOk result (Forgets (model_meaning landscape.new.world.rules.systems) landscape.new.world tid) }
 {
     let _ = landscape.world();
@@ -87,7 +87,7 @@ fn end<V: Volumes>(landscape: &mut Landscape<V>, tid: Tid) -> Result<Closed, Out
     ensures went { Worked V.faults landscape.old landscape.new is_confirmation (is_ok result) }
     ensures ended { OnOk result (HaveEnded V.faults landscape.old landscape.new 0) }
     ensures grew { is_up landscape.old.world tid.system ≡ true → is_listed tid (ended_in (log_of landscape.old.world tid.system)) ≡ false
-        → OnOk result (Appended landscape.old.world landscape.new.world (one_at tid.system (Ended tid))) }
+        → OnOk result (Appended landscape.old landscape.new (one_at tid.system (Ended tid))) }
 {
     let _ = landscape.world();
     landscape.ended(tid)
@@ -105,7 +105,7 @@ pub(crate) fn confirm_under<V: Volumes>(
         → landscape.new ≡ landscape.old }
     ensures due { (unit : AleUnit) → committed_unit (model_meaning landscape.old.world.rules.systems) landscape.old.world tid ≡ Some unit
         → is_due landscape.old.world unit ≡ true
-        → OnOk result (Appended landscape.old.world landscape.new.world
+        → OnOk result (Appended landscape.old landscape.new
         (if is_confirmed_under letter then confirmation Whole (forgot landscape.old.world unit) unit else [])) }
 {
     if !is_confirmed_under(letter) {
@@ -173,7 +173,7 @@ fn confirm_sent<V: Volumes>(
     ensures lost { is_sent_under letter ≡ false → landscape.new ≡ landscape.old }
     ensures due { (unit : AleUnit) → committed_unit (model_meaning landscape.old.world.rules.systems) landscape.old.world tid ≡ Some unit
         → is_due landscape.old.world unit ≡ true
-        → OnOk result (Appended landscape.old.world landscape.new.world (confirmation letter (forgot landscape.old.world unit) unit)) }
+        → OnOk result (Appended landscape.old landscape.new (confirmation letter (forgot landscape.old.world unit) unit)) }
 {
     if !is_sent_under(letter) {
         return Ok(());

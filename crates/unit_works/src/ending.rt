@@ -33,11 +33,11 @@ pub(crate) fn finish<V: Volumes>(
     ensures went { Worked V.faults landscape.old landscape.new is_end (is_ok result) }
     ensures finished { IfOk result (λ given. finished_in landscape.new.world ≡ finished_in landscape.old.world + ended_by given) }
     ensures claims { (others : List Held) → AreWith landscape.old.world.claims others claim
-        → IfOk result (λ given. AreOrGone landscape.new.world.claims others) }
+        → OnOk result (AreOrGone landscape.old.world landscape.new.world others) }
     ensures fewer { OnOk result (NoneAdded landscape.old.world.claims landscape.new.world.claims) }
     ensures stale { stands_in landscape.old.world claim ≡ false → OnOk result (landscape.new ≡ landscape.old) }
     ensures grew { (held : Held) → HoldsIn landscape.old.world claim held
-        → IfOk result (FinishedSo (model_meaning landscape.old.world.rules.systems) landscape.old.world landscape.new.world claim held) }
+        → IfOk result (FinishedSo (model_meaning landscape.old.world.rules.systems) landscape.old landscape.new claim held) }
 {
     let tid = claim.tid();
     let finished = finish_ready(alloc, landscape, claim, ready)?;
@@ -55,11 +55,11 @@ fn finish_ready<V: Volumes>(
     ensures went { Worked V.faults landscape.old landscape.new is_end (is_ok result) }
     ensures finished { IfOk result (λ given. finished_in landscape.new.world ≡ finished_in landscape.old.world + ended_by given) }
     ensures claims { (others : List Held) → AreWith landscape.old.world.claims others claim
-        → IfOk result (λ given. AreOrGone landscape.new.world.claims others) }
+        → OnOk result (AreOrGone landscape.old.world landscape.new.world others) }
     ensures fewer { OnOk result (NoneAdded landscape.old.world.claims landscape.new.world.claims) }
     ensures stale { stands_in landscape.old.world claim ≡ false → OnOk result (landscape.new ≡ landscape.old) }
     ensures grew { (held : Held) → HoldsIn landscape.old.world claim held
-        → IfOk result (FinishedSo (model_meaning landscape.old.world.rules.systems) landscape.old.world landscape.new.world claim held) }
+        → IfOk result (FinishedSo (model_meaning landscape.old.world.rules.systems) landscape.old landscape.new claim held) }
 {
     match ready {
         Some(prepared) => finish_with(landscape, claim, prepared),
@@ -76,11 +76,11 @@ fn finish_prepared<V: Volumes>(
     ensures went { Worked V.faults landscape.old landscape.new is_end (is_ok result) }
     ensures finished { IfOk result (λ given. finished_in landscape.new.world ≡ finished_in landscape.old.world + ended_by given) }
     ensures claims { (others : List Held) → AreWith landscape.old.world.claims others claim
-        → IfOk result (λ given. AreOrGone landscape.new.world.claims others) }
+        → OnOk result (AreOrGone landscape.old.world landscape.new.world others) }
     ensures fewer { OnOk result (NoneAdded landscape.old.world.claims landscape.new.world.claims) }
     ensures stale { stands_in landscape.old.world claim ≡ false → OnOk result (landscape.new ≡ landscape.old) }
     ensures grew { (held : Held) → HoldsIn landscape.old.world claim held
-        → IfOk result (FinishedSo (model_meaning landscape.old.world.rules.systems) landscape.old.world landscape.new.world claim held) }
+        → IfOk result (FinishedSo (model_meaning landscape.old.world.rules.systems) landscape.old landscape.new claim held) }
 {
     match prepared_for(alloc, landscape, claim.tid())? {
         None => Ok(not_finished(landscape, claim)),
@@ -92,7 +92,7 @@ fn finish_prepared<V: Volumes>(
 fn not_finished<V: Volumes>(landscape: &Landscape<V>, claim: InClaim) -> Finished
     requires down { IsDownFor (model_meaning landscape.now.world.rules.systems) landscape.now.world claim.tid }
     ensures finished { ended_by result ≡ 0 }
-    ensures claims { (others : List Held) → AreWith landscape.now.world.claims others claim → AreOrGone landscape.now.world.claims others }
+    ensures claims { (others : List Held) → AreWith landscape.now.world.claims others claim → ⊥ }
     ensures stands { (held : Held) → HoldsIn landscape.now.world claim held → ⊥ }
 {
     let _ = landscape.world();
@@ -110,11 +110,11 @@ fn finish_with<V: Volumes>(
     ensures went { Worked V.faults landscape.old landscape.new is_end (is_ok result) }
     ensures finished { IfOk result (λ given. finished_in landscape.new.world ≡ finished_in landscape.old.world + ended_by given) }
     ensures claims { (others : List Held) → AreWith landscape.old.world.claims others claim
-        → IfOk result (λ given. AreOrGone landscape.new.world.claims others) }
+        → OnOk result (AreOrGone landscape.old.world landscape.new.world others) }
     ensures fewer { OnOk result (NoneAdded landscape.old.world.claims landscape.new.world.claims) }
     ensures stale { stands_in landscape.old.world claim ≡ false → OnOk result (landscape.new ≡ landscape.old) }
     ensures grew { (held : Held) → HoldsIn landscape.old.world claim held
-        → IfOk result (FinishedSo (model_meaning landscape.old.world.rules.systems) landscape.old.world landscape.new.world claim held) }
+        → IfOk result (FinishedSo (model_meaning landscape.old.world.rules.systems) landscape.old landscape.new claim held) }
 {
     let _ = landscape.world();
     match landscape.finish(claim, prepared) {

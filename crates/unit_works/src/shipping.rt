@@ -69,9 +69,9 @@ pub fn claim_to_ship<V: Volumes>(
     landscape.claim_out(system)
 }
 
-/// Ships the unit of a claim whole under its next letter, with what was prepared of its documents, where the receiver runs it as it
-/// arrives; what was not prepared is then. None exactly where the claim does not stand, and then nothing has changed. How many runs ended.
-/// After an `Err` a part of it may have happened.
+/// Ships the unit of a claim under its next letter, as [`ship_next`] does. Where the receiver runs it as it arrives, the run takes what was
+/// prepared of its documents; what was not is prepared then. How many runs ended. None exactly where the claim does not stand, and then
+/// nothing has changed. After an `Err` a part of it may have happened.
 pub fn ship_claimed<V: Volumes>(
     alloc: Global,
     landscape: &mut Landscape<V>,
@@ -104,10 +104,10 @@ fn ship<V: Volumes>(
     ensures went { Worked V.faults landscape.old landscape.new (is_shipping letter) (is_ok result) }
     ensures finished { IfOk result (IsAnswered landscape.old.world landscape.new.world) }
     ensures claims { (others : List Held) → AreWithOut landscape.old.world.claims others claim
-        → OnOk result (AreOrGone landscape.new.world.claims others) }
+        → OnOk result (AreOrGone landscape.old.world landscape.new.world others) }
     ensures fewer { OnOk result (NoneAdded landscape.old.world.claims landscape.new.world.claims) }
     ensures grew { (unit : AleUnit) → committed_unit (model_meaning landscape.old.world.rules.systems) landscape.old.world claim.tid ≡ Some unit
-        → OnOk result (Appended landscape.old.world landscape.new.world
+        → OnOk result (Appended landscape.old landscape.new
         (shipment letter (answer_to (model_meaning landscape.old.world.rules.systems) landscape.old.world unit) unit)) }
 {
     let _ = landscape.world();

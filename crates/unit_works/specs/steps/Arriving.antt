@@ -9,6 +9,7 @@ use Rattle.trfc_protocol.specs.declared.world.World.{World}
 use Rattle.trfc_protocol.specs.Meaning.{Meaning}
 use Rattle.trfc_protocol.specs.Offered.{answer_to}
 use Rattle.trfc_protocol.specs.Worlds.{claim_of, committed_unit}
+use Rattle.kept_world.specs.Kept.{KeptOf}
 use Rattle.unit_landscape.specs.declared.answers.Arrival.{Arrival}
 use Rattle.unit_landscape.specs.declared.answers.Arrival.TheVariants.{New, Run, Known, Busy, SysFail, Down}
 use Rattle.unit_landscape.specs.declared.claims.InClaim.{InClaim}
@@ -33,29 +34,20 @@ use Rattle.unit_works.specs.Claims.{AreOrGone}
 use Rattle.unit_works.specs.Events.{arrives_under}
 use Rattle.unit_works.specs.Trips.{Wholly, back_of, one_at, taken_in}
 use Rattle.unit_works.specs.Finished.{finished_in}
-use Rattle.unit_works.specs.steps.Claims.{AreWith, WasCut}
+use Rattle.unit_works.specs.steps.Claims.{WasCut}
 
 -- a claim to run a unit as it arrives, as a world keeps it
 abbrev pub run_held : InClaim → Held
 run_held claim = record { number = claim.number; tid = claim.tid; system = claim.system; kind = Direct }
 
 -- an arrival adds the claim of the run that it begins, whose number is new, and no other
-abbrev pub ClaimsCome : List Held → List Held → Arrival → Type 0
-ClaimsCome before after (Run claim) = (after ≡ before ++ run_held claim ∷ []) × (claim_of claim.number before ≡ None)
-ClaimsCome before after (New receipt) = AreOrGone after before
-ClaimsCome before after (Known receipt) = AreOrGone after before
-ClaimsCome before after Busy = AreOrGone after before
-ClaimsCome before after SysFail = AreOrGone after before
-ClaimsCome before after Down = AreOrGone after before
-
--- the claims that are left of an arrival: that of the run that it begins beside those before, and no other
-abbrev pub ClaimsLeft : List Held → List Held → Arrival → Type 0
-ClaimsLeft claims others (Run claim) = AreWith claims others claim
-ClaimsLeft claims others (New receipt) = AreOrGone claims others
-ClaimsLeft claims others (Known receipt) = AreOrGone claims others
-ClaimsLeft claims others Busy = AreOrGone claims others
-ClaimsLeft claims others SysFail = AreOrGone claims others
-ClaimsLeft claims others Down = AreOrGone claims others
+abbrev pub ClaimsCome : {R : Type 0} → World R → World R → Arrival → Type 0
+ClaimsCome before after (Run claim) = (after.claims ≡ before.claims ++ run_held claim ∷ []) × (claim_of claim.number before.claims ≡ None)
+ClaimsCome before after (New receipt) = AreOrGone before after before.claims
+ClaimsCome before after (Known receipt) = AreOrGone before after before.claims
+ClaimsCome before after Busy = AreOrGone before after before.claims
+ClaimsCome before after SysFail = AreOrGone before after before.claims
+ClaimsCome before after Down = AreOrGone before after before.claims
 
 -- an arrival begins no run
 abbrev pub BeginsNone : Arrival → Type 0
@@ -125,9 +117,10 @@ pub record HasArrived {R : Type 0} (rules : Meaning) (before after : World R) (u
   pub claims : ClaimsAre after.claims before.claims given
 
 -- a unit arrived, or its receiver fell as it was to take it in: nothing comes back
-abbrev pub ArrivedSo : {R : Type 0} → Meaning → World R → World R → AleUnit → Arrival → Type 0
+abbrev pub ArrivedSo : {R A V : Type 0} → Meaning → KeptOf R A V → KeptOf R A V → AleUnit → Arrival → Type 0
 ArrivedSo rules before after unit given =
-    HasArrived rules before after unit given ⊎ (WasCut before after (accepted (answer_to rules before unit) unit) × (given ≡ Down))
+    HasArrived rules before.world after.world unit given
+    ⊎ (WasCut before after (accepted (answer_to rules before.world unit) unit) × (given ≡ Down))
 
 -- a reply says what came back of a unit
 abbrev pub Says : Option CoreAnswer → TidOf → Reply → Type 0
@@ -144,8 +137,9 @@ pub record HasAnswered {R : Type 0} (before after : World R) (unit : AleUnit) (g
   pub says : Says (back_of given) unit.tid told
 
 -- the same, or its receiver fell as the run was to end
-abbrev pub AnsweredSo : {R : Type 0} → World R → World R → AleUnit → Answer → List Held → Reply → Type 0
-AnsweredSo before after unit given others told = HasAnswered before after unit given others told ⊎ WasCut before after (run_of given unit)
+abbrev pub AnsweredSo : {R A V : Type 0} → KeptOf R A V → KeptOf R A V → AleUnit → Answer → List Held → Reply → Type 0
+AnsweredSo before after unit given others told =
+    HasAnswered before.world after.world unit given others told ⊎ WasCut before after (run_of given unit)
 
 -- which event it is that a sender learns so much
 abbrev pub event_of : Option CoreAnswer → ℕ → Event
@@ -168,6 +162,6 @@ pub record HasDelivered {R : Type 0} (rules : Meaning) (before after : World R) 
   pub event : reply_event rules after claim told ≡ event_of (back_under letter given) claim.number
 
 -- the same, or its receiver fell as it was to append one of these records
-abbrev pub DeliveredSo : {R : Type 0} → Meaning → World R → World R → OutClaim → AleUnit → Letter → Answer → Reply → Type 0
+abbrev pub DeliveredSo : {R A V : Type 0} → Meaning → KeptOf R A V → KeptOf R A V → OutClaim → AleUnit → Letter → Answer → Reply → Type 0
 DeliveredSo rules before after claim unit letter given told =
-    HasDelivered rules before after claim unit letter given told ⊎ WasCut before after (delivery letter given unit)
+    HasDelivered rules before.world after.world claim unit letter given told ⊎ WasCut before after (delivery letter given unit)

@@ -7,6 +7,7 @@ use Rattle.trfc_protocol.specs.declared.world.World.{World}
 use Rattle.trfc_protocol.specs.RecordOf.{Writing}
 use Rattle.trfc_protocol.specs.Meaning.{Meaning}
 use Rattle.trfc_protocol.specs.Worlds.{committed_unit}
+use Rattle.kept_world.specs.Kept.{KeptOf}
 use Rattle.unit_landscape.specs.declared.answers.Confirmed.{Confirmed}
 use Rattle.unit_landscape.specs.declared.answers.Confirmed.TheVariants.{Forgotten, Already, Down}
 use Rattle.unit_landscape.specs.Calls.{is_forgotten}
@@ -29,9 +30,10 @@ pub record HasSent {R : Type 0} (before after : World R) (tid : TidOf) (unit : A
   pub came : given ≡ Down → ⊥
 
 -- the same, or the receiver fell as it was to forget the id: nothing comes back
-abbrev pub SentSo : {R : Type 0} → World R → World R → TidOf → AleUnit → Confirmed → Type 0
+abbrev pub SentSo : {R A V : Type 0} → KeptOf R A V → KeptOf R A V → TidOf → AleUnit → Confirmed → Type 0
 SentSo before after tid unit given =
-    HasSent before after tid unit given ⊎ (AppendedAs before after (sent_to (forgot before unit) unit) false × (given ≡ Down))
+    HasSent before.world after.world tid unit given
+    ⊎ (AppendedAs before after (sent_to (forgot before.world unit) unit) false × (given ≡ Down))
 
 -- a unit was committed, and its confirmation is due
 pub record IsDueOf {R : Type 0} (rules : Meaning) (world : World R) (tid : TidOf) : Type 0 where

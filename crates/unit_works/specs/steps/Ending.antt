@@ -10,6 +10,7 @@ use Rattle.trfc_protocol.specs.declared.held.HeldKind.TheVariants as kind
 use Rattle.trfc_protocol.specs.declared.world.World.{World}
 use Rattle.trfc_protocol.specs.Offered.{offers_received_now}
 use Rattle.trfc_protocol.specs.RecordOf.{Writing}
+use Rattle.kept_world.specs.Kept.{KeptOf}
 use Rattle.unit_landscape.specs.declared.claims.InClaim.{InClaim}
 use Rattle.unit_works.specs.Trips.{Wholly, execution, one_at}
 use Rattle.unit_works.specs.steps.Claims.{WasCut}
@@ -61,6 +62,7 @@ pub record HasFinished {R : Type 0} (rules : Meaning) (before after : World R) (
   pub ended : ended_by given ≡ 1
 
 -- the same, or its system fell as it was to append that it did
-abbrev pub FinishedSo : {R : Type 0} → Meaning → World R → World R → InClaim → Held → Finished → Type 0
+abbrev pub FinishedSo : {R A V : Type 0} → Meaning → KeptOf R A V → KeptOf R A V → InClaim → Held → Finished → Type 0
 FinishedSo rules before after claim held given =
-    HasFinished rules before after claim held given ⊎ (WasCut before after (worked_by rules before held held.kind) × (ended_by given ≡ 0))
+    HasFinished rules before.world after.world claim held given
+    ⊎ (WasCut before after (worked_by rules before.world held held.kind) × (ended_by given ≡ 0))

@@ -9,8 +9,7 @@ pub work-drained-requires-clause-bare : goal.work-drained-requires-clause-bare
 work-drained-requires-clause-bare g c = λ lives outlive.
     let visited = c.in-Ok.ensures in
     let worked = visited.worked in
-    let ended = worked.ended in
-    none-left c.confirm_all.new.landscape.world.claims c.revoke.new.self.world.claims ended.claims
+    none-left c.confirm_all.new.landscape.world.claims c.revoke.new.self.world.claims worked.claims
     (revoked-none g.V.Volumes.faults c.args.landscape c.revoke.new.self c.world.ensures.safe c.revoke.ensures.event)
 
 pub returns-in-Ok : goal.returns-in-Ok

@@ -1,7 +1,7 @@
 use Rattle.std.proofs.Common.{true, refl, subst}
 use Rattle.unit_works.specs.Events.{is_end}
 use Rattle.unit_works.specs.steps.Arriving.{ClaimsAre, Tells, run_held}
-use Rattle.unit_works.proofs.TripLemmas.{answered-run, run-holds}
+use Rattle.unit_works.proofs.TripLemmas.{answered-run, run-holds, run-with}
 use Rattle.unit_works.proofs.WorkedLemmas.{meaning, still}
 use Rattle.unit_works.proofs.answering.answer_of.Goals as goal
 
@@ -24,8 +24,13 @@ pub returns-in_ok-finished-in-Run-clause-grew : goal.returns-in_ok-finished-in-R
 returns-in_ok-finished-in-Run-clause-grew g c = λ unit given others named tells claims.
     let told = subst (Tells given unit) c.in-Run.is tells in
     let are = subst (ClaimsAre c.args.landscape.now.world.claims others) c.in-Run.is claims in
-    answered-run (meaning c.args.landscape.now.world.rules) c.args.landscape.now.world unit given others c.in-Run.claim told are named
-    c.finish.new.landscape.world c.in_ok-finished-in-Run.finished c.after_run.result.given
+    answered-run (meaning c.args.landscape.now.world.rules) c.args.landscape.now unit given others c.in-Run.claim told are named
+    c.finish.new.landscape c.in_ok-finished-in-Run.finished c.after_run.result.given
     (c.in_ok-finished-in-Run.ensures.grew (run_held c.in-Run.claim)
-    (run-holds (meaning c.args.landscape.now.world.rules) c.args.landscape.now.world unit given others c.in-Run.claim told are))
+    (run-holds (meaning c.args.landscape.now.world.rules) c.args.landscape.now unit given others c.in-Run.claim told are))
     c.after_run.ensures.says
+
+pub returns-in_ok-finished-in-Run-clause-claims : goal.returns-in_ok-finished-in-Run-clause-claims
+returns-in_ok-finished-in-Run-clause-claims g c = λ others claims.
+    let are = subst (ClaimsAre c.args.landscape.now.world.claims others) c.in-Run.is claims in
+    c.in_ok-finished-in-Run.ensures.claims others (run-with c.args.landscape.now.world others c.in-Run.claim are)

@@ -3,7 +3,7 @@ use Rattle.std.proofs.Common.{true, false, refl, sym, ◌∙◌}
 use Rattle.unit_works.specs.declared.answering.Answered.{Answered}
 use Rattle.unit_works.specs.Events.{is_arrival, is_delivery, is_end}
 use Rattle.unit_works.proofs.PreparedLemmas.{ready-arrived}
-use Rattle.unit_works.proofs.WorkedLemmas.{arrival-delivers, delivered, end-delivers, on, short-of, still, wider}
+use Rattle.unit_works.proofs.WorkedLemmas.{arrival-delivers, come-answered, delivered, end-delivers, on, short-of, still, wider}
 use Rattle.unit_works.proofs.answering.deliver.Goals as goal
 
 pub returns-in_err-arrival-clause-went : goal.returns-in_err-arrival-clause-went
@@ -30,6 +30,11 @@ returns-clause-grew g c =
     c.in_ok-arrival.arrival c.answer_of.result (λ (answered : Answered). answered.given) c.world.ensures.safe
     (sym c.arrives_under.ensures ∙ c.if-not-arrives_under.false) c.in_ok-arrival.ensures.went c.answer_of.ensures.went c.in_ok-arrival.ensures.grew
     c.answer_of.ensures.grew c.answer_of.ensures.idle
+
+pub returns-clause-claims : goal.returns-clause-claims
+returns-clause-claims g c =
+    come-answered g.V.Volumes.faults is_arrival is_end c.args.landscape.now c.arrive_under.new.landscape c.answer_of.new.landscape c.in_ok-arrival.arrival
+    c.answer_of.result c.in_ok-arrival.ensures.went c.answer_of.ensures.went c.in_ok-arrival.ensures.claims c.answer_of.ensures.claims
 
 pub answer_of-requires : goal.answer_of-requires
 answer_of-requires g c =

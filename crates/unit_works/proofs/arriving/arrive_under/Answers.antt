@@ -1,10 +1,13 @@
 use Rattle.std.specs.Result.{is_ok}
-use Rattle.std.proofs.Common.{true, false, refl, subst}
+use Rattle.std.proofs.Common.{true, false, refl, sym, subst}
 use Rattle.unit_core.proofs.TidLemmas.{unit_named-Some}
 use Rattle.trfc_protocol.specs.Worlds.{committed_by}
+use Rattle.kept_world.specs.Kept.{KeptOf}
+use Rattle.document_tables.specs.declared.document_tables.DocumentTables.{DocumentTables}
+use Rattle.model_rules.specs.declared.model_rules.ModelRules.{ModelRules}
 use Rattle.unit_works.specs.Events.{is_arrival}
-use Rattle.unit_works.specs.steps.Arriving.{BeginsOn}
-use Rattle.unit_works.proofs.WorkedLemmas.{arrived-on, left-on, meaning, on, short-of, still}
+use Rattle.unit_works.specs.steps.Arriving.{BeginsOn, ClaimsCome}
+use Rattle.unit_works.proofs.WorkedLemmas.{arrived-on, meaning, on, short-of, still}
 use Rattle.unit_works.proofs.arriving.arrive_under.Goals as goal
 
 pub returns-in_err-arrive_again-clause-went : goal.returns-in_err-arrive_again-clause-went
@@ -21,8 +24,8 @@ returns-clause-went g c =
 
 pub returns-clause-claims : goal.returns-clause-claims
 returns-clause-claims g c =
-    left-on c.in_ok-first.first c.args.landscape.now.world.claims c.arrive.new.landscape.world.claims c.arrive_again.new.landscape.world.claims
-    c.in_ok-first.ensures.claims c.in_ok-arrive_again.ensures.claims
+    subst (λ (k : KeptOf ModelRules DocumentTables g.row.V.Denot). ClaimsCome c.args.landscape.now.world k.world c.in_ok-first.first)
+    (sym c.in_ok-arrive_again.ensures.same) c.in_ok-first.ensures.claims
 
 pub returns-in_err-unit-clause-went : goal.returns-in_err-unit-clause-went
 returns-in_err-unit-clause-went g c = still g.V.Volumes.faults is_arrival (is_ok c.from_residual.result) c.args.landscape.now c.args.landscape.now refl
@@ -31,7 +34,7 @@ pub returns-clause-grew : goal.returns-clause-grew
 returns-clause-grew g c =
     arrived-on g.V.Volumes.faults c.args.landscape.now c.arrive.new.landscape c.arrive_again.new.landscape c.args.claim.now.tid c.in_ok-unit.unit
     c.in_ok-first.first c.in_ok-unit.ensures c.in_ok-first.ensures.grew
-    c.in_ok-arrive_again.ensures.grew
+    c.in_ok-arrive_again.ensures.same
 
 pub returns-clause-run : goal.returns-clause-run
 returns-clause-run g c =

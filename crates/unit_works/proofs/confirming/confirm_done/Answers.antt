@@ -18,8 +18,8 @@ returns-in_ok-_closed-in-Forgotten-clause-went g c =
 
 pub returns-in_ok-_closed-in-Forgotten-clause-ended : goal.returns-in_ok-_closed-in-Forgotten-clause-ended
 returns-in_ok-_closed-in-Forgotten-clause-ended g c =
-    ended-on g.V.Volumes.faults c.args.landscape.now c.send.new.landscape c.end.new.landscape 0 0 c.in_ok-confirmed.ensures.ended
-    c.in_ok-_closed-in-Forgotten.ensures.ended
+    ended-on g.V.Volumes.faults is_confirmation c.args.landscape.now c.send.new.landscape c.end.new.landscape 0 0 c.in_ok-confirmed.ensures.went
+    c.in_ok-_closed-in-Forgotten.ensures.went c.in_ok-confirmed.ensures.ended c.in_ok-_closed-in-Forgotten.ensures.ended
 
 pub returns-in_ok-_closed-in-Forgotten-clause-due : goal.returns-in_ok-_closed-in-Forgotten-clause-due
 returns-in_ok-_closed-in-Forgotten-clause-due g c = λ unit named due.

@@ -11,6 +11,6 @@ returns-then-not-is_sent_under-clause-went g c = still g.V.Volumes.faults is_con
 
 pub returns-clause-due : goal.returns-clause-due
 returns-clause-due g c = λ unit named due.
-    subst (λ b. OnOk c.confirm.result (Appended c.args.landscape.now.world c.confirm.new.landscape.world
+    subst (λ b. OnOk c.confirm.result (Appended c.args.landscape.now c.confirm.new.landscape
     (cond b (confirmation Whole (forgot c.args.landscape.now.world unit) unit) [])))
     (sym (sym c.is_sent_under.ensures ∙ c.if-not-is_sent_under.false)) (c.confirm.ensures.due unit named due)

@@ -9,3 +9,6 @@ returns-in-None-clause-went g c = still g.V.Volumes.faults is_end true c.args.la
 
 pub returns-in_err-prepared_for-clause-went : goal.returns-in_err-prepared_for-clause-went
 returns-in_err-prepared_for-clause-went g c = still g.V.Volumes.faults is_end (is_ok c.from_residual.result) c.args.landscape.now c.args.landscape.now refl
+
+pub returns-in-None-clause-claims : goal.returns-in-None-clause-claims
+returns-in-None-clause-claims g c = λ others with. absurd (c.not_finished.ensures.claims others with)

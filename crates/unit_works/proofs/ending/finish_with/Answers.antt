@@ -25,13 +25,14 @@ returns-in-Ok-clause-finished g c =
 
 pub returns-in-Ok-clause-claims : goal.returns-in-Ok-clause-claims
 returns-in-Ok-clause-claims g c = λ others with.
-    subst (λ r. IfOk (ended_of r) (λ given. AreOrGone c.finish.new.self.world.claims others)) c.in-Ok.is
+    subst (λ r. IfOk (ended_of r) (λ given. AreOrGone c.args.landscape.now.world c.finish.new.self.world others)) c.in-Ok.is
     (claims-finished meaning is_lawful c.args.landscape.now c.world.ensures.safe c.args.claim g.V.Volumes.faults c.finish.new.self c.finish.result
     c.finish.ensures.ends others with)
 
 pub returns-in-Err-Stale-clause-claims : goal.returns-in-Err-Stale-clause-claims
 returns-in-Err-Stale-clause-claims g c = λ others with.
-    subst (λ r. IfOk (ended_of r) (λ given. AreOrGone c.finish.new.self.world.claims others)) (c.in-Err-Stale.is ∙ ap Err c.in-Err-Stale.field-0-is)
+    subst (λ r. IfOk (ended_of r) (λ given. AreOrGone c.args.landscape.now.world c.finish.new.self.world others))
+    (c.in-Err-Stale.is ∙ ap Err c.in-Err-Stale.field-0-is)
     (claims-finished meaning is_lawful c.args.landscape.now c.world.ensures.safe c.args.claim g.V.Volumes.faults c.finish.new.self c.finish.result
     c.finish.ensures.ends others with)
 
@@ -42,15 +43,14 @@ returns-in-Err-OutOfMemory-clause-went g c =
 
 pub returns-in-Ok-clause-grew : goal.returns-in-Ok-clause-grew
 returns-in-Ok-clause-grew g c = λ held holds.
-    subst (λ r. IfOk (ended_of r) (FinishedSo (meaning c.args.landscape.now.world.rules) c.args.landscape.now.world c.finish.new.self.world
-    c.args.claim held)) c.in-Ok.is
+    subst (λ r. IfOk (ended_of r) (FinishedSo (meaning c.args.landscape.now.world.rules) c.args.landscape.now c.finish.new.self c.args.claim held)) c.in-Ok.is
     (has-finished meaning is_lawful c.args.landscape.now c.world.ensures.safe c.args.claim g.V.Volumes.faults c.finish.new.self held holds c.finish.result
     c.finish.ensures.ends)
 
 pub returns-in-Err-Stale-clause-grew : goal.returns-in-Err-Stale-clause-grew
 returns-in-Err-Stale-clause-grew g c = λ held holds.
-    subst (λ r. IfOk (ended_of r) (FinishedSo (meaning c.args.landscape.now.world.rules) c.args.landscape.now.world c.finish.new.self.world
-    c.args.claim held)) (c.in-Err-Stale.is ∙ ap Err c.in-Err-Stale.field-0-is)
+    subst (λ r. IfOk (ended_of r) (FinishedSo (meaning c.args.landscape.now.world.rules) c.args.landscape.now c.finish.new.self c.args.claim held))
+    (c.in-Err-Stale.is ∙ ap Err c.in-Err-Stale.field-0-is)
     (has-finished meaning is_lawful c.args.landscape.now c.world.ensures.safe c.args.claim g.V.Volumes.faults c.finish.new.self held holds c.finish.result
     c.finish.ensures.ends)
 
