@@ -1,29 +1,17 @@
 //! The program: the top call over the current folder and standard output.
 //!
-//! Contract: the adapters meet the traits of files, sink, volumes and clock, so what is proved of the top call holds of
-//! the program as far as they tell. They tell no contents and no moments: nothing is claimed of a real disk, of standard
-//! output or of the system's clock.
+//! Contract: what is proved of the top call holds of the program as far as the adapters of `ale_os` tell. They tell no
+//! contents and no moments: nothing is claimed of a real disk, of standard output or of the system's clock.
 #![tactic(auto)]
-
-mod dir_files;
-mod file_volumes;
-mod open_file;
-mod open_volumes;
-mod std_sink;
-mod volume_file;
-mod wall_clock;
 
 use ale_host::{aleflow, out_of_memory};
 use ale_io::OpenGate;
-use dir_files::DirFiles;
-use file_volumes::FileVolumes;
+use ale_os::{DirFiles, FileVolumes, StdSink, WallClock};
 use std::alloc::Global;
 use std::env::Env;
 use std::io::ErrorKind;
 use std::process::ExitCode;
 use std::{env, io};
-use std_sink::StdSink;
-use wall_clock::WallClock;
 
 /// The words behind the program's name.
 fn words(rt: &(impl Env + AllocGlobal), alloc: Global) -> io::Result<Vec<String>> {
@@ -43,7 +31,7 @@ fn main(rt: HostRuntime) -> ExitCode {
     };
     let mut files = DirFiles::new(&rt, alloc);
     let mut clock = WallClock::new(&rt);
-    let vols = FileVolumes::new(&rt);
+    let vols = FileVolumes::new(&rt, alloc);
     let ended = aleflow(
         &rt,
         alloc,
@@ -56,6 +44,3 @@ fn main(rt: HostRuntime) -> ExitCode {
     );
     ExitCode::from(ended.status)
 }
-
-#[cfg(test)]
-mod tests;

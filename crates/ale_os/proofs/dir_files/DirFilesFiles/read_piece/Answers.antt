@@ -3,7 +3,7 @@ use Rattle.std.specs.Prelude.{replicate}
 use Rattle.std.proofs.Math.Seq.{drop-append_seam}
 use Rattle.std.proofs.lemmas.List.{length-append, length-replicate, length-drop, take-append-drop, take_all, nil_from_length}
 use Rattle.ale_io.specs.Piece.{IsPiece}
-use Rattle.aleflow.proofs.dir_files.DirFilesFiles.read_piece.Goals as goal
+use Rattle.ale_os.proofs.dir_files.DirFilesFiles.read_piece.Goals as goal
 
 -- some bytes are a piece of those that have others before them
 behind : (n : ℕ) (piece : List ℕ) → drop n (replicate n 0 ++ piece) ≡ piece

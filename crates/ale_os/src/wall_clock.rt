@@ -14,8 +14,10 @@ pub struct WallClock<'a, R: rt::Clock> {
 }
 
 impl<'a, R: rt::Clock> WallClock<'a, R> {
-    /// The clock of this system.
-    pub fn new(rt: &'a R) -> WallClock<'a, R> {
+    /// The clock of this system. It tells nothing.
+    pub fn new(rt: &'a R) -> WallClock<'a, R>
+        ensures { ¬ ⟦<WallClock<'a, R> as Clock>⟧.told result }
+    {
         WallClock { rt }
     }
 }

@@ -7,6 +7,7 @@ use crate::open_volumes::OpenVolumes;
 use crate::volume_file;
 use crate::volume_file::open_volume;
 use ale_volumes::{VolumeEnd, VolumeFailed, Volumes};
+use std::alloc::Global;
 use std::rt;
 
 /// Sixteen volumes in the files `vol00` to `vol15` of the folder `aleflow.journal`, which is in the current folder. It
@@ -23,18 +24,17 @@ pub struct FileVolumes<'a, R: rt::Files> {
 
 impl<'a, R: rt::Files> FileVolumes<'a, R> {
     /// No file is open, and no call has failed yet. It takes no memory, and touches no file.
-    pub fn new(rt: &'a R) -> FileVolumes<'a, R>
+    pub fn new(rt: &'a R, alloc: Global) -> FileVolumes<'a, R>
         ensures { (n : ℕ) → n < 16 → ⟦<FileVolumes<'a, R> as Volumes>⟧.faults result n ≡ 0 }
     {
         FileVolumes {
             rt,
-            open: OpenVolumes::none(),
+            open: OpenVolumes::none(alloc),
             faults: [0; 16],
         }
     }
 
     /// How many calls on a volume have failed.
-    #[cfg(test)]
     pub fn faults(&self, n: u8) -> u64
         requires { n < 16 }
         ensures { result ≡ ⟦<FileVolumes<'a, R> as Volumes>⟧.faults self.now n }

@@ -21,8 +21,9 @@ impl<W: Write> StdSink<W> {
     }
 
     /// What it writes to.
-    #[cfg(test)]
-    pub fn writer(&self) -> &W {
+    pub fn writer(&self) -> &W
+        ensures { result.now ≡ self.now.out }
+    {
         &self.out
     }
 }

@@ -1,7 +1,7 @@
 use Rattle.std.proofs.Common.{◌+◌, ◌≤◌, ◌++◌, length, drop, sym, ap, ◌∙◌, arith}
 use Rattle.std.specs.Prelude.{replicate}
 use Rattle.std.proofs.lemmas.List.{length-replicate, length-drop, take-append-drop}
-use Rattle.aleflow.proofs.dir_files.DirFilesFiles.read_file.Goals as goal
+use Rattle.ale_os.proofs.dir_files.DirFilesFiles.read_file.Goals as goal
 
 -- the bytes behind those that were there
 pub returns-in-Ok-clause-read : goal.returns-in-Ok-clause-read

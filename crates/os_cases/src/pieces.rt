@@ -1,0 +1,76 @@
+//! Files that are read whole, and in pieces.
+
+ghost use Rattle.std.specs.Prelude.{◌≤◌};
+
+use crate::call_end::{Broken, CallEnd};
+use crate::paths::path_of;
+use crate::text::two_lines;
+use ale_io::{FileEnd, Files};
+use case_form::{first_word, number_of};
+use std::alloc::Global;
+
+/// What is there before a read appends to it.
+const SO_FAR: &[u8] = b"so far ";
+
+/// `read LIMIT PATH`: the file is read whole, behind what is there before. It tells how that ended and what is there then.
+pub(crate) fn read<F: Files>(
+    alloc: Global,
+    files: &mut F,
+    rest: &[u8],
+) -> Result<Vec<u8>, CallEnd> {
+    let (limit, path) = first_word(rest);
+    let limit = number_of(limit)?;
+    let path = path_of(path)?;
+    let mut into = Vec::from_slice(alloc, SO_FAR)?;
+    match files.read_file(path, limit as usize, &mut into) {
+        Ok(()) => Ok(two_lines(alloc, "read", into.as_slice())?),
+        Err(end) => Ok(two_lines(alloc, name_of(end), into.as_slice())?),
+    }
+}
+
+/// `piece AT MOST PATH`: a piece of the file is read, behind what is there before.
+pub(crate) fn piece<F: Files>(
+    alloc: Global,
+    files: &mut F,
+    rest: &[u8],
+) -> Result<Vec<u8>, CallEnd> {
+    let (at, rest) = first_word(rest);
+    let (most, path) = first_word(rest);
+    let at = number_of(at)?;
+    let most = number_of(most)?;
+    let path = path_of(path)?;
+    if most == 0 {
+        return Err(Broken::Piece.into());
+    }
+    read_piece(alloc, files, path, at, most)
+}
+
+/// A piece of a file, behind what is there before.
+fn read_piece<F: Files>(
+    alloc: Global,
+    files: &mut F,
+    path: &str,
+    at: u32,
+    most: u32,
+) -> Result<Vec<u8>, CallEnd>
+    requires { 1 ≤ most }
+{
+    let mut into = Vec::from_slice(alloc, SO_FAR)?;
+    match files.read_piece(path, u64::from(at), most as usize, &mut into) {
+        Ok(count) if into.len() == SO_FAR.len().saturating_add(count) => {
+            Ok(two_lines(alloc, "read", into.as_slice())?)
+        }
+        Ok(_) => Ok(two_lines(alloc, "miscounted", into.as_slice())?),
+        Err(end) => Ok(two_lines(alloc, name_of(end), into.as_slice())?),
+    }
+}
+
+/// The name of an end, as cases have it.
+fn name_of(end: FileEnd) -> &'static str {
+    match end {
+        FileEnd::Missing => "missing",
+        FileEnd::TooLong => "too long",
+        FileEnd::Failed => "failed",
+        FileEnd::OutOfMemory => "out of memory",
+    }
+}

@@ -1,0 +1,25 @@
+//! What is told of a call.
+
+use ale_base::OutOfMemory;
+use std::alloc::Global;
+
+/// A line of a text.
+pub(crate) fn line(alloc: Global, text: &str) -> Result<Vec<u8>, OutOfMemory> {
+    let mut line = Vec::from_slice(alloc, text.as_bytes())?;
+    line.push(b'\n')?;
+    Ok(line)
+}
+
+/// A number, in a line of its own.
+pub(crate) fn number_line(alloc: Global, number: u64) -> Result<Vec<u8>, OutOfMemory> {
+    let text = format!(in alloc; "{number}\n")?;
+    Ok(Vec::from_slice(alloc, text.as_bytes())?)
+}
+
+/// Two lines: how a call ended, and bytes.
+pub(crate) fn two_lines(alloc: Global, how: &str, bytes: &[u8]) -> Result<Vec<u8>, OutOfMemory> {
+    let mut told = line(alloc, how)?;
+    told.extend_from_slice(bytes)?;
+    told.push(b'\n')?;
+    Ok(told)
+}
