@@ -1,4 +1,4 @@
--- How far a file was read in pieces.
+-- How far a file was read in pieces. Only private functions cite it; what it serves is `EndsPass`.
 use Rattle.std.specs.Prelude.{◌≡◌, ℕ, List, [], length, take, ⊤}
 use Rattle.ale_io.specs.Told.{Told, untold, no_file, file, MayHold}
 use Rattle.idoc_file.specs.declared.reader.Reader.{Reader}

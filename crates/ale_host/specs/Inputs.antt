@@ -35,25 +35,6 @@ EndsUnread most told faults Failed = faults
 abbrev pub IsUnread : ℕ → List ℕ → Told → Type 0 → List ℕ → NotRead → Type 0
 IsUnread most name told faults its_name why = (its_name ≡ name) × EndsUnread most told faults why
 
--- such a file ends the run, or memory ran out
-abbrev pub IsUnreadEnd : ℕ → List ℕ → Told → Type 0 → Ending → Type 0
-IsUnreadEnd most name told faults (ending.Unread its_name why) = IsUnread most name told faults its_name why
-IsUnreadEnd most name told faults ending.OutOfMemory = ⊤
-IsUnreadEnd most name told faults _ = ⊥
-
--- the ending is that of a file of this name that was not read for this cause, or memory ran out
-abbrev pub IsUnreadBecause : List ℕ → NotRead → Ending → Type 0
-IsUnreadBecause name why (ending.Unread its_name its_why) = (its_name ≡ name) × (its_why ≡ why)
-IsUnreadBecause name why ending.OutOfMemory = ⊤
-IsUnreadBecause name why _ = ⊥
-
--- the same of the answer of a read
-abbrev pub IsUnreadSo : List ℕ → FileEnd → Ending → Type 0
-IsUnreadSo name file_end.Missing end = IsUnreadBecause name Missing end
-IsUnreadSo name file_end.TooLong end = IsUnreadBecause name TooLong end
-IsUnreadSo name file_end.Failed end = IsUnreadBecause name Failed end
-IsUnreadSo name file_end.OutOfMemory end = end ≡ ending.OutOfMemory
-
 -- the file says this model
 abbrev pub SaysModelFile : Told → Lists → Type 0
 SaysModelFile told lists = (bytes : List ℕ) × IsFileWithin model.MAX_BYTES told bytes × (answer_to bytes ≡ Ok lists)
@@ -103,3 +84,24 @@ EndsBehindModel told faults documents script end =
 abbrev pub EndsRun : (List ℕ → Told) → Type 0 → List ℕ → List ℕ → List ℕ → Ending → Type 0
 EndsRun told faults model documents script end =
     StopsAtModel model (told model) faults end ⊎ ((lists : Lists) × SaysModelFile (told model) lists × EndsBehindModel told faults documents script end)
+
+-- ---- what only private functions cite
+
+-- such a file ends the run, or memory ran out
+abbrev pub IsUnreadEnd : ℕ → List ℕ → Told → Type 0 → Ending → Type 0
+IsUnreadEnd most name told faults (ending.Unread its_name why) = IsUnread most name told faults its_name why
+IsUnreadEnd most name told faults ending.OutOfMemory = ⊤
+IsUnreadEnd most name told faults _ = ⊥
+
+-- the ending is that of a file of this name that was not read for this cause, or memory ran out
+abbrev pub IsUnreadBecause : List ℕ → NotRead → Ending → Type 0
+IsUnreadBecause name why (ending.Unread its_name its_why) = (its_name ≡ name) × (its_why ≡ why)
+IsUnreadBecause name why ending.OutOfMemory = ⊤
+IsUnreadBecause name why _ = ⊥
+
+-- the same of the answer of a read
+abbrev pub IsUnreadSo : List ℕ → FileEnd → Ending → Type 0
+IsUnreadSo name file_end.Missing end = IsUnreadBecause name Missing end
+IsUnreadSo name file_end.TooLong end = IsUnreadBecause name TooLong end
+IsUnreadSo name file_end.Failed end = IsUnreadBecause name Failed end
+IsUnreadSo name file_end.OutOfMemory end = end ≡ ending.OutOfMemory

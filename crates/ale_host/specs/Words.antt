@@ -53,6 +53,8 @@ documents_file words = get_or words 2 []
 abbrev pub script_file : List (List ℕ) → List ℕ
 script_file words = get_or words 3 []
 
+-- ---- what only private functions cite
+
 -- how many workers a number asks for: as many as it is, if it is from 1 to 16, and else one
 abbrev pub workers_for : Option ℕ → ℕ
 workers_for None = 1
@@ -61,8 +63,6 @@ workers_for (Some count) = if nat_le 1 count && nat_le count MAX_WORKERS then co
 -- how many workers words ask for: as many as the last one says
 abbrev pub workers_in : List (List ℕ) → ℕ
 workers_in words = workers_for (option_and_then (count_in MAX_WORKERS) (slice_get words (length words - 1)))
-
--- ---- what only private functions cite
 
 -- a load has at most 4,096 masters
 abbrev pub IsFew : Form → Type 0

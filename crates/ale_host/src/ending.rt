@@ -79,7 +79,7 @@ impl Ending {
 const USAGE: &[u8] = b"usage: aleflow run MODEL DOCS SCRIPT WORKERS, pass DOCS, load N WORKERS\n";
 
 /// What is printed where memory ran out.
-pub const OUT_OF_MEMORY: &[u8] = b"out of memory\n";
+pub(crate) const OUT_OF_MEMORY: &[u8] = b"out of memory\n";
 
 fn text_from(alloc: Global, bytes: &[u8]) -> Result<Vec<u8>, OutOfMemory>
     ensures { IfOk result (λ text. text.items ≡ bytes.now) }

@@ -10,7 +10,7 @@ use idoc_record::ControlField;
 use std::alloc::Global;
 
 /// The text that `pass` prints for the documents of a file.
-pub fn pass_text(alloc: Global, documents: &[RawDoc]) -> Result<Vec<u8>, OutOfMemory>
+pub(crate) fn pass_text(alloc: Global, documents: &[RawDoc]) -> Result<Vec<u8>, OutOfMemory>
     requires { length documents.now ≤ MAX_DOCUMENTS }
     ensures { IfOk result (λ text. text.items ≡ pass_text documents.now) }
 {
@@ -89,7 +89,7 @@ fn put_word(text: &mut Vec<u8>, word: &[u8]) -> Result<(), OutOfMemory>
 }
 
 /// Appends these bytes.
-pub fn put(text: &mut Vec<u8>, bytes: &[u8]) -> Result<(), OutOfMemory>
+pub(crate) fn put(text: &mut Vec<u8>, bytes: &[u8]) -> Result<(), OutOfMemory>
     ensures { OnOk result (text.new.items ≡ text.old.items ++ bytes.now) }
 {
     text.extend_from_slice(bytes)?;

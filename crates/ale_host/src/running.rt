@@ -34,7 +34,7 @@ use wires::Wires;
 
 /// What is reported of what was carried out.
 #[derive(Clone, Copy, Debug, PartialEq, Eq)]
-pub enum Report {
+pub(crate) enum Report {
     /// The text of each command, behind it.
     Commands,
     /// How much the logs hold at the end.

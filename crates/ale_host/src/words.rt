@@ -6,7 +6,7 @@ ghost use Rattle.ale_host.specs.Words.{form_of, pass_form, load_form, run_form, 
 
 /// What the words of a command line ask for.
 #[derive(Clone, Copy, Debug, PartialEq, Eq)]
-pub enum Form {
+pub(crate) enum Form {
     /// `pass DOCS`
     Pass,
     /// `run MODEL DOCS SCRIPT WORKERS`
@@ -23,7 +23,7 @@ pub(crate) const MAX_WORKERS: u32 = 16;
 
 /// The form that the words have. None where they have none of the three.
 #[tactic(auto, using(crate::proofs::WordsLemmas::four_words))]
-pub fn form_of(words: &[String]) -> Option<Form>
+pub(crate) fn form_of(words: &[String]) -> Option<Form>
     ensures form { result ≡ form_of (map string_bytes words.now) }
     ensures few { IfSome result IsFew }
 {

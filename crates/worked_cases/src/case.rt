@@ -7,14 +7,14 @@ use case_form::{Item, Relation};
 /// A case: the files that all its runs see, and its runs and broken texts, in order. The first run starts on empty volumes,
 /// and each other one on those that the run before it left.
 #[derive(Drop)]
-pub struct Case {
-    pub files: Items<StoredFile>,
-    pub parts: Vec<Part>,
+pub(crate) struct Case {
+    pub(crate) files: Items<StoredFile>,
+    pub(crate) parts: Vec<Part>,
 }
 
 /// A part of a case, which becomes a step.
 #[derive(Drop)]
-pub enum Part {
+pub(crate) enum Part {
     /// The program is run.
     Run(Run),
     /// The text of an item's block is no case.
@@ -23,7 +23,7 @@ pub enum Part {
 
 /// The words of a run.
 #[derive(Drop)]
-pub enum Words {
+pub(crate) enum Words {
     /// The words of the command line.
     Given(Vec<String>),
     /// Memory ran out before the words were there.
@@ -32,32 +32,32 @@ pub enum Words {
 
 /// A run of the program, and what is expected of it.
 #[derive(Drop)]
-pub struct Run {
+pub(crate) struct Run {
     /// The line of its item in the case file, from 1.
-    pub line: u32,
+    pub(crate) line: u32,
     /// Whether it is marked: what it expects is wrong on purpose.
-    pub differs: bool,
+    pub(crate) differs: bool,
     /// How many works meet at its gate. None where the gate is open.
-    pub gate: Option<u8>,
-    pub words: Words,
+    pub(crate) gate: Option<u8>,
+    pub(crate) words: Words,
     /// Which reads of files fail, counted from 1 in this run.
-    pub failing_reads: Items<u64>,
+    pub(crate) failing_reads: Items<u64>,
     /// Which writes fail, counted from 1 in this run.
-    pub failing_puts: Items<u64>,
+    pub(crate) failing_puts: Items<u64>,
     /// Which calls on its volumes fail, counted from 1 over all of them in this run.
-    pub failing_calls: Items<u64>,
+    pub(crate) failing_calls: Items<u64>,
     /// The moments that its clock gives, the first one first, and then the last again and again; 0 where there is none.
-    pub moments: Items<u64>,
+    pub(crate) moments: Items<u64>,
     /// The status that is expected.
-    pub status: u8,
+    pub(crate) status: u8,
     /// What is expected of the text.
-    pub outputs: Vec<Output>,
+    pub(crate) outputs: Vec<Output>,
 }
 
 /// What is expected of the text that a run prints.
 #[derive(Drop)]
-pub struct Output {
-    pub relation: Relation,
+pub(crate) struct Output {
+    pub(crate) relation: Relation,
     /// The text that the case gives.
-    pub text: Vec<u8>,
+    pub(crate) text: Vec<u8>,
 }

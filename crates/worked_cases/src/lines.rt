@@ -8,7 +8,7 @@ use std::alloc::Global;
 
 /// What a file of a case holds.
 #[derive(Drop)]
-pub struct FileText {
+pub(crate) struct FileText {
     /// What it holds so far.
     bytes: Vec<u8>,
     /// The repetition that was begun.
@@ -17,7 +17,7 @@ pub struct FileText {
 
 /// The bytes of a file from `start` on are to be repeated.
 #[derive(Clone, Copy, Debug)]
-pub struct Repeat {
+pub(crate) struct Repeat {
     count: u32,
     start: usize,
 }
