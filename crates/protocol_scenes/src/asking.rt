@@ -5,6 +5,7 @@ ghost use Rattle.protocol_scenes.specs.Worlds.{IsSafeWorld};
 use crate::listing::put_claim;
 use crate::rules;
 use crate::text::Text;
+use crate::units::tids_of;
 use crate::words::{Words, meaning_of};
 use ale_base::{OutOfMemory, SystemNo, Tid};
 use case_form::LineEnd;
@@ -84,13 +85,26 @@ fn put_unit(
 ) -> Result<(), OutOfMemory>
     requires { IsSafeWorld world.now }
 {
-    let Some(unit) = world.committed_unit(alloc, tid)? else {
-        return text.put_line(b"not committed");
-    };
-    put_offered(alloc, text, world, &unit)?;
-    put_function(alloc, text, world, &unit)?;
+    match world.committed_unit(alloc, tid)? {
+        Some(unit) => put_committed_unit(alloc, text, world, tid, &unit),
+        None => text.put_line(b"not committed"),
+    }
+}
+
+/// The same of the unit that was committed under an id.
+fn put_committed_unit(
+    alloc: Global,
+    text: &mut Text,
+    world: &World<ListedRules>,
+    tid: Tid,
+    unit: &AleUnit,
+) -> Result<(), OutOfMemory>
+    requires { IsSafeWorld world.now }
+{
+    put_offered(alloc, text, world, unit)?;
+    put_function(alloc, text, world, unit)?;
     put_holders(text, world, tid)?;
-    put_answer(alloc, text, world, &unit)
+    put_answer(alloc, text, world, unit)
 }
 
 /// Where the unit is offered.
@@ -195,13 +209,20 @@ fn put_committed(
 ) -> Result<(), OutOfMemory>
     requires { IsSafeWorld world.now }
 {
-    let mut tids = Vec::new(alloc);
-    for unit in &world.committed_by(alloc, system)? {
-        tids.push(unit.tid)?;
-    }
-    text.put(b"committed")?;
-    text.put_tids(tids.as_slice())?;
-    text.end_line()
+    let tids = committed_tids(alloc, world, system)?;
+    text.put_named(b"committed", tids.as_slice())
+}
+
+/// The ids of the units that a system committed.
+fn committed_tids(
+    alloc: Global,
+    world: &World<ListedRules>,
+    system: SystemNo,
+) -> Result<Vec<Tid>, OutOfMemory>
+    requires { IsSafeWorld world.now }
+{
+    let units = world.committed_by(alloc, system)?;
+    tids_of(alloc, units.as_slice())
 }
 
 /// Puts the claim of a number, or that there is none.

@@ -8,17 +8,18 @@ mod receiving;
 mod sending;
 
 use crate::beginning::{Landscape, landscape_of};
+use crate::events::operation;
 use crate::law::logs_of;
 use crate::listing::{lengths_of, put_world};
 use crate::rules;
-use crate::scene::{first_world, whole};
+use crate::scene::{whole, whole_after};
 use crate::text::Text;
 use crate::units::{Lists, lists_of};
 use crate::words::{ItemWord, Words, meaning_of};
 use ale_base::{Items, SystemNo};
 use case_form::{CaseFault, Item, LineEnd, Step};
 use std::alloc::Global;
-use trfc_protocol::{Action, Event, run_events};
+use trfc_protocol::Event;
 use unit_core::Record;
 use unit_landscape::{InClaim, OutClaim, Receipt};
 
@@ -214,9 +215,7 @@ impl Caller {
 
     /// Notes that this record of an operator was appended.
     fn note_operator(&mut self, system: SystemNo, next: Record) -> Result<(), LineEnd> {
-        self.note(Event::Operator {
-            action: Action::Append(system, next),
-        })
+        self.note(operation(system, next))
     }
 
     /// Notes the fall of a system, with the record that it may find.
@@ -244,15 +243,8 @@ impl Caller {
 
     /// Whether the protocol, to which the same events happened, has another world.
     fn differs(&self, lists: &Lists, items: &[Item]) -> Result<bool, CaseFault> {
-        let theirs = self.protocol_text(lists, items)?.into_bytes();
-        let ours = whole(self.alloc, lists, self.landscape.world())?.into_bytes();
-        Ok(ours.as_slice() != theirs.as_slice())
-    }
-
-    /// All that the protocol's world holds, to which the same events happened.
-    fn protocol_text(&self, lists: &Lists, items: &[Item]) -> Result<Text, CaseFault> {
-        let world = first_world(self.alloc, items)?;
-        let world = run_events(self.alloc, world, self.events.as_slice())?;
-        whole(self.alloc, lists, &world)
+        let theirs = whole_after(self.alloc, lists, items, self.events.as_slice())?;
+        let ours = whole(self.alloc, lists, self.landscape.world())?;
+        Ok(!ours.is_as(&theirs))
     }
 }

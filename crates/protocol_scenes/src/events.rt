@@ -4,10 +4,11 @@ use crate::records::read_record;
 use crate::rules;
 use crate::units::Lists;
 use crate::words::{Words, last_number, last_tid, meaning_of};
-use ale_base::Tid;
+use ale_base::{SystemNo, Tid};
 use case_form::LineEnd;
 use std::alloc::Global;
 use trfc_protocol::{Action, CoreAnswer, Event, ReplyTo};
+use unit_core::Record;
 
 /// The word that begins an event.
 #[derive(Clone, Copy)]
@@ -71,9 +72,14 @@ fn read_short(word: EventWord, words: Words) -> Result<Event, LineEnd> {
 
 fn read_revocation(words: Words) -> Result<Event, LineEnd> {
     words.end()?;
-    Ok(Event::Operator {
+    Ok(revocation())
+}
+
+/// The event that all claims are given up.
+pub(crate) fn revocation() -> Event {
+    Event::Operator {
         action: Action::Revoke,
-    })
+    }
 }
 
 fn read_opening(words: Words) -> Result<Event, LineEnd> {
@@ -99,8 +105,15 @@ fn read_operation(alloc: Global, lists: &Lists, words: Words) -> Result<Event, L
     let Some(system) = words.system() else {
         return Err(rules::NO_SYSTEM.into());
     };
-    let action = Action::Append(system, read_record(alloc, lists, words)?);
-    Ok(Event::Operator { action })
+    let next = read_record(alloc, lists, words)?;
+    Ok(operation(system, next))
+}
+
+/// The event of an operator who appends a record.
+pub(crate) fn operation(system: SystemNo, next: Record) -> Event {
+    Event::Operator {
+        action: Action::Append(system, next),
+    }
 }
 
 /// A fall: its system, and the record that it was writing where there is one.

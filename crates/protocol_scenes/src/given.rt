@@ -5,8 +5,8 @@ use crate::listing::{put_log, put_system};
 use crate::records::read_record;
 use crate::rules;
 use crate::text::Text;
-use crate::units::{Lists, lists_of};
-use crate::words::{ItemWord, Words};
+use crate::units::{Lists, lists_of, tids_of};
+use crate::words::{ItemWord, Words, at_line};
 use ale_base::{Items, OutOfMemory, QueueName, SystemNo, Tid, Way};
 use case_form::{BlockLine, CaseFault, Item, LineEnd, Step};
 use std::alloc::Global;
@@ -44,6 +44,36 @@ fn read_question(word: ItemWord, words: Words) -> Option<Question> {
     }
 }
 
+/// What a log tells of a unit.
+#[derive(Clone, Copy)]
+enum Told {
+    Received,
+    Executed,
+    Done,
+    Ended,
+    Forgotten,
+}
+
+impl Told {
+    const ALL: [Told; 5] = [
+        Told::Received,
+        Told::Executed,
+        Told::Done,
+        Told::Ended,
+        Told::Forgotten,
+    ];
+
+    fn name(self) -> &'static [u8] {
+        match self {
+            Told::Received => b"received",
+            Told::Executed => b"executed",
+            Told::Done => b"done",
+            Told::Ended => b"ended",
+            Told::Forgotten => b"forgotten",
+        }
+    }
+}
+
 /// Logs that a case gives.
 #[derive(Drop)]
 struct Given {
@@ -57,20 +87,33 @@ struct Given {
 
 /// The steps of a case that gives logs.
 pub(crate) fn steps_of_logs(alloc: Global, items: &[Item]) -> Result<Items<Step>, CaseFault> {
-    let mut given = Given {
-        alloc,
-        lists: lists_of(alloc, items)?,
-        logs: Items::new(alloc),
-        committed: usize::MAX,
-    };
-    let mut steps = Items::new(alloc);
-    for item in items {
-        given.read(item, &mut steps)?;
-    }
-    Ok(steps)
+    let lists = lists_of(alloc, items)?;
+    let mut given = Given::of(alloc, lists);
+    let steps = given.steps(items);
+    drop(given);
+    steps
 }
 
 impl Given {
+    /// No logs are given yet, and each system committed all that it lists.
+    fn of(alloc: Global, lists: Lists) -> Given {
+        Given {
+            alloc,
+            lists,
+            logs: Items::new(alloc),
+            committed: usize::MAX,
+        }
+    }
+
+    /// The steps of all items.
+    fn steps(&mut self, items: &[Item]) -> Result<Items<Step>, CaseFault> {
+        let mut steps = Items::new(self.alloc);
+        for item in items {
+            self.read(item, &mut steps)?;
+        }
+        Ok(steps)
+    }
+
     /// Reads an item, and adds its step where it is one.
     fn read(&mut self, item: &Item, steps: &mut Items<Step>) -> Result<(), CaseFault> {
         let words = Words::of(item.rest.as_slice());
@@ -79,7 +122,7 @@ impl Given {
         };
         match word {
             ItemWord::Systems | ItemWord::Unit => Ok(()),
-            ItemWord::Committed => self.read_committed(words).map_err(|end| end.at(item.line)),
+            ItemWord::Committed => at_line(self.read_committed(words), item.line),
             ItemWord::Given => self.read_logs(item.block.as_slice()),
             _ => self.answer(item, word, words, steps),
         }
@@ -116,8 +159,7 @@ impl Given {
             self.logs.push(Items::new(self.alloc))?;
         }
         for line in block {
-            self.read_line(line.text.as_slice())
-                .map_err(|end| end.at(line.line))?;
+            at_line(self.read_line(line.text.as_slice()), line.line)?;
         }
         Ok(())
     }
@@ -132,11 +174,17 @@ impl Given {
         if at >= self.logs.len() {
             return Err(rules::NO_SYSTEM.into());
         }
+        let copy = self.read_copy(words)?;
+        self.logs.at_mut(at).push(copy)?;
+        Ok(())
+    }
+
+    /// A copy of the record of a line.
+    fn read_copy(&self, words: Words) -> Result<Record, LineEnd> {
         let record = read_record(self.alloc, &self.lists, words)?;
         let copy = record.copied();
         drop(record);
-        self.logs.at_mut(at).push(copy?)?;
-        Ok(())
+        Ok(copy?)
     }
 
     fn log_of(&self, system: SystemNo) -> &[Record] {
@@ -189,25 +237,33 @@ impl Given {
 
     /// Puts what the log of a system tells of its units.
     fn put_told(&self, text: &mut Text, system: SystemNo) -> Result<(), OutOfMemory> {
-        let log = self.log_of(system);
-        put_named(text, b"received", self.received(log)?.as_slice())?;
-        put_named(text, b"executed", executed(self.alloc, log)?.as_slice())?;
-        put_named(text, b"done", done_in(self.alloc, log)?.as_slice())?;
-        put_named(text, b"ended", ended_in(self.alloc, log)?.as_slice())?;
-        put_named(
-            text,
-            b"forgotten",
-            forgotten_in(self.alloc, log)?.as_slice(),
-        )
+        for told in Told::ALL {
+            self.put_ids(text, told, system)?;
+        }
+        Ok(())
+    }
+
+    /// Puts the ids of which the log of a system tells one thing.
+    fn put_ids(&self, text: &mut Text, told: Told, system: SystemNo) -> Result<(), OutOfMemory> {
+        let tids = self.told(told, self.log_of(system))?;
+        text.put_named(told.name(), tids.as_slice())
+    }
+
+    /// The ids of which a log tells one thing.
+    fn told(&self, told: Told, log: &[Record]) -> Result<Vec<Tid>, OutOfMemory> {
+        match told {
+            Told::Received => self.received(log),
+            Told::Executed => executed(self.alloc, log),
+            Told::Done => done_in(self.alloc, log),
+            Told::Ended => ended_in(self.alloc, log),
+            Told::Forgotten => forgotten_in(self.alloc, log),
+        }
     }
 
     /// The ids of the units received.
     fn received(&self, log: &[Record]) -> Result<Vec<Tid>, OutOfMemory> {
-        let mut tids = Vec::new(self.alloc);
-        for unit in &received(self.alloc, log)? {
-            tids.push(unit.tid)?;
-        }
-        Ok(tids)
+        let units = received(self.alloc, log)?;
+        tids_of(self.alloc, units.as_slice())
     }
 
     /// Puts in which directions a unit is marked, system by system.
@@ -275,10 +331,4 @@ fn put_none(text: &mut Text) -> Result<(), OutOfMemory> {
         text.put_line(b"none")?;
     }
     Ok(())
-}
-
-fn put_named(text: &mut Text, name: &[u8], tids: &[Tid]) -> Result<(), OutOfMemory> {
-    text.put(name)?;
-    text.put_tids(tids)?;
-    text.end_line()
 }

@@ -8,7 +8,7 @@ use trfc_protocol::{Held, HeldKind, ListedRules, SystemState, World};
 use unit_core::{AleUnit, Record};
 
 /// A clause of the exactly-once law.
-#[derive(Clone, Copy, Debug, PartialEq, Eq)]
+#[derive(Clone, Copy)]
 pub(crate) enum Clause {
     TakenOnce,
     TakenWasCommitted,
@@ -544,14 +544,20 @@ fn log_found(
 ) -> Result<Items<Record>, OutOfMemory> {
     let mut log = Items::new(alloc);
     for record in &state.log {
-        log.push(record.copied()?)?;
+        add_copy(&mut log, record)?;
     }
     if is_found {
         if let Some(rest) = &state.rest {
-            log.push(rest.copied()?)?;
+            add_copy(&mut log, rest)?;
         }
     }
     Ok(log)
+}
+
+/// Adds a copy of a record to a log.
+fn add_copy(log: &mut Items<Record>, record: &Record) -> Result<(), OutOfMemory> {
+    let copy = record.copied()?;
+    Ok(log.push(copy)?)
 }
 
 /// The first units that the system at a place lists.

@@ -20,8 +20,15 @@ use trfc_protocol::{Event, ListedRules, World, run_events, step};
 /// The steps of a scene.
 pub(crate) fn steps_of_scene(alloc: Global, items: &[Item]) -> Result<Items<Step>, CaseFault> {
     let lists = lists_of(alloc, items)?;
+    let steps = steps_with(alloc, &lists, items);
+    drop(lists);
+    steps
+}
+
+/// The same with the units that the case lists.
+fn steps_with(alloc: Global, lists: &Lists, items: &[Item]) -> Result<Items<Step>, CaseFault> {
     match ListedRules::of(lists_of(alloc, items)?) {
-        Some(rules) => play_all(alloc, &lists, World::start(alloc, rules)?, items),
+        Some(rules) => play_all(alloc, lists, World::start(alloc, rules)?, items),
         None => refused(alloc, items),
     }
 }
@@ -47,13 +54,18 @@ fn play_all(
 fn refused(alloc: Global, items: &[Item]) -> Result<Items<Step>, CaseFault> {
     let mut steps = Items::new(alloc);
     for item in items {
-        match ItemWord::of(item) {
-            Some(ItemWord::Systems | ItemWord::Unit) => {}
-            Some(ItemWord::Refused) => steps.push(Step::of(alloc, item, Vec::new(alloc))?)?,
-            _ => return Err(LineEnd::Broken(rules::REFUSED).at(item.line)),
-        }
+        put_refused(alloc, item, &mut steps)?;
     }
     Ok(steps)
+}
+
+/// Adds the step of an item of such a case, where it is one.
+fn put_refused(alloc: Global, item: &Item, steps: &mut Items<Step>) -> Result<(), CaseFault> {
+    match ItemWord::of(item) {
+        Some(ItemWord::Systems | ItemWord::Unit) => Ok(()),
+        Some(ItemWord::Refused) => Ok(steps.push(Step::of(alloc, item, Vec::new(alloc))?)?),
+        _ => Err(LineEnd::Broken(rules::REFUSED).at(item.line)),
+    }
 }
 
 /// The world after an item, whose step is added where it is one.
@@ -142,7 +154,10 @@ fn add_event(
 }
 
 fn event_of(alloc: Global, lists: &Lists, item: &Item) -> Result<Event, CaseFault> {
-    read_event(alloc, lists, item.rest.as_slice()).map_err(|end| end.at(item.line))
+    match read_event(alloc, lists, item.rest.as_slice()) {
+        Ok(event) => Ok(event),
+        Err(end) => Err(end.at(item.line)),
+    }
 }
 
 /// Adds the step of an item that leaves the world as it is, where it is one.
@@ -179,11 +194,21 @@ fn find(
     requires { IsSafeWorld world.now }
 {
     match word {
-        ItemWord::Ask => ask(alloc, world, item.rest.as_slice()).map_err(|end| end.at(item.line)),
+        ItemWord::Ask => answer_to(alloc, world, item),
         ItemWord::Again => again(alloc, lists, before),
         ItemWord::Law => law(alloc, lists, world),
         ItemWord::Walks => walk_all(alloc, lists, before, item),
         _ => Err(LineEnd::Broken(rules::NO_SUCH_ITEM).at(item.line)),
+    }
+}
+
+/// What a world says to the question of an item.
+fn answer_to(alloc: Global, world: &World<ListedRules>, item: &Item) -> Result<Text, CaseFault>
+    requires { IsSafeWorld world.now }
+{
+    match ask(alloc, world, item.rest.as_slice()) {
+        Ok(found) => Ok(found),
+        Err(end) => Err(end.at(item.line)),
     }
 }
 
@@ -193,9 +218,21 @@ fn is_event(item: &Item) -> bool {
 
 /// The whole logs and the claims after all events so far, which happen at once to the world at first.
 fn again(alloc: Global, lists: &Lists, before: &[Item]) -> Result<Text, CaseFault> {
-    let world = first_world(alloc, before)?;
     let events = events_of(alloc, lists, before)?;
-    let world = run_events(alloc, world, events.as_slice())?;
+    let found = whole_after(alloc, lists, before, events.as_slice());
+    drop(events);
+    found
+}
+
+/// All that the world holds after events, which happen to the first world of the units that these items list.
+pub(crate) fn whole_after(
+    alloc: Global,
+    lists: &Lists,
+    items: &[Item],
+    events: &[Event],
+) -> Result<Text, CaseFault> {
+    let world = first_world(alloc, items)?;
+    let world = run_events(alloc, world, events)?;
     whole(alloc, lists, &world)
 }
 

@@ -30,6 +30,11 @@ impl Text {
         self.bytes.is_empty()
     }
 
+    /// Whether another text is the same.
+    pub(crate) fn is_as(&self, other: &Text) -> bool {
+        self.bytes.as_slice() == other.bytes.as_slice()
+    }
+
     pub(crate) fn put(&mut self, bytes: &[u8]) -> Result<(), OutOfMemory> {
         self.bytes.extend_from_slice(bytes)?;
         Ok(())
@@ -63,8 +68,15 @@ impl Text {
         self.put_number(u64::from(tid.unit()))
     }
 
+    /// Puts a line: a name, and ids.
+    pub(crate) fn put_named(&mut self, name: &[u8], tids: &[Tid]) -> Result<(), OutOfMemory> {
+        self.put(name)?;
+        self.put_tids(tids)?;
+        self.end_line()
+    }
+
     /// Puts ids with a blank before each, or that there are none.
-    pub(crate) fn put_tids(&mut self, tids: &[Tid]) -> Result<(), OutOfMemory> {
+    fn put_tids(&mut self, tids: &[Tid]) -> Result<(), OutOfMemory> {
         if tids.is_empty() {
             return self.put(b" none");
         }

@@ -1,10 +1,10 @@
 //! The units that a case lists.
 
 use crate::rules;
-use crate::words::{ItemWord, Words, meaning_of};
-use ale_base::{Fixed, Items, SystemNo, Tid};
+use crate::words::{ItemWord, Words, at_line, meaning_of};
+use ale_base::{Fixed, Items, OutOfMemory, SystemNo, Tid};
 use case_form::{BlockLine, CaseFault, Item, LineEnd, put_text};
-use idoc_record::{read_control, read_data};
+use idoc_record::{Control, read_control, read_data};
 use std::alloc::Global;
 use trfc_protocol::ListedRules;
 use unit_core::{AleUnit, RawUnitDoc, Shared};
@@ -31,12 +31,10 @@ pub(crate) fn unit_of(lists: &Lists, tid: Tid) -> Option<&AleUnit> {
 fn add_listed(alloc: Global, lists: &mut Lists, item: &Item) -> Result<(), CaseFault> {
     let words = Words::of(item.rest.as_slice());
     match ItemWord::of(item) {
-        Some(ItemWord::Systems) => {
-            add_systems(alloc, lists, words).map_err(|end| end.at(item.line))
-        }
+        Some(ItemWord::Systems) => at_line(add_systems(alloc, lists, words), item.line),
         Some(ItemWord::Unit) => {
             let docs = docs_of(alloc, item.block.as_slice())?;
-            add_unit(alloc, lists, words, docs).map_err(|end| end.at(item.line))
+            at_line(add_unit(alloc, lists, words, docs), item.line)
         }
         _ => Ok(()),
     }
@@ -66,11 +64,22 @@ fn add_unit(
     if at >= lists.len() {
         return Err(rules::BAD_UNIT.into());
     }
-    let Some(tid) = next_tid(sender, lists[at].len()) else {
+    add_next(alloc, lists.at_mut(at), sender, words, docs)
+}
+
+/// Adds a unit to the list of its sender.
+fn add_next(
+    alloc: Global,
+    list: &mut Items<AleUnit>,
+    sender: SystemNo,
+    words: Words,
+    docs: Items<RawUnitDoc>,
+) -> Result<(), LineEnd> {
+    let Some(tid) = next_tid(sender, list.len()) else {
         return Err(rules::BAD_UNIT.into());
     };
     let unit = read_unit(alloc, tid, words, docs)?;
-    lists.at_mut(at).push(unit)?;
+    list.push(unit)?;
     Ok(())
 }
 
@@ -90,10 +99,10 @@ fn read_unit(
     docs: Items<RawUnitDoc>,
 ) -> Result<AleUnit, LineEnd> {
     let mut words = words;
-    if words.word() != b"to".as_slice() {
+    let Some(receiver) = read_receiver(&mut words) else {
         return Err(rules::BAD_UNIT.into());
-    }
-    let (Some(receiver), Some(function)) = (words.system(), Fixed::of(ListedRules::FUNCTION)) else {
+    };
+    let Some(function) = Fixed::of(ListedRules::FUNCTION) else {
         return Err(rules::BAD_UNIT.into());
     };
     let mut unit = AleUnit {
@@ -105,11 +114,26 @@ fn read_unit(
         inq: Items::new(alloc),
         docs,
     };
-    for _ in 0..3 {
-        read_part(alloc, &mut unit, &mut words)?;
-    }
-    words.end()?;
+    read_parts(alloc, &mut unit, words)?;
     Ok(unit)
+}
+
+/// The receiver of a unit: `to SYSTEM`.
+fn read_receiver(words: &mut Words) -> Option<SystemNo> {
+    if words.word() == b"to".as_slice() {
+        words.system()
+    } else {
+        None
+    }
+}
+
+/// Reads the parts of a unit that are given, which end the line.
+fn read_parts(alloc: Global, unit: &mut AleUnit, words: Words) -> Result<(), LineEnd> {
+    let mut words = words;
+    for _ in 0..3 {
+        read_part(alloc, unit, &mut words)?;
+    }
+    words.end()
 }
 
 /// A part of a unit.
@@ -148,26 +172,54 @@ fn read_part(alloc: Global, unit: &mut AleUnit, words: &mut Words) -> Result<(),
 fn docs_of(alloc: Global, block: &[BlockLine]) -> Result<Items<RawUnitDoc>, CaseFault> {
     let mut docs = Vec::new(alloc);
     for line in block {
-        let mut bytes = Vec::new(alloc);
-        put_text(&mut bytes, line.text.as_slice()).map_err(|end| end.at(line.line))?;
-        add_line(alloc, &mut docs, bytes.as_slice()).map_err(|end| end.at(line.line))?;
+        at_line(add_text(alloc, &mut docs, line.text.as_slice()), line.line)?;
     }
     Ok(Items::from_vec(docs))
 }
 
+/// Adds what the text of a line stands for.
+fn add_text(alloc: Global, docs: &mut Vec<RawUnitDoc>, text: &[u8]) -> Result<(), LineEnd> {
+    let mut bytes = Vec::new(alloc);
+    put_text(&mut bytes, text)?;
+    add_line(alloc, docs, bytes.as_slice())
+}
+
 /// Adds a document, or a data record to the last one.
 fn add_line(alloc: Global, docs: &mut Vec<RawUnitDoc>, line: &[u8]) -> Result<(), LineEnd> {
-    if let Ok(control) = read_control(line) {
-        let control = Shared::new(alloc, control)?;
-        let segments = Items::new(alloc);
-        docs.push(RawUnitDoc { control, segments })?;
-        return Ok(());
+    match read_control(line) {
+        Ok(control) => add_document(alloc, docs, control),
+        Err(_) => add_data(alloc, docs, line),
     }
-    match (read_data(alloc, line), docs.last_mut()) {
-        (Ok(data), Some(doc)) => {
-            doc.segments.push(data)?;
-            Ok(())
-        }
-        _ => Err(rules::BAD_DOCUMENT.into()),
+}
+
+/// Adds a document that has no data record yet.
+fn add_document(
+    alloc: Global,
+    docs: &mut Vec<RawUnitDoc>,
+    control: Control,
+) -> Result<(), LineEnd> {
+    let control = Shared::new(alloc, control)?;
+    let segments = Items::new(alloc);
+    docs.push(RawUnitDoc { control, segments })?;
+    Ok(())
+}
+
+/// Adds a data record to the last document.
+fn add_data(alloc: Global, docs: &mut Vec<RawUnitDoc>, line: &[u8]) -> Result<(), LineEnd> {
+    let Some(doc) = docs.last_mut() else {
+        return Err(rules::BAD_DOCUMENT.into());
+    };
+    match read_data(alloc, line) {
+        Ok(data) => Ok(doc.segments.push(data)?),
+        Err(_) => Err(rules::BAD_DOCUMENT.into()),
     }
+}
+
+/// The ids of units.
+pub(crate) fn tids_of(alloc: Global, units: &[AleUnit]) -> Result<Vec<Tid>, OutOfMemory> {
+    let mut tids = Vec::new(alloc);
+    for unit in units {
+        tids.push(unit.tid)?;
+    }
+    Ok(tids)
 }

@@ -5,7 +5,7 @@
 ghost use Rattle.std.specs.Prelude.{◌<◌, ◌≤◌, IfOk};
 ghost use Rattle.protocol_scenes.specs.Worlds.{IsSafeWorld};
 
-use crate::events::forgotten;
+use crate::events::{forgotten, operation, revocation};
 use crate::falling::fall_or_open;
 use crate::law::{executed, logs_found, logs_of, logs_with};
 use crate::records::{commit, switch};
@@ -17,11 +17,11 @@ use crate::words::Words;
 use ale_base::{Items, OutOfMemory, SystemNo, Tid, Way};
 use case_form::{CaseFault, Item, LineEnd};
 use std::alloc::Global;
-use trfc_protocol::{Action, CoreAnswer, Event, ListedRules, ReplyTo, World};
+use trfc_protocol::{CoreAnswer, Event, ListedRules, ReplyTo, World};
 use unit_core::{AleUnit, Record};
 
 /// Numbers that follow from a seed: Knuth's linear congruential generator of MMIX.
-#[derive(Drop)]
+#[derive(Clone, Copy)]
 pub(crate) struct Dice {
     state: u64,
 }
@@ -67,7 +67,14 @@ pub(crate) fn walk_all(
     before: &[Item],
     item: &Item,
 ) -> Result<Text, CaseFault> {
-    let plan = read_plan(item.rest.as_slice()).map_err(|end| end.at(item.line))?;
+    match read_plan(item.rest.as_slice()) {
+        Ok(plan) => walk_by(alloc, lists, before, plan),
+        Err(end) => Err(end.at(item.line)),
+    }
+}
+
+/// Walks by a plan, and tells what was seen.
+fn walk_by(alloc: Global, lists: &Lists, before: &[Item], plan: Plan) -> Result<Text, CaseFault> {
     let mut dice = Dice { state: plan.seed };
     let mut seen = Seen {
         keeps_law: true,
@@ -217,10 +224,20 @@ fn look_at_found(
         return Ok(());
     }
     let found = logs_found(alloc, world, dice.below(65_536))?;
-    if !logs_with(alloc, lists, &found)?.keep_all() {
+    if !logs_keep(alloc, lists, &found)? {
         seen.keeps_law = false;
     }
     Ok(())
+}
+
+/// Whether logs that stand apart from a world keep the law.
+fn logs_keep(
+    alloc: Global,
+    lists: &Lists,
+    found: &Items<Items<Record>>,
+) -> Result<bool, OutOfMemory> {
+    let logs = logs_with(alloc, lists, found)?;
+    Ok(logs.keep_all())
 }
 
 /// Looks at the law and the claims.
@@ -296,9 +313,7 @@ fn work_ends(kind: u64, number: u64, dice: &mut Dice) -> Event {
         9 => reply(number, dice.below(3)),
         10 => Event::LoseRequest { number },
         11 => Event::LoseReply { number },
-        _ if dice.below(8) == 0 => Event::Operator {
-            action: Action::Revoke,
-        },
+        _ if dice.below(8) == 0 => revocation(),
         _ => reply(number, 0),
     }
 }
@@ -335,13 +350,7 @@ fn commit_next(alloc: Global, system: SystemNo) -> Event {
 /// A Model of a system, with an empty text.
 fn replace_model(alloc: Global, system: SystemNo) -> Event {
     let text = Items::new(alloc);
-    operate(system, Record::Model { text })
-}
-
-fn operate(system: SystemNo, next: Record) -> Event {
-    Event::Operator {
-        action: Action::Append(system, next),
-    }
+    operation(system, Record::Model { text })
 }
 
 /// A Retry of a unit, at its sender or at its receiver.
@@ -354,7 +363,7 @@ fn retry(unit: &AleUnit, dice: &mut Dice) -> Event {
 }
 
 fn retry_at(system: SystemNo, way: Way, tid: Tid) -> Event {
-    operate(system, Record::Retry { way, tid })
+    operation(system, Record::Retry { way, tid })
 }
 
 /// A Stop or a Start of the first queue of a unit, at its sender or at its receiver.
@@ -362,11 +371,11 @@ fn switch_of(unit: &AleUnit, stops: bool, dice: &mut Dice) -> Option<Event> {
     if dice.below(2) == 0 {
         let name = unit.outq.get(0)?;
         let next = switch(Way::Outgoing, unit.receiver.get(), *name, stops);
-        Some(operate(unit.sender, next))
+        Some(operation(unit.sender, next))
     } else {
         let name = unit.inq.get(0)?;
         let next = switch(Way::Incoming, 0, *name, stops);
-        Some(operate(unit.receiver, next))
+        Some(operation(unit.receiver, next))
     }
 }
 

@@ -2,7 +2,7 @@
 
 use crate::rules;
 use ale_base::{Items, Mark, QueueName, SystemNo, Tid, Way};
-use case_form::{Item, LineEnd, cut, first_word, number_of};
+use case_form::{CaseFault, Item, LineEnd, cut, first_word, number_of};
 use std::alloc::Global;
 
 /// What a word stands for in a table. None where it is not there.
@@ -157,6 +157,14 @@ impl<'a> Words<'a> {
             names.push(name)?;
         }
         Ok(names)
+    }
+}
+
+/// How the reading of a line ended, as the end of its case.
+pub(crate) fn at_line(end: Result<(), LineEnd>, line: u32) -> Result<(), CaseFault> {
+    match end {
+        Ok(()) => Ok(()),
+        Err(end) => Err(end.at(line)),
     }
 }
 

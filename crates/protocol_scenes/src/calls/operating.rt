@@ -2,13 +2,14 @@
 
 use super::Caller;
 use super::handed::take_out;
+use crate::events::revocation;
 use crate::records::switch;
 use crate::rules;
 use crate::text::Text;
 use crate::words::Words;
 use ale_base::SystemNo;
 use case_form::LineEnd;
-use trfc_protocol::{Action, Event};
+use trfc_protocol::Event;
 use unit_core::Record;
 use unit_landscape::OperatorEnd;
 
@@ -59,9 +60,7 @@ impl Caller {
     pub(crate) fn revoke(&mut self, found: &mut Text) -> Result<(), LineEnd> {
         self.landscape.revoke();
         found.put_line(b"revoked")?;
-        self.note(Event::Operator {
-            action: Action::Revoke,
-        })
+        self.note(revocation())
     }
 
     /// `crash SYSTEM`: a system falls.
