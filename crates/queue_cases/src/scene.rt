@@ -14,12 +14,29 @@ use std::alloc::Global;
 /// The steps of a case.
 pub(crate) fn steps_of(alloc: Global, items: &[Item]) -> Result<Items<Step>, CaseFault> {
     let mut pair = Pair::new(alloc);
+    let steps = steps_on(alloc, &mut pair, items);
+    drop(pair);
+    steps
+}
+
+/// The steps of items, one after the other on the same queues.
+fn steps_on(alloc: Global, pair: &mut Pair, items: &[Item]) -> Result<Items<Step>, CaseFault> {
     let mut steps = Items::new(alloc);
     for item in items {
-        let found = find(alloc, &mut pair, item)?;
-        steps.push(Step::of(alloc, item, found.into_bytes())?)?;
+        put_step(alloc, pair, item, &mut steps)?;
     }
     Ok(steps)
+}
+
+/// Adds the step of an item.
+fn put_step(
+    alloc: Global,
+    pair: &mut Pair,
+    item: &Item,
+    steps: &mut Items<Step>,
+) -> Result<(), CaseFault> {
+    let found = find(alloc, pair, item)?;
+    Ok(steps.push(Step::of(alloc, item, found.into_bytes())?)?)
 }
 
 /// What is found at an item.

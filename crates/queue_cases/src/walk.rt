@@ -18,6 +18,13 @@ struct Dice {
     state: u64,
 }
 
+/// What was seen on a walk.
+#[derive(Clone, Copy)]
+struct Seen {
+    are_equal: bool,
+    claims: u64,
+}
+
 impl Dice {
     /// A number below this one, which is not 0.
     fn below(&mut self, bound: u64) -> u64
@@ -39,19 +46,24 @@ pub(crate) fn walk(alloc: Global, line: &[u8]) -> Result<Text, LineEnd> {
     let seed = named(&mut words, b"seed")?;
     let least = named(&mut words, b"claims")?;
     words.end()?;
-    let (are_equal, claims) = walk_on(alloc, calls, seed)?;
+    let seen = walk_on(alloc, calls, seed)?;
     let mut text = Text::new(alloc);
-    text.put_line(if are_equal {
+    put_seen(seen, least, &mut text)?;
+    Ok(text)
+}
+
+/// Puts what was seen on a walk that has to make so many claims.
+fn put_seen(seen: Seen, least: u64, text: &mut Text) -> Result<(), OutOfMemory> {
+    text.put_line(if seen.are_equal {
         b"equal answers".as_slice()
     } else {
         b"the answers differ".as_slice()
     })?;
-    text.put_line(if claims >= least {
+    text.put_line(if seen.claims >= least {
         b"as many claims".as_slice()
     } else {
         b"too few claims".as_slice()
-    })?;
-    Ok(text)
+    })
 }
 
 /// The number behind this word.
@@ -63,24 +75,71 @@ fn named(words: &mut Words, name: &[u8]) -> Result<u64, LineEnd> {
 }
 
 /// Makes the calls: whether all answers were equal, and how many units were claimed.
-fn walk_on(alloc: Global, calls: u64, seed: u64) -> Result<(bool, u64), OutOfMemory> {
-    let mut dice = Dice { state: seed };
+fn walk_on(alloc: Global, calls: u64, seed: u64) -> Result<Seen, OutOfMemory> {
     let mut pair = Pair::new(alloc);
+    let seen = walk_with(alloc, &mut pair, calls, seed);
+    drop(pair);
+    seen
+}
+
+/// The same on queues that are empty at first.
+fn walk_with(alloc: Global, pair: &mut Pair, calls: u64, seed: u64) -> Result<Seen, OutOfMemory> {
+    let mut dice = Dice { state: seed };
     let mut held = Items::new(alloc);
-    let mut are_equal = true;
-    let mut claims = 0u64;
+    let mut seen = Seen {
+        are_equal: true,
+        claims: 0,
+    };
     for number in 0..calls {
-        let call = choose(alloc, &mut dice, number, held.as_slice())?;
-        let mut text = Text::new(alloc);
-        let wanted = pair.wanted(&call);
-        let is_equal = pair.perform(alloc, &call, &mut text)?;
-        are_equal = are_equal && is_equal;
-        held.retain(|claim| pair.holds(claim));
-        if note_claim(&pair, wanted, number, &mut held)? {
-            claims = claims.saturating_add(1);
-        }
+        go_on(alloc, pair, number, &mut dice, &mut held, &mut seen)?;
     }
-    Ok((are_equal, claims))
+    Ok(seen)
+}
+
+/// Makes one more call.
+fn go_on(
+    alloc: Global,
+    pair: &mut Pair,
+    number: u64,
+    dice: &mut Dice,
+    held: &mut Items<Claim>,
+    seen: &mut Seen,
+) -> Result<(), OutOfMemory> {
+    let call = choose(alloc, dice, number, held.as_slice())?;
+    let made = make(alloc, pair, &call, number, held, seen);
+    drop(call);
+    made
+}
+
+/// Makes a call, and looks at its answers and at the claims that are held from then on.
+fn make(
+    alloc: Global,
+    pair: &mut Pair,
+    call: &Call,
+    number: u64,
+    held: &mut Items<Claim>,
+    seen: &mut Seen,
+) -> Result<(), OutOfMemory> {
+    let wanted = pair.wanted(call);
+    if !are_equal(alloc, pair, call)? {
+        seen.are_equal = false;
+    }
+    keep_held(pair, held);
+    if note_claim(pair, wanted, number, held)? {
+        seen.claims = seen.claims.saturating_add(1);
+    }
+    Ok(())
+}
+
+/// Makes a call: whether its answers are equal.
+fn are_equal(alloc: Global, pair: &mut Pair, call: &Call) -> Result<bool, OutOfMemory> {
+    let mut text = Text::new(alloc);
+    pair.perform(alloc, call, &mut text)
+}
+
+/// Keeps the claims that are still held.
+fn keep_held(pair: &Pair, held: &mut Items<Claim>) {
+    held.retain(|claim| pair.holds(claim));
 }
 
 /// Keeps the claim that a call made, and tells whether it made one.
