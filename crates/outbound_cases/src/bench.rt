@@ -10,7 +10,7 @@ use segment_defs::{Definitions, IdocType};
 use std::alloc::Global;
 
 /// What came of an item.
-#[derive(Debug, Drop)]
+#[derive(Drop)]
 pub(crate) enum Answer {
     /// This text was found, to be compared with the item's block.
     Text(Vec<u8>),

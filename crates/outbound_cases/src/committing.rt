@@ -14,10 +14,19 @@ use std::alloc::{AllocError, Global};
 use unit_core::{AleUnit, RawUnitDoc, Record};
 
 /// What the records of a log add, in order.
-#[derive(Debug, Drop)]
+#[derive(Drop)]
 struct Made {
     documents: Items<OutDocument>,
     units: Items<OutUnit>,
+}
+
+impl Made {
+    /// Appends what one more record adds.
+    fn append(&mut self, added: Added) -> Result<(), LineEnd> {
+        let Added { documents, units } = added;
+        self.documents.append(documents)?;
+        Ok(self.units.append(units)?)
+    }
 }
 
 /// `documents NUMBER ..`: the documents of these numbers that the log makes, or all with no number, a line each, as
@@ -79,10 +88,7 @@ fn add(
 ) -> Result<(), LineEnd> {
     let added = added_by(alloc, model, system, next, outbox)?;
     outbox.take(alloc, next, &added)?;
-    let Added { documents, units } = added;
-    made.documents.append(documents)?;
-    made.units.append(units)?;
-    Ok(())
+    made.append(added)
 }
 
 /// What one more record adds.

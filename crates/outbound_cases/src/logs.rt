@@ -43,6 +43,11 @@ impl Log {
             records: Vec::new(alloc),
         }
     }
+
+    /// Adds a record.
+    fn add(&mut self, next: Record) -> Result<(), LineEnd> {
+        Ok(self.records.push(next)?)
+    }
 }
 
 /// `model NAME`: a log names the model of this text so.
@@ -57,17 +62,26 @@ pub(crate) fn named_model(alloc: Global, item: &Item, text: &[u8]) -> Result<Nam
 /// of it.
 pub(crate) fn master(alloc: Global, item: &Item) -> Result<NamedMaster, LineEnd> {
     let (name, mestyp) = first_word(item.rest.as_slice());
+    let document = document_of(alloc, mestyp, item)?;
+    let name = Items::from_slice(alloc, name)?;
+    Ok(NamedMaster { name, document })
+}
+
+/// A master of a message type, with the data records of a block.
+fn document_of(alloc: Global, mestyp: &[u8], item: &Item) -> Result<RawUnitDoc, LineEnd> {
+    let control = control_of(alloc, mestyp)?;
+    let segments = Items::from_vec(records(alloc, item)?);
+    Ok(RawUnitDoc { control, segments })
+}
+
+/// The control record of a message type.
+fn control_of(alloc: Global, mestyp: &[u8]) -> Result<Shared<Control>, LineEnd> {
     if mestyp.len() > 30 {
         return Err(NO_RECORD.into());
     }
     let mut control = Control::blank();
     control.set(ControlField::Mestyp, mestyp);
-    let control = Shared::new(alloc, control)?;
-    let segments = Items::from_vec(records(alloc, item)?);
-    Ok(NamedMaster {
-        name: Items::from_slice(alloc, name)?,
-        document: RawUnitDoc { control, segments },
-    })
+    Ok(Shared::new(alloc, control)?)
 }
 
 /// `log`: each line of the block is a record, as `genesis SYSTEM NAME` and `model NAME` with a model, `commit NAME` with a master,
@@ -127,7 +141,7 @@ fn put_record(alloc: Global, bench: &Bench, text: &[u8], log: &mut Log) -> Resul
         Some(Line::Model) => put_model(alloc, bench, rest, log),
         Some(Line::Commit) => put_commit(alloc, bench, rest, log),
         Some(Line::Gather) => put_gather(alloc, bench, rest, log),
-        Some(Line::Dispatch) => Ok(log.records.push(Record::Dispatch)?),
+        Some(Line::Dispatch) => log.add(Record::Dispatch),
     }
 }
 
@@ -140,18 +154,23 @@ fn put_genesis(alloc: Global, bench: &Bench, text: &[u8], log: &mut Log) -> Resu
     };
     let text = taken_model(alloc, bench, name, log)?;
     log.system = Some(system);
-    Ok(
-        log.records.push(Record::Genesis {
-            system: number,
-            text,
-        })?,
-    )
+    log.add(genesis(number, text))
+}
+
+/// A Genesis of a system, with a text.
+fn genesis(system: u8, text: Items<u8>) -> Record {
+    Record::Genesis { system, text }
 }
 
 /// Adds a Model record with the model of a name.
 fn put_model(alloc: Global, bench: &Bench, name: &[u8], log: &mut Log) -> Result<(), LineEnd> {
     let text = taken_model(alloc, bench, name, log)?;
-    Ok(log.records.push(Record::Model { text })?)
+    log.add(model_record(text))
+}
+
+/// A Model with a text.
+fn model_record(text: Items<u8>) -> Record {
+    Record::Model { text }
 }
 
 /// Adds the model of a name to those of a log, and gives its text.
@@ -182,16 +201,12 @@ pub(crate) fn model_of(alloc: Global, text: &[u8]) -> Result<Model, LineEnd> {
 fn put_commit(alloc: Global, bench: &Bench, name: &[u8], log: &mut Log) -> Result<(), LineEnd> {
     let mut docs = Items::new(alloc);
     docs.push(master_named(bench, name)?)?;
-    put_committed(log, None, docs)
+    log.add(commit(None, docs))
 }
 
-/// Adds a Commit of documents, and of the message for which they were gathered.
-fn put_committed(
-    log: &mut Log,
-    origin: Option<Items<u8>>,
-    docs: Items<RawUnitDoc>,
-) -> Result<(), LineEnd> {
-    Ok(log.records.push(Record::Commit { origin, docs })?)
+/// A Commit of documents, and of the message for which they were gathered.
+fn commit(origin: Option<Items<u8>>, docs: Items<RawUnitDoc>) -> Record {
+    Record::Commit { origin, docs }
 }
 
 /// Adds a Commit of masters that were gathered, as `MESSAGE NAME ..`.
@@ -199,7 +214,7 @@ fn put_gather(alloc: Global, bench: &Bench, text: &[u8], log: &mut Log) -> Resul
     let (message, names) = first_word(text);
     let origin = Items::from_slice(alloc, message)?;
     let docs = masters_named(alloc, bench, names)?;
-    put_committed(log, Some(origin), docs)
+    log.add(commit(Some(origin), docs))
 }
 
 /// Copies of the masters of names, in order.

@@ -7,7 +7,7 @@ use segment_defs::{Definitions, Field, TypeNo, VersionNo};
 use std::alloc::{AllocError, Global};
 
 /// A node of a document, in a list in preorder.
-#[derive(Debug, Drop)]
+#[derive(Drop)]
 pub(crate) struct PlainNode {
     /// The place of the node above it.
     pub(crate) above: Option<usize>,

@@ -25,7 +25,7 @@ use std::alloc::{AllocError, Global};
 const MOST_LEVELS: u32 = 4;
 
 /// What came of some documents.
-#[derive(Clone, Copy, Debug)]
+#[derive(Clone, Copy)]
 struct Tally {
     /// How many were tried.
     tried: u32,
@@ -92,20 +92,48 @@ fn try_one(
     requires kept { IsIdocType lists.now.definitions ty.now }
 {
     let records = random_records(alloc, &lists.definitions, ty, values, dice)?;
+    let differs = try_records(alloc, lists, ty, values, records.as_slice(), dice, tally);
+    drop(records);
+    differs
+}
+
+/// Tries records, and random groups.
+fn try_records(
+    alloc: Global,
+    lists: &Lists,
+    ty: &IdocType,
+    values: &[Items<u8>],
+    records: &[Data],
+    dice: &mut Dice,
+    tally: &mut Tally,
+) -> Result<Option<Vec<u8>>, LineEnd>
+    requires definitions { AreDefinitions lists.now.definitions }
+    requires kept { IsIdocType lists.now.definitions ty.now }
+{
     let groups = random_groups(alloc, lists, values, dice)?;
+    let differs = try_groups(alloc, lists, ty, groups.as_slice(), records, tally);
+    drop(groups);
+    differs
+}
+
+/// Tries groups on the document of records, where they make one that is not too large.
+fn try_groups(
+    alloc: Global,
+    lists: &Lists,
+    ty: &IdocType,
+    groups: &[Group],
+    records: &[Data],
+    tally: &mut Tally,
+) -> Result<Option<Vec<u8>>, LineEnd>
+    requires definitions { AreDefinitions lists.now.definitions }
+    requires kept { IsIdocType lists.now.definitions ty.now }
+{
     if records.len() > MOST_NODES {
         return Ok(None);
     }
-    match document(alloc, lists, ty, records.as_slice())? {
+    match document(alloc, lists, ty, records)? {
         None => Ok(None),
-        Some(doc) => compare(
-            alloc,
-            lists,
-            ty,
-            groups.as_slice(),
-            doc.forest.as_slice(),
-            tally,
-        ),
+        Some(doc) => compare(alloc, lists, ty, groups, doc.forest.as_slice(), tally),
     }
 }
 
