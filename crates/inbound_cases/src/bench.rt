@@ -15,7 +15,7 @@ use std::mem::replace;
 use unit_core::{RawUnitDoc, Shared};
 
 /// What came of an item.
-#[derive(Debug, Drop)]
+#[derive(Drop)]
 pub(crate) enum Answer {
     /// This text was found, to be compared with the item's block.
     Text(Vec<u8>),

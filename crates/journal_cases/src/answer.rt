@@ -1,7 +1,7 @@
 //! What came of an item.
 
 /// What came of an item.
-#[derive(Debug, Drop)]
+#[derive(Drop)]
 pub(crate) enum Answer {
     /// This text was found, to be compared with the item's block.
     Text(Vec<u8>),

@@ -1,7 +1,7 @@
 //! Numbers that look random and are the same in each run.
 
 /// Numbers that look random and are the same in each run.
-#[derive(Clone, Copy, Debug)]
+#[derive(Clone, Copy)]
 pub(crate) struct Dice {
     state: u32,
 }
