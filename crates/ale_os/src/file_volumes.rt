@@ -58,7 +58,10 @@ impl<'a, R: rt::Files> FileVolumes<'a, R> {
     {
         match self.open.take(n) {
             Some(file) => Ok(file),
-            None => open_volume(self.rt, n),
+            None => {
+                self.open.make_room()?;
+                open_volume(self.rt, n)
+            }
         }
     }
 

@@ -1,8 +1,8 @@
 //! The outside as the operating system has it: its files, standard output, volumes that are files, and its clock.
 //!
-//! Contract: each adapter meets the trait of `ale_io` or `ale_volumes` that it is for, so its count of faults rises at each
-//! failed call. None tells what it holds or gives, so nothing is claimed of a real disk, of standard output or of the
-//! system's clock; what they do there is tried by cases.
+//! Contract: each adapter meets the trait of `ale_io` or `ale_volumes` that it is for, and so counts faults as that says. None
+//! tells what it holds or gives, so nothing is claimed of a real disk, of standard output or of the system's clock; what they
+//! do there is tried by cases.
 #![tactic(auto)]
 
 mod dir_files;

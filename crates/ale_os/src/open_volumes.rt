@@ -1,5 +1,6 @@
 //! The files of volumes that are open.
 
+use ale_volumes::VolumeEnd;
 use std::alloc::Global;
 
 /// The file of a volume, which is open.
@@ -30,7 +31,15 @@ impl<F: Drop> OpenVolumes<F> {
         Some(file)
     }
 
-    /// Keeps the file of a volume open. Where memory is wanting it is closed, and the next call on the volume opens it again.
+    /// Makes room for one more file, so that a file that is opened is kept.
+    pub(crate) fn make_room(&mut self) -> Result<(), VolumeEnd> {
+        match self.files.reserve(1) {
+            Ok(()) => Ok(()),
+            Err(_) => Err(VolumeEnd::OutOfMemory),
+        }
+    }
+
+    /// Keeps the file of a volume open. There is room for it: it was taken out, or room was made before it was opened.
     pub(crate) fn keep(&mut self, number: u8, file: F) {
         let _ = self.files.push(OpenVolume { number, file });
     }

@@ -19,13 +19,21 @@ pub(crate) fn read<F: Files>(
     rest: &[u8],
 ) -> Result<Vec<u8>, CallEnd> {
     let (limit, path) = first_word(rest);
-    let limit = number_of(limit)?;
+    let limit = limit_of(limit)?;
     let path = path_of(path)?;
     let mut into = Vec::from_slice(alloc, SO_FAR)?;
-    match files.read_file(path, limit as usize, &mut into) {
+    match files.read_file(path, limit, &mut into) {
         Ok(()) => Ok(two_lines(alloc, "read", into.as_slice())?),
         Err(end) => Ok(two_lines(alloc, name_of(end), into.as_slice())?),
     }
+}
+
+/// A limit: a number, or `any` for the greatest that there is.
+fn limit_of(word: &[u8]) -> Result<usize, CallEnd> {
+    if word == b"any".as_slice() {
+        return Ok(usize::MAX);
+    }
+    Ok(number_of(word)? as usize)
 }
 
 /// `piece AT MOST PATH`: a piece of the file is read, behind what is there before.
