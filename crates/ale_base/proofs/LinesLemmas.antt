@@ -1,5 +1,6 @@
 -- The lines of some bytes, found by their ends.
-use Rattle.std.proofs.Common.{◌≡◌, ℕ, zero, suc, ◌+◌, ◌<◌, ◌≤◌, ◌&&◌, Bool, true, false, nat_eq, inl, inr, List, [], ◌∷◌, ◌++◌, length, take, refl, sym, ap, subst, ◌∙◌, arith}
+use Rattle.std.proofs.Common.{◌≡◌, ℕ, zero, suc, ◌+◌, ◌<◌, ◌≤◌, ◌&&◌, Bool, true, false, nat_eq, inl, inr, List, [], ◌∷◌, ◌++◌, length, take, refl, sym, ap}
+use Rattle.std.proofs.Common.{subst, ◌∙◌, arith}
 use Rattle.std.specs.List.{AllByRecursion}
 use Rattle.std.proofs.lemmas.Bool.Decides.{eqb_tells}
 use Rattle.std.proofs.lemmas.Bool.{cases_Bool, false≢true}
@@ -80,4 +81,5 @@ IsNoEnd-before bytes n within nowhere = no_end_below bytes n (omega arith) nowhe
 
 -- bytes in which there is none
 pub IsNoEnd-all : (bytes : List ℕ) → Nowhere (Passes (is_byte 10) bytes) 0 (length bytes) → AllByRecursion IsNoEnd bytes
-IsNoEnd-all bytes nowhere = subst (AllByRecursion IsNoEnd) (take_all (length bytes) bytes (omega arith)) (no_end_below bytes (length bytes) (omega arith) nowhere)
+IsNoEnd-all bytes nowhere = subst (AllByRecursion IsNoEnd) (take_all (length bytes) bytes (omega arith))
+    (no_end_below bytes (length bytes) (omega arith) nowhere)

@@ -2,7 +2,8 @@
 use Rattle.std.specs.Prelude.{not, slice_get, slice_set, slice_index_or, Contains}
 use Rattle.std.specs.Bool.{MatchBool}
 use Rattle.std.specs.List.{AllByRecursion, AllWithin, HoldsAt, IsDistinct, list_all, flat_map}
-use Rattle.std.proofs.Common.{◌≡◌, ◌↔◌, ◌⊎◌, inl, inr, ℕ, zero, suc, ◌<◌, ◌≤◌, ◌-◌, Bool, true, false, Some, List, [], ◌∷◌, ◌++◌, length, drop, map, refl, sym, ◌∙◌, subst, arith, ◌≢◌, ap}
+use Rattle.std.proofs.Common.{◌≡◌, ◌↔◌, ◌⊎◌, inl, inr, ℕ, zero, suc, ◌<◌, ◌≤◌, ◌-◌, Bool, true, false, Some, List, [], ◌∷◌, ◌++◌, length, drop, map, refl, sym}
+use Rattle.std.proofs.Common.{◌∙◌, subst, arith, ◌≢◌, ap}
 use Rattle.std.proofs.lemmas.Bool.{false≢true, and_parts, not-true}
 use Rattle.std.proofs.lemmas.Option.{same_Some, slice_get_within, get_or_from_slice_get}
 use Rattle.std.proofs.lemmas.List.Concat.{flat_map-cons}
@@ -53,7 +54,8 @@ AllByRecursion-from_map P f [] all = tt
 AllByRecursion-from_map P f (y ∷ ys) all = (all.0, AllByRecursion-from_map P f ys all.1)
 
 -- what holds of each element of the list of each holds of all of them together
-pub AllByRecursion-flat_map : {A B : Type 0} (P : A → Type 0) (f : B → List A) (ys : List B) → AllByRecursion (λ y. AllByRecursion P (f y)) ys ↔ AllByRecursion P (flat_map f ys)
+pub AllByRecursion-flat_map : {A B : Type 0} (P : A → Type 0) (f : B → List A) (ys : List B) →
+    AllByRecursion (λ y. AllByRecursion P (f y)) ys ↔ AllByRecursion P (flat_map f ys)
 AllByRecursion-flat_map P f [] = (λ all. tt, λ all. tt)
 AllByRecursion-flat_map P f (y ∷ ys) =
     let rest = AllByRecursion-flat_map P f ys in (
@@ -62,7 +64,8 @@ AllByRecursion-flat_map P f (y ∷ ys) =
     )
 
 -- a test of each element says what it says of all of them
-pub all-decided : {A : Type 0} (P : A → Type 0) (xs : List A) (r : Bool) → MatchBool r (AllWithin P xs 0 (length xs)) ((k : ℕ) × (k < length xs) × HoldsAt (λ x. P x → ⊥) xs k) → (r ≡ true) ↔ AllByRecursion P xs
+pub all-decided : {A : Type 0} (P : A → Type 0) (xs : List A) (r : Bool) →
+    MatchBool r (AllWithin P xs 0 (length xs)) ((k : ℕ) × (k < length xs) × HoldsAt (λ x. P x → ⊥) xs k) → (r ≡ true) ↔ AllByRecursion P xs
 all-decided P xs true cases = (λ is. recursion_from_All P xs (All-from_all_within P xs cases), λ all. refl)
 all-decided P [] false cases = absurd (omega (arith, cases.1))
 all-decided P (x ∷ xs) false cases = (
@@ -81,7 +84,8 @@ module _ {A K : Type 0} (same : K → K → Bool) (key : A → K) where
   all-differs k (x ∷ xs) all = rw (all.0, all-differs k xs all.1)
 
   -- a test of each element says that a key differs from all of theirs
-  pub differs-decided : (k : K) (xs : List A) (r : Bool) → r ≡ list_all (λ x. not (same k (key x))) xs → (r ≡ true) ↔ AllByRecursion (λ other. same k other ≡ false) (map key xs)
+  pub differs-decided : (k : K) (xs : List A) (r : Bool) → r ≡ list_all (λ x. not (same k (key x))) xs →
+      (r ≡ true) ↔ AllByRecursion (λ other. same k other ≡ false) (map key xs)
   differs-decided k xs r is = rw is (differs-all k xs, all-differs k xs)
 
 -- the key differs from each of the list
@@ -89,13 +93,15 @@ abbrev pub IsNew : {K : Type 0} → (K → K → Bool) → List K → K → Type
 IsNew same ks k = AllByRecursion (λ other. same k other ≡ false) ks
 
 -- keys stand once in two lists together where they do in each, and those of the first are not in the second
-pub IsDistinct-append : {K : Type 0} (same : K → K → Bool) (xs ys : List K) → IsDistinct same xs → AllByRecursion (IsNew same ys) xs → IsDistinct same ys → IsDistinct same (xs ++ ys)
+pub IsDistinct-append : {K : Type 0} (same : K → K → Bool) (xs ys : List K) → IsDistinct same xs → AllByRecursion (IsNew same ys) xs → IsDistinct same ys →
+    IsDistinct same (xs ++ ys)
 unfolding IsDistinct
 IsDistinct-append same [] ys front apart back = back
 IsDistinct-append same (x ∷ xs) ys front apart back =
     (AllByRecursion-append _ xs ys front.0 apart.0, IsDistinct-append same xs ys front.1 apart.1 back)
 
-pub IsDistinct-parts : {K : Type 0} (same : K → K → Bool) (xs ys : List K) → IsDistinct same (xs ++ ys) → IsDistinct same xs × AllByRecursion (IsNew same ys) xs × IsDistinct same ys
+pub IsDistinct-parts : {K : Type 0} (same : K → K → Bool) (xs ys : List K) → IsDistinct same (xs ++ ys) →
+    IsDistinct same xs × AllByRecursion (IsNew same ys) xs × IsDistinct same ys
 unfolding IsDistinct
 IsDistinct-parts same [] ys all = (tt, tt, all)
 IsDistinct-parts same (x ∷ xs) ys all =

@@ -1,7 +1,8 @@
 -- What stands in a list, what is found in it, and one more element at its end.
 use Rattle.std.specs.Prelude.{find, filter, Contains}
 use Rattle.std.specs.List.{list_any, list_all, filter_map, cons_option}
-use Rattle.std.proofs.Common.{◌≡◌, zero, suc, Bool, true, false, cond, ◌&&◌, ◌||◌, Option, Some, None, List, [], ◌∷◌, ◌++◌, map, inl, inr, ◌⊎◌, refl, sym, ap, subst, ◌∙◌, arith, append_assoc}
+use Rattle.std.proofs.Common.{◌≡◌, zero, suc, Bool, true, false, cond, ◌&&◌, ◌||◌, Option, Some, None, List, [], ◌∷◌, ◌++◌, map, inl, inr, ◌⊎◌, refl, sym, ap}
+use Rattle.std.proofs.Common.{subst, ◌∙◌, arith, append_assoc}
 use Rattle.std.proofs.lemmas.Bool.{cases_Bool, cond-true, cond-false, and_parts, and_from, or_cases}
 use Rattle.std.proofs.lemmas.List.{append-nil}
 use Rattle.std.proofs.lemmas.List.Elements.{Contains-append_left, filter-append, filter_map-append}
@@ -106,7 +107,8 @@ find-Some p (y ∷ ys) x found =
     ]
 
 -- a test that passes fewer elements, but still the first one, finds it
-pub find-narrower : {X : Type 0} (p q : X → Bool) (xs : List X) (x : X) → find p xs ≡ Some x → ((y : X) → p y ≡ false → q y ≡ false) → q x ≡ true → find q xs ≡ Some x
+pub find-narrower : {X : Type 0} (p q : X → Bool) (xs : List X) (x : X) → find p xs ≡ Some x → ((y : X) → p y ≡ false → q y ≡ false) → q x ≡ true →
+    find q xs ≡ Some x
 find-narrower p q [] x found fewer passes = found
 find-narrower p q (y ∷ ys) x found fewer passes =
     elim (cases_Bool (p y)) [

@@ -47,7 +47,8 @@ pub AllByRecursion-front : {A : Type 0} (P : A → Type 0) (xs : List A) (x : A)
 AllByRecursion-front P [] x all = (tt, all.0)
 AllByRecursion-front P (y ∷ ys) x all = let rest = AllByRecursion-front P ys x all.1 in ((all.0, rest.0), rest.1)
 
-pub AllZip-snoc : {A B : Type 0} (R : A → B → Type 0) (xs : List A) (ys : List B) (x : A) (y : B) → AllZip R xs ys → R x y → AllZip R (xs ++ x ∷ []) (ys ++ y ∷ [])
+pub AllZip-snoc : {A B : Type 0} (R : A → B → Type 0) (xs : List A) (ys : List B) (x : A) (y : B) → AllZip R xs ys → R x y →
+    AllZip R (xs ++ x ∷ []) (ys ++ y ∷ [])
 AllZip-snoc R [] [] x y all here = (here, tt)
 AllZip-snoc R [] (b ∷ bs) x y all here = absurd all
 AllZip-snoc R (a ∷ more) [] x y all here = absurd all
@@ -61,14 +62,16 @@ pub AllZip-long : {A B : Type 0} (R : A → B → Type 0) (xs : List A) (x : A) 
 AllZip-long R [] x all = all
 AllZip-long R (a ∷ more) x all = all
 
-pub AllZip-front : {A B : Type 0} (R : A → B → Type 0) (xs : List A) (ys : List B) (x : A) (y : B) → AllZip R (xs ++ x ∷ []) (ys ++ y ∷ []) → AllZip R xs ys × R x y
+pub AllZip-front : {A B : Type 0} (R : A → B → Type 0) (xs : List A) (ys : List B) (x : A) (y : B) → AllZip R (xs ++ x ∷ []) (ys ++ y ∷ []) →
+    AllZip R xs ys × R x y
 AllZip-front R [] [] x y all = (tt, all.0)
 AllZip-front R [] (b ∷ bs) x y all = absurd (AllZip-short R bs y all.1)
 AllZip-front R (a ∷ more) [] x y all = absurd (AllZip-long R more x all.1)
 AllZip-front R (a ∷ more) (b ∷ bs) x y all = let rest = AllZip-front R more bs x y all.1 in ((all.0, rest.0), rest.1)
 
 -- the last element of a list, and the list with another one in its place
-pub set-last : {A : Type 0} (xs : List A) (n : ℕ) (x y : A) → n + 1 ≡ length xs → slice_get xs n ≡ Some x → (xs ≡ take n xs ++ x ∷ []) × (slice_set xs n y ≡ take n xs ++ y ∷ [])
+pub set-last : {A : Type 0} (xs : List A) (n : ℕ) (x y : A) → n + 1 ≡ length xs → slice_get xs n ≡ Some x →
+    (xs ≡ take n xs ++ x ∷ []) × (slice_set xs n y ≡ take n xs ++ y ∷ [])
 set-last [] n x y long here = absurd (omega arith)
 set-last (a ∷ []) zero x y long here = (cc, refl)
 set-last (a ∷ b ∷ bs) zero x y long here = absurd (omega arith)

@@ -20,13 +20,15 @@ drop-spelling tid = refl
 pub number_of-system : (bytes : List ℕ) (tid : TidOf) → IsTid tid → bytes ≡ spelling tid → tid.system ≡ number_of (take 8 bytes)
 number_of-system bytes tid is same =
     let small : tid.system ≤ 16 = is.system_most in
-    let spelled : number_of (take 8 bytes) ≡ tid.system = ap (λ (bs : List ℕ). number_of (take 8 bs)) same ∙ ap number_of (take-spelling tid) ∙ number_of-digits_of 8 tid.system (omega arith) in
+    let spelled : number_of (take 8 bytes) ≡ tid.system = ap (λ (bs : List ℕ). number_of (take 8 bs)) same ∙ ap number_of (take-spelling tid)
+    ∙ number_of-digits_of 8 tid.system (omega arith) in
     cc
 
 pub number_of-unit : (bytes : List ℕ) (tid : TidOf) → IsTid tid → bytes ≡ spelling tid → tid.unit ≡ number_of (drop 4 (drop 8 bytes))
 number_of-unit bytes tid is same =
     let small : tid.unit ≤ 65536 = is.unit_most in
-    let spelled : number_of (drop 4 (drop 8 bytes)) ≡ tid.unit = ap (λ (bs : List ℕ). number_of (drop 4 (drop 8 bs))) same ∙ ap number_of (drop-spelling tid) ∙ number_of-digits_of 12 tid.unit (omega arith) in
+    let spelled : number_of (drop 4 (drop 8 bytes)) ≡ tid.unit = ap (λ (bs : List ℕ). number_of (drop 4 (drop 8 bs))) same ∙ ap number_of (drop-spelling tid)
+    ∙ number_of-digits_of 12 tid.unit (omega arith) in
     cc
 
 pub length-spelling : (tid : TidOf) → length (spelling tid) ≡ 24

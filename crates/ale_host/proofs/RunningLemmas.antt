@@ -49,7 +49,8 @@ opened-up many text set now opened = ap first_down opened.world ∙ all_up 1 (ge
 
 -- what a run has is what its files say
 pub runs-said : {V : Type 0} (disk : Disk V) (text text_said : List ℕ) (model model_said : Lists) (masters masters_said : List RawUnitDoc)
-    (commands commands_said : List Command) (before after : V) (report : Report) (clock : Type 0) (given given_after : List ℕ) (status : ℕ) (printed sure : List ℕ)
+    (commands commands_said : List Command) (before after : V) (report : Report) (clock : Type 0) (given given_after : List ℕ) (status : ℕ)
+    (printed sure : List ℕ)
     → text ≡ text_said → model ≡ model_said → masters ≡ masters_said → commands ≡ commands_said
     → RunsTo disk text model masters commands before after report clock given given_after status printed sure
     → RunsTo disk text_said model_said masters_said commands_said before after report clock given given_after status printed sure
@@ -123,7 +124,8 @@ pub ran-from : {V : Type 0} (disk : Disk V) (text : List ℕ) (model : Lists) (m
     → arc_value inputs.model ≡ model → inputs.masters ≡ masters → (clock → given_then ≡ given ++ moment ∷ []) → commands_then ≡ commands
     → report_then ≡ report → RanFrom disk report_then (arc_value inputs.model) inputs commands_then begun after clock given_then given_after status printed sure
     → RunsTo disk text model masters commands before after report clock given given_after status printed sure
-ran-from disk text model masters commands commands_then before after report report_then clock given given_then given_after status printed sure moment begun inputs
+ran-from disk text model masters commands commands_then before after report report_then clock given given_then given_after status printed sure moment begun
+    inputs
     opened names masters_are asked same reports from =
     let its : RanFrom disk report model inputs commands begun after clock given_then given_after status printed sure =
     subst (λ one. RanFrom disk one model inputs commands begun after clock given_then given_after status printed sure) reports

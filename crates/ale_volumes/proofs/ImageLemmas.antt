@@ -27,14 +27,18 @@ two a b m (suc zero, low, same) = inr (sym same)
 two a b m (suc (suc k), low, same) = absurd (omega arith)
 
 -- After one write to it each image is torn in the range of the write.
-pub written-image : (bytes : List ℕ) (at : ℕ) (more image : List ℕ) → at ≤ length bytes → IsImage (written (settled bytes) at more) image → Torn at (length more) bytes image
+pub written-image : (bytes : List ℕ) (at : ℕ) (more image : List ℕ) → at ≤ length bytes → IsImage (written (settled bytes) at more) image →
+    Torn at (length more) bytes image
 written-image bytes at more image within is = record {
   before = ext_get_or 0 (take at image) (take at bytes) (omega (arith, length-take at image, length-take at bytes, no_shorter)) (λ i low.
       let short : i < at = omega (arith, low, length-take at image) in
-      get_or-take at image i 0 short ∙ is.synced i (omega (arith, no_shorter)) (omega arith) (apart i (λ here. omega (arith, here.0))) ∙ sym (get_or-take at bytes i 0 short));
-  behind = ext_get_or 0 (drop (at + length more) image) (drop (at + length more) bytes) (omega (arith, length-drop (at + length more) image, length-drop (at + length more) bytes, sizes)) (λ i low.
+      get_or-take at image i 0 short ∙ is.synced i (omega (arith, no_shorter)) (omega arith) (apart i (λ here. omega (arith, here.0)))
+      ∙ sym (get_or-take at bytes i 0 short));
+  behind = ext_get_or 0 (drop (at + length more) image) (drop (at + length more) bytes)
+      (omega (arith, length-drop (at + length more) image, length-drop (at + length more) bytes, sizes)) (λ i low.
       let past : at + length more + i < length image = omega (arith, low, length-drop (at + length more) image) in
-      get_or-drop (at + length more) image i 0 ∙ is.synced (at + length more + i) past (omega (arith, past, sizes)) (apart (at + length more + i) (λ here. omega (arith, here.1))) ∙ sym (get_or-drop (at + length more) bytes i 0));
+      get_or-drop (at + length more) image i 0 ∙ is.synced (at + length more + i) past (omega (arith, past, sizes))
+      (apart (at + length more + i) (λ here. omega (arith, here.1))) ∙ sym (get_or-drop (at + length more) bytes i 0));
   size = sizes;
 }
   where
@@ -55,7 +59,8 @@ written-image bytes at more image within is = record {
     apart i outside (inr none) = none
 
 -- So it is where the write failed.
-pub failed-image : (bytes : List ℕ) (at : ℕ) (more : List ℕ) (new : Volume) (image : List ℕ) → at ≤ length bytes → FailsToWrite (settled bytes) at more new → IsImage new image → Torn at (length more) bytes image
+pub failed-image : (bytes : List ℕ) (at : ℕ) (more : List ℕ) (new : Volume) (image : List ℕ) → at ≤ length bytes → FailsToWrite (settled bytes) at more new →
+    IsImage new image → Torn at (length more) bytes image
 failed-image bytes at more new image within fails is =
     let same = subst (λ (v : Volume). IsImage v image) fails.counts is in
     written-image bytes at more image within (record { size = same.size; synced = same.synced })
@@ -83,7 +88,8 @@ write-left (Err OutOfMemory) old new at more within is failed refused =
     subst (λ (v : Volume). Torn at (length more) old.contents v.contents) (sym (refused refl)) (torn-none at (length more) old.contents)
 
 -- After a sync, however it ended, a read gives what it gave.
-pub sync-left : (result : Result (Unit {0}) VolumeFailed) (old new : Volume) → OnOk result (new ≡ settled old.contents) → OnErr result (new ≡ old) → new.contents ≡ old.contents
+pub sync-left : (result : Result (Unit {0}) VolumeFailed) (old new : Volume) → OnOk result (new ≡ settled old.contents) → OnErr result (new ≡ old) →
+    new.contents ≡ old.contents
 sync-left (Ok done) old new is kept = ap (λ (v : Volume). v.contents) is
 sync-left (Err fault) old new is kept = ap (λ (v : Volume). v.contents) kept
 
@@ -92,7 +98,8 @@ pub write-image : (result : Result (Unit {0}) VolumeEnd) (old new : Volume) (at 
     → OnOk result (new ≡ written old at more) → (IsErrOf result Failed → FailsToWrite old at more new) → (IsErrOf result OutOfMemory → new ≡ old)
     → (image : List ℕ) → IsImage new image → Torn at (length more) old.contents image
 write-image (Ok done) old new at more durable within is failed refused image left =
-    written-image old.contents at more image within (subst (λ (v : Volume). IsImage (written v at more) image) durable (subst (λ (v : Volume). IsImage v image) is left))
+    written-image old.contents at more image within
+    (subst (λ (v : Volume). IsImage (written v at more) image) durable (subst (λ (v : Volume). IsImage v image) is left))
 write-image (Err Failed) old new at more durable within is failed refused image left =
     failed-image old.contents at more new image within (subst (λ (v : Volume). FailsToWrite v at more new) durable (failed refl)) left
 write-image (Err OutOfMemory) old new at more durable within is failed refused image left =
@@ -100,7 +107,8 @@ write-image (Err OutOfMemory) old new at more durable within is failed refused i
     subst (λ (i : List ℕ). Torn at (length more) old.contents i) (sym same) (torn-none at (length more) old.contents)
 
 -- After a sync, however it ended, a crash leaves only what it left before.
-pub sync-image : (result : Result (Unit {0}) VolumeFailed) (old new : Volume) → OnOk result (new ≡ settled old.contents) → OnErr result (new ≡ old) → IsImage old old.contents
+pub sync-image : (result : Result (Unit {0}) VolumeFailed) (old new : Volume) → OnOk result (new ≡ settled old.contents) → OnErr result (new ≡ old) →
+    IsImage old old.contents
     → (image : List ℕ) → IsImage new image → IsImage old image
 sync-image (Ok done) old new is kept read image left =
     let same = settled-image old.contents image (subst (λ (v : Volume). IsImage v image) is left) in

@@ -1,6 +1,7 @@
 -- What is kept beside the record stays so through a write and a sync.
 use Rattle.std.specs.Prelude.{slice_index_or}
-use Rattle.std.proofs.Common.{◌≡◌, ◌≢◌, inl, inr, ℕ, ◌+◌, ◌<◌, ◌≤◌, Bool, true, false, cond, eqb, List, [], ◌∷◌, ◌++◌, length, set, get_or, refl, sym, ◌∙◌, ap, subst, arith, rules}
+use Rattle.std.proofs.Common.{◌≡◌, ◌≢◌, inl, inr, ℕ, ◌+◌, ◌<◌, ◌≤◌, Bool, true, false, cond, eqb, List, [], ◌∷◌, ◌++◌, length, set, get_or, refl, sym, ◌∙◌, ap}
+use Rattle.std.proofs.Common.{subst, arith, rules}
 use Rattle.std.proofs.lemmas.Bool.{cases_eq}
 use Rattle.std.proofs.lemmas.List.{get_or-set_same, get_or-set_other, length-set, length_push}
 use Rattle.std.proofs.lemmas.Bool.Decides.{nat_tests}
@@ -13,9 +14,11 @@ use Rattle.ale_volumes.specs.Volume.{settled}
 use Rattle.ale_volumes.specs.Memory.{after_step, after_steps, contents_after, written_or_half, place_in, IsKept}
 use Rattle.ale_volumes.specs.MemoryLemmas.{after_steps-push, after_step-other, after_step-sync, chosen_then, volume_of}
 
-contents-after_step : (n : ℕ) (volume : Volume) (at : ℕ) (bytes : List ℕ) (failed : Bool) → (after_step n volume (Write n at bytes failed)).contents ≡ contents_after volume.contents at bytes failed
+contents-after_step : (n : ℕ) (volume : Volume) (at : ℕ) (bytes : List ℕ) (failed : Bool) → (after_step n volume (Write n at bytes failed)).contents
+    ≡ contents_after volume.contents at bytes failed
 contents-after_step n volume at bytes failed =
-    ap (λ (v : Volume). v.contents) (chosen_then _ (written_or_half volume (place_in volume.contents at) bytes failed) volume (search (rules, nat_tests))) ∙ by_failure failed
+    ap (λ (v : Volume). v.contents) (chosen_then _ (written_or_half volume (place_in volume.contents at) bytes failed) volume (search (rules, nat_tests)))
+    ∙ by_failure failed
   where
     by_failure : (f : Bool) → (written_or_half volume (place_in volume.contents at) bytes f).contents ≡ contents_after volume.contents at bytes f
     by_failure true = refl
@@ -26,14 +29,17 @@ writes-after_write : (n : ℕ) (volume : Volume) (at : ℕ) (bytes : List ℕ) (
 writes-after_write n volume at bytes failed =
     let write : UnsyncedWrite = record { at = place_in volume.contents at; bytes = bytes } in
     let is : length (after_step n volume (Write n at bytes failed)).writes ≡ length (written_or_half volume (place_in volume.contents at) bytes failed).writes =
-    ap (λ (v : Volume). length v.writes) (chosen_then (eqb n n) (written_or_half volume (place_in volume.contents at) bytes failed) volume (search (rules, nat_tests))) in
+    ap (λ (v : Volume). length v.writes) (chosen_then (eqb n n) (written_or_half volume (place_in volume.contents at) bytes failed) volume
+    (search (rules, nat_tests))) in
     omega (arith, is, by_failure failed, length_push volume.writes write)
   where
-    by_failure : (f : Bool) → length (written_or_half volume (place_in volume.contents at) bytes f).writes ≡ length (volume.writes ++ record { at = place_in volume.contents at; bytes = bytes } ∷ [])
+    by_failure : (f : Bool) → length (written_or_half volume (place_in volume.contents at) bytes f).writes
+        ≡ length (volume.writes ++ record { at = place_in volume.contents at; bytes = bytes } ∷ [])
     by_failure true = refl
     by_failure false = refl
 
-module _ (start : List (List ℕ)) (steps : List Step) (held : List (List ℕ)) (unsynced : List Bool) (capacity : ℕ) (kept : IsKept start steps held unsynced capacity) (n : ℕ) where
+module _ (start : List (List ℕ)) (steps : List Step) (held : List (List ℕ)) (unsynced : List Bool) (capacity : ℕ)
+    (kept : IsKept start steps held unsynced capacity) (n : ℕ) where
   -- another volume after a step of this one
   other_volume : (step : Step) (m : ℕ) → m ≢ volume_of step → after_steps start (steps ++ step ∷ []) m ≡ after_steps start steps m
   other_volume step m other = after_steps-push start steps step m ∙ after_step-other m _ step other
@@ -54,7 +60,8 @@ module _ (start : List (List ℕ)) (steps : List Step) (held : List (List ℕ)) 
               let here : get_or (set held n now) n [] ≡ now = get_or-set_same held n now [] (omega arith) in
               let was = kept.holds n within in
               let is : now ≡ (after_steps start (steps ++ step ∷ []) n).contents =
-              ap (λ (l : List ℕ). contents_after l at bytes failed) was ∙ sym (contents-after_step n old at bytes failed) ∙ ap (λ (v : Volume). v.contents) (sym (after_steps-push start steps step n)) in
+              ap (λ (l : List ℕ). contents_after l at bytes failed) was ∙ sym (contents-after_step n old at bytes failed)
+              ∙ ap (λ (v : Volume). v.contents) (sym (after_steps-push start steps step n)) in
               subst (λ (k : ℕ). get_or (set held n now) k [] ≡ (after_steps start (steps ++ step ∷ []) k).contents) (sym same) (here ∙ is)
           | inr other ↦ get_or-set_other held n m now [] other ∙ kept.holds m low ∙ ap (λ (v : Volume). v.contents) (sym (other_volume step m other))
         ];
@@ -91,7 +98,8 @@ module _ (start : List (List ℕ)) (steps : List Step) (held : List (List ℕ)) 
         flags = length-set unsynced n false ∙ flags;
         holds = λ m low. elim (cases_eq m n) [
           | inl same ↦
-              let is : get_or held n [] ≡ (after_steps start (steps ++ step ∷ []) n).contents = kept.holds n within ∙ ap (λ (v : Volume). v.contents) (sym now) in
+              let is : get_or held n [] ≡ (after_steps start (steps ++ step ∷ []) n).contents = kept.holds n within
+              ∙ ap (λ (v : Volume). v.contents) (sym now) in
               subst (λ (k : ℕ). get_or held k [] ≡ (after_steps start (steps ++ step ∷ []) k).contents) (sym same) is
           | inr other ↦ kept.holds m low ∙ ap (λ (v : Volume). v.contents) (sym (other_volume step m other))
         ];
@@ -114,9 +122,11 @@ module _ (start : List (List ℕ)) (steps : List Step) (held : List (List ℕ)) 
       }
 
 -- the same by other names
-pub kept-renamed : (start : List (List ℕ)) (steps more : List Step) (held other : List (List ℕ)) (unsynced : List Bool) (capacity : ℕ) → more ≡ steps → other ≡ held → IsKept start steps held unsynced capacity → IsKept start more other unsynced capacity
+pub kept-renamed : (start : List (List ℕ)) (steps more : List Step) (held other : List (List ℕ)) (unsynced : List Bool) (capacity : ℕ) → more ≡ steps →
+    other ≡ held → IsKept start steps held unsynced capacity → IsKept start more other unsynced capacity
 kept-renamed start steps more held other unsynced capacity same_steps same_held kept =
-    subst (λ (s : List Step). IsKept start s other unsynced capacity) (sym same_steps) (subst (λ (h : List (List ℕ)). IsKept start steps h unsynced capacity) (sym same_held) kept)
+    subst (λ (s : List Step). IsKept start s other unsynced capacity) (sym same_steps)
+    (subst (λ (h : List (List ℕ)). IsKept start steps h unsynced capacity) (sym same_held) kept)
 
 -- a push that succeeds
 pub pushed_ok : {X : Type 0} (b : Bool) (now old more : List X) → b ≡ true → now ≡ cond b more old → now ≡ more

@@ -5,7 +5,8 @@ use Rattle.ale_volumes.specs.declared.step.Step.TheVariants.{Write, Sync}
 use Rattle.ale_volumes.specs.Volume.{IsImage, settled, written, FailsToWrite}
 use Rattle.ale_volumes.specs.Clock.{Elapses, KeepsOthers}
 use Rattle.ale_volumes.specs.Memory.{MemoryOf, AddsSync, half_written, after_step}
-use Rattle.ale_volumes.specs.MemoryLemmas.{volume_now, moment_of, images_of, volume_step, volume_same, elapses_step, elapses_still, others_stay, others_same, after_step-sync, after_step-write, after_step-half, after_steps-clean, half_written-torn}
+use Rattle.ale_volumes.specs.MemoryLemmas.{volume_now, moment_of, images_of, volume_step, volume_same, elapses_step, elapses_still, others_stay, others_same}
+use Rattle.ale_volumes.specs.MemoryLemmas.{after_step-sync, after_step-write, after_step-half, after_steps-clean, half_written-torn}
 
 module _ (old new : MemoryOf) (n : ℕ) (start : new.start ≡ old.start) where
   pub sync-durable : AddsSync old new n → volume_now new n ≡ settled (volume_now old n).contents

@@ -14,7 +14,9 @@ record Keeps (n : ℕ) (synced : List ℕ) (writes : List UnsyncedWrite) (image 
   size : length image ≡ n
   kept : (place : ℕ) → place < n → place < length synced → ¬ IsCovered writes place → get_or image place 0 ≡ get_or synced place 0
 
-laid_over_keeps : (size : ℕ) (synced : List ℕ) (writes : List UnsyncedWrite) (image : List ℕ) (write : UnsyncedWrite) (count : ℕ) → ((place : ℕ) → (write.at ≤ place) × (place < write.at + length write.bytes) → IsCovered writes place) → Keeps size synced writes image → Keeps size synced writes (laid_over size image write count)
+laid_over_keeps : (size : ℕ) (synced : List ℕ) (writes : List UnsyncedWrite) (image : List ℕ) (write : UnsyncedWrite) (count : ℕ) →
+    ((place : ℕ) → (write.at ≤ place) × (place < write.at + length write.bytes) → IsCovered writes place) → Keeps size synced writes image →
+    Keeps size synced writes (laid_over size image write count)
 laid_over_keeps size synced writes image write count covers keeps =
     let at = min write.at (length image) in
     let front = take count write.bytes in
@@ -25,11 +27,13 @@ laid_over_keeps size synced writes image write count covers keeps =
       size = omega (arith, length-take size (overwritten image at front), long, was);
       kept = λ place low within apart.
           get_or-take size (overwritten image at front) place 0 low
-          ∙ overwritten_apart image at front (length write.bytes) place (omega arith) shorter (λ here. apart (covers place (omega (arith, was, here.0, here.1), omega (arith, was, here.0, here.1))))
+          ∙ overwritten_apart image at front (length write.bytes) place (omega arith) shorter
+          (λ here. apart (covers place (omega (arith, was, here.0, here.1), omega (arith, was, here.0, here.1))))
           ∙ keeps.kept place low within apart;
     }
 
-laid_keeps : (size : ℕ) (synced : List ℕ) (all writes : List UnsyncedWrite) (counts image : List ℕ) → ((place : ℕ) → IsCovered writes place → IsCovered all place) → Keeps size synced all image → Keeps size synced all (laid size writes counts image)
+laid_keeps : (size : ℕ) (synced : List ℕ) (all writes : List UnsyncedWrite) (counts image : List ℕ) →
+    ((place : ℕ) → IsCovered writes place → IsCovered all place) → Keeps size synced all image → Keeps size synced all (laid size writes counts image)
 laid_keeps size synced all [] counts image among keeps = keeps
 laid_keeps size synced all (write ∷ writes) counts image among keeps =
     laid_keeps size synced all writes (drop 1 counts) _ (λ place there. among place (inr there))
@@ -37,7 +41,13 @@ laid_keeps size synced all (write ∷ writes) counts image among keeps =
 
 at_length_keeps : (size filler : ℕ) (synced : List ℕ) (writes : List UnsyncedWrite) → Keeps size synced writes (at_length size filler synced)
 at_length_keeps size filler synced writes = record {
-  size = omega (arith, length-append (take size synced) (replicate (size - length synced) filler), length-take size synced, length-replicate (size - length synced) filler);
+  size = omega (
+    arith,
+    length-append (take size synced) (replicate (size - length synced) filler),
+    length-take size synced,
+    length-replicate
+        (size - length synced) filler,
+  );
   kept = λ place low within apart. search (rules, places);
 }
 
@@ -45,7 +55,8 @@ pub surviving-image : (volume : Volume) (survivors : Survivors) → 0 < length v
 surviving-image volume survivors some =
     let at = length volume.lengths - 1 - min survivors.length (length volume.lengths - 1) in
     let size = chosen_length volume survivors.length in
-    let keeps = laid_keeps size volume.synced volume.writes volume.writes survivors.bytes _ (λ place there. there) (at_length_keeps size survivors.filler volume.synced volume.writes) in
+    let keeps = laid_keeps size volume.synced volume.writes volume.writes survivors.bytes _ (λ place there. there)
+    (at_length_keeps size survivors.filler volume.synced volume.writes) in
     record {
       size = (at, omega arith, get_or_default volume.lengths at (length (surviving volume survivors)) 0 (omega arith) ∙ sym keeps.size);
       synced = λ place low within apart. keeps.kept place (omega (arith, keeps.size)) within apart;
@@ -53,7 +64,8 @@ surviving-image volume survivors some =
 
 -- one write further
 pub laid_more : (size : ℕ) (writes : List UnsyncedWrite) (counts image : List ℕ) (i : ℕ) (d : UnsyncedWrite) → i < length writes
-    → laid size (drop i writes) (drop i counts) image ≡ laid size (drop (i + 1) writes) (drop (i + 1) counts) (laid_over size image (get_or writes i d) (get_or counts i 0))
+    → laid size (drop i writes) (drop i counts) image ≡ laid size (drop (i + 1) writes) (drop (i + 1) counts)
+    (laid_over size image (get_or writes i d) (get_or counts i 0))
 laid_more size writes counts image i d within =
     let first : get_or (drop i counts) 0 0 ≡ get_or counts i 0 = get_or-drop i counts 0 0 ∙ ap (λ (k : ℕ). get_or counts k 0) (omega arith) in
     ap (λ (l : List UnsyncedWrite). laid size l (drop i counts) image) (drop_more writes i d within)
@@ -63,4 +75,9 @@ laid_more size writes counts image i d within =
 pub length-laid_over : (image : List ℕ) (write : UnsyncedWrite) (count : ℕ) → length (laid_over (length image) image write count) ≡ length image
 length-laid_over image write count =
     let front = take count write.bytes in
-    omega (arith, length-take (length image) (overwritten image (min write.at (length image)) front), length-overwritten image (min write.at (length image)) front (omega arith))
+    omega (
+      arith,
+      length-take (length image) (overwritten image (min write.at (length image)) front),
+      length-overwritten image
+          (min write.at (length image)) front (omega arith),
+    )

@@ -1,5 +1,6 @@
 -- Volumes in memory: what they held at first, and each write and sync since.
-use Rattle.std.specs.Prelude.{◌≡◌, ◌⊎◌, ◌∷◌, ◌++◌, ℕ, ◌+◌, ◌-◌, ◌/◌, ◌≤◌, ◌<◌, min, Bool, true, false, List, [], length, take, if◌then◌else◌, ◌==◌, slice_index_or, fold, count_by}
+use Rattle.std.specs.Prelude.{◌≡◌, ◌⊎◌, ◌∷◌, ◌++◌, ℕ, ◌+◌, ◌-◌, ◌/◌, ◌≤◌, ◌<◌, min, Bool, true, false, List, [], length, take, if◌then◌else◌, ◌==◌}
+use Rattle.std.specs.Prelude.{slice_index_or, fold, count_by}
 use Rattle.ale_volumes.specs.declared.volume.Volume.{Volume}
 use Rattle.ale_volumes.specs.declared.step.Step.{Step}
 use Rattle.ale_volumes.specs.declared.step.Step.TheVariants.{Write, Sync}

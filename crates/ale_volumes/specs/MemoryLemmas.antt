@@ -1,10 +1,12 @@
 -- Laws of volumes in memory.
 use Rattle.std.specs.Prelude.{slice_index_or, fold}
-use Rattle.std.proofs.Common.{◌≡◌, ◌≢◌, ◌⊎◌, ◌↔◌, inl, inr, ℕ, ◌+◌, ◌-◌, ◌/◌, ◌<◌, ◌≤◌, min, max, Bool, true, false, cond, eqb, List, [], ◌∷◌, ◌++◌, length, take, drop, get_or, refl, sym, ◌∙◌, ap, subst, arith, length-append, append_assoc, rules}
+use Rattle.std.proofs.Common.{◌≡◌, ◌≢◌, ◌⊎◌, ◌↔◌, inl, inr, ℕ, ◌+◌, ◌-◌, ◌/◌, ◌<◌, ◌≤◌, min, max, Bool, true, false, cond, eqb, List, [], ◌∷◌, ◌++◌, length}
+use Rattle.std.proofs.Common.{take, drop, get_or, refl, sym, ◌∙◌, ap, subst, arith, length-append, append_assoc, rules}
 use Rattle.std.specs.List.{Contains}
 use Rattle.std.proofs.lemmas.Bool.{cases_lt}
 use Rattle.std.proofs.lemmas.Bool.Decides.{nat_tests}
-use Rattle.std.proofs.lemmas.List.{take_all, take_at, drop_at, drop-drop, take-append-le, length_push, get_or_at, get_or_append_left, places, length-take, length-drop}
+use Rattle.std.proofs.lemmas.List.{take_all, take_at, drop_at, drop-drop, take-append-le, length_push, get_or_at, get_or_append_left, places, length-take}
+use Rattle.std.proofs.lemmas.List.{length-drop}
 use Rattle.std.proofs.lemmas.List.Sums.{fold-append}
 use Rattle.ale_volumes.specs.declared.volume.Volume.{Volume}
 use Rattle.ale_volumes.specs.declared.volume.UnsyncedWrite.{UnsyncedWrite}
@@ -18,12 +20,20 @@ use Rattle.ale_volumes.specs.Memory.{MemoryOf, place_in, left_of, half_written, 
 pub overwritten_before : (old : List ℕ) (at : ℕ) (bytes : List ℕ) (i : ℕ) → at ≤ length old → i < at → get_or (overwritten old at bytes) i 0 ≡ get_or old i 0
 overwritten_before old at bytes i within low = search (rules, places)
 
-pub overwritten_behind : (old : List ℕ) (at : ℕ) (bytes : List ℕ) (i : ℕ) → at ≤ length old → at + length bytes ≤ i → get_or (overwritten old at bytes) i 0 ≡ get_or old i 0
+pub overwritten_behind : (old : List ℕ) (at : ℕ) (bytes : List ℕ) (i : ℕ) → at ≤ length old → at + length bytes ≤ i →
+    get_or (overwritten old at bytes) i 0 ≡ get_or old i 0
 overwritten_behind old at bytes i within high = search (rules, places)
 
 pub length-overwritten : (old : List ℕ) (at : ℕ) (bytes : List ℕ) → at ≤ length old → length (overwritten old at bytes) ≡ max (length old) (at + length bytes)
 length-overwritten old at bytes within =
-    omega (arith, length-append (take at old ++ bytes) (drop (at + length bytes) old), length-append (take at old) bytes, length-take at old, length-drop (at + length bytes) old)
+    omega (
+      arith,
+      length-append (take at old ++ bytes) (drop (at + length bytes) old),
+      length-append (take at old) bytes,
+      length-take at old,
+      length-drop
+          (at + length bytes) old,
+    )
 
 -- a further write covers what the earlier ones did
 covered_more : (writes more : List UnsyncedWrite) (place : ℕ) → IsCovered writes place → IsCovered (writes ++ more) place
@@ -31,7 +41,8 @@ covered_more [] more place covered = absurd covered
 covered_more (write ∷ writes) more place (inl here) = inl here
 covered_more (write ∷ writes) more place (inr there) = inr (covered_more writes more place there)
 
-covered_last : (writes : List UnsyncedWrite) (write : UnsyncedWrite) (place : ℕ) → write.at ≤ place → place < write.at + length write.bytes → IsCovered (writes ++ write ∷ []) place
+covered_last : (writes : List UnsyncedWrite) (write : UnsyncedWrite) (place : ℕ) → write.at ≤ place → place < write.at + length write.bytes →
+    IsCovered (writes ++ write ∷ []) place
 covered_last [] write place low high = inl (low, high)
 covered_last (first ∷ writes) write place low high = inr (covered_last writes write place low high)
 
@@ -59,7 +70,8 @@ apart_of at n place apart = elim (cases_lt place at) [
 ]
 
 -- of a write that covers a part of the range from its front on, all outside the range stays
-pub overwritten_apart : (old : List ℕ) (at : ℕ) (bytes : List ℕ) (n i : ℕ) → at ≤ length old → length bytes ≤ n → ((at ≤ i) × (i < at + n) → ⊥) → get_or (overwritten old at bytes) i 0 ≡ get_or old i 0
+pub overwritten_apart : (old : List ℕ) (at : ℕ) (bytes : List ℕ) (n i : ℕ) → at ≤ length old → length bytes ≤ n → ((at ≤ i) × (i < at + n) → ⊥) →
+    get_or (overwritten old at bytes) i 0 ≡ get_or old i 0
 overwritten_apart old at bytes n i within shorter apart = elim (apart_of at n i apart) [
   | inl low ↦ overwritten_before old at bytes i within low
   | inr high ↦ overwritten_behind old at bytes i within (omega arith)
@@ -72,7 +84,8 @@ left_read : (volume : Volume) (at : ℕ) (bytes left : List ℕ) → at ≤ leng
 left_read volume at bytes left within read shorter size = record {
   size = size;
   synced = λ place low high apart.
-      let outside : (at ≤ place) × (place < at + length bytes) → ⊥ = λ here. apart (covered_last volume.writes (record { at = at; bytes = bytes }) place here.0 here.1) in
+      let outside : (at ≤ place) × (place < at + length bytes) → ⊥ = λ here.
+      apart (covered_last volume.writes (record { at = at; bytes = bytes }) place here.0 here.1) in
       let same = overwritten_apart volume.contents at left (length bytes) place within shorter outside in
       let was : place < length volume.contents = elim (apart_of at (length bytes) place outside) [
         | inl before ↦ omega arith
@@ -85,21 +98,25 @@ pub written_read : (volume : Volume) (at : ℕ) (bytes : List ℕ) → at ≤ le
 written_read volume at bytes within read =
     left_read volume at bytes bytes within read (omega arith) (contains_last volume.lengths (length (overwritten volume.contents at bytes)))
 
-length-left_of : (contents : List ℕ) (at : ℕ) (bytes : List ℕ) → (length (left_of contents at bytes) ≤ length bytes) × (at ≤ length contents → at + length (left_of contents at bytes) ≤ length contents)
+length-left_of : (contents : List ℕ) (at : ℕ) (bytes : List ℕ) →
+    (length (left_of contents at bytes) ≤ length bytes) × (at ≤ length contents → at + length (left_of contents at bytes) ≤ length contents)
 length-left_of contents at bytes =
     let size = length-take (min ((length bytes + 1) / 2) (length contents - at)) bytes in
     (omega (arith, size), λ within. omega (arith, size))
 
 -- a failing write leaves the length
-pub length-half_written : (volume : Volume) (at : ℕ) (bytes : List ℕ) → at ≤ length volume.contents → length (half_written volume at bytes).contents ≡ length volume.contents
+pub length-half_written : (volume : Volume) (at : ℕ) (bytes : List ℕ) → at ≤ length volume.contents → length (half_written volume at bytes).contents
+    ≡ length volume.contents
 length-half_written volume at bytes within =
     omega (arith, length-overwritten volume.contents at (left_of volume.contents at bytes) within, (length-left_of volume.contents at bytes).1 within)
 
-pub half_written_read : (volume : Volume) (at : ℕ) (bytes : List ℕ) → at ≤ length volume.contents → ReadIsImage volume → ReadIsImage (half_written volume at bytes)
+pub half_written_read : (volume : Volume) (at : ℕ) (bytes : List ℕ) → at ≤ length volume.contents → ReadIsImage volume →
+    ReadIsImage (half_written volume at bytes)
 half_written_read volume at bytes within read =
     let left = left_of volume.contents at bytes in
     let has = subst (λ (n : ℕ). Contains volume.lengths n) (sym (length-half_written volume at bytes within)) read.size in
-    let image = left_read volume at bytes left within read (length-left_of volume.contents at bytes).0 (contains_more volume.lengths (length (overwritten volume.contents at bytes) ∷ []) _ has) in
+    let image = left_read volume at bytes left within read (length-left_of volume.contents at bytes).0
+    (contains_more volume.lengths (length (overwritten volume.contents at bytes) ∷ []) _ has) in
     record { size = image.size; synced = image.synced }
 
 -- what holds of both holds of the one that a test chooses
@@ -124,7 +141,8 @@ pub after_steps-read : (start : List (List ℕ)) (steps : List Step) (n : ℕ) �
 after_steps-read start steps n = steps_read n _ steps (settled_read (slice_index_or start n []))
 
 -- one step more
-pub after_steps-push : (start : List (List ℕ)) (steps : List Step) (step : Step) (n : ℕ) → after_steps start (steps ++ step ∷ []) n ≡ after_step n (after_steps start steps n) step
+pub after_steps-push : (start : List (List ℕ)) (steps : List Step) (step : Step) (n : ℕ) →
+    after_steps start (steps ++ step ∷ []) n ≡ after_step n (after_steps start steps n) step
 after_steps-push start steps step n = fold-append (after_step n) (settled (slice_index_or start n [])) steps (step ∷ [])
 
 module _ (start : List (List ℕ)) (steps : List Step) (n : ℕ) where
@@ -149,16 +167,24 @@ module _ (start : List (List ℕ)) (steps : List Step) (n : ℕ) where
     old_moment moment image le = take-append-le moment steps (step ∷ []) le
 
     pub left_before : (t : ℕ) (image : List ℕ) → LeftSince start steps n t image → LeftSince start (steps ++ step ∷ []) n t image
-    left_before t image left =
-        (left.0, left.1, omega (arith, left.2, length_push steps step), subst (λ (s : List Step). IsImage (after_steps start s n) image) (sym (old_moment left.0 image left.2)) left.3)
+    left_before t image left = (
+      left.0,
+      left.1,
+      omega (arith, left.2, length_push steps step),
+      subst (λ (s : List Step). IsImage (after_steps start s n) image)
+          (sym (old_moment left.0 image left.2)) left.3,
+    )
 
-    pub left_now : (t : ℕ) (image : List ℕ) → LeftSince start (steps ++ step ∷ []) n t image → LeftSince start steps n t image ⊎ IsImage (after_steps start (steps ++ step ∷ []) n) image
+    pub left_now : (t : ℕ) (image : List ℕ) → LeftSince start (steps ++ step ∷ []) n t image →
+        LeftSince start steps n t image ⊎ IsImage (after_steps start (steps ++ step ∷ []) n) image
     left_now t image left = elim (cases_lt (length steps) left.0) [
-      | inl new ↦ inr (subst (λ (s : List Step). IsImage (after_steps start s n) image) (take_all left.0 (steps ++ step ∷ []) (omega (arith, length_push steps step))) left.3)
+      | inl new ↦ inr (subst (λ (s : List Step). IsImage (after_steps start s n) image)
+          (take_all left.0 (steps ++ step ∷ []) (omega (arith, length_push steps step))) left.3)
       | inr old ↦ inl (left.0, left.1, old, subst (λ (s : List Step). IsImage (after_steps start s n) image) (old_moment left.0 image old) left.3)
     ]
 
-    pub elapses_push : Elapses (length steps) (length (steps ++ step ∷ [])) (LeftSince start steps n) (LeftSince start (steps ++ step ∷ []) n) (IsImage (after_steps start (steps ++ step ∷ []) n))
+    pub elapses_push : Elapses (length steps) (length (steps ++ step ∷ [])) (LeftSince start steps n) (LeftSince start (steps ++ step ∷ []) n)
+        (IsImage (after_steps start (steps ++ step ∷ []) n))
     elapses_push = record {
       later = omega (arith, length_push steps step);
       nothing_else = λ t image le left. left_now t image left;
@@ -184,12 +210,14 @@ chosen_then test x y is = ap (λ (b : Bool). cond b x y) is
 pub after_step-sync : (n : ℕ) (volume : Volume) → after_step n volume (Sync n) ≡ settled volume.contents
 after_step-sync n volume = chosen_then (eqb n n) _ volume (search (rules, nat_tests))
 
-pub after_step-write : (n : ℕ) (volume : Volume) (at : ℕ) (bytes : List ℕ) → at ≤ length volume.contents → after_step n volume (Write n at bytes false) ≡ written volume at bytes
+pub after_step-write : (n : ℕ) (volume : Volume) (at : ℕ) (bytes : List ℕ) → at ≤ length volume.contents → after_step n volume (Write n at bytes false)
+    ≡ written volume at bytes
 after_step-write n volume at bytes within =
     let same : place_in volume.contents at ≡ at = omega arith in
     chosen_then (eqb n n) _ volume (search (rules, nat_tests)) ∙ ap (λ (p : ℕ). written volume p bytes) same
 
-pub after_step-half : (n : ℕ) (volume : Volume) (at : ℕ) (bytes : List ℕ) → at ≤ length volume.contents → after_step n volume (Write n at bytes true) ≡ half_written volume at bytes
+pub after_step-half : (n : ℕ) (volume : Volume) (at : ℕ) (bytes : List ℕ) → at ≤ length volume.contents →
+    after_step n volume (Write n at bytes true) ≡ half_written volume at bytes
 after_step-half n volume at bytes within =
     let same : place_in volume.contents at ≡ at = omega arith in
     chosen_then (eqb n n) _ volume (search (rules, nat_tests)) ∙ ap (λ (p : ℕ). half_written volume p bytes) same
@@ -197,16 +225,19 @@ after_step-half n volume at bytes within =
 -- what lies before a write and behind it
 pub take-overwritten : (old : List ℕ) (at : ℕ) (bytes : List ℕ) → at ≤ length old → take at (overwritten old at bytes) ≡ take at old
 take-overwritten old at bytes within =
-    ap (λ (l : List ℕ). take at l) (append_assoc (take at old) bytes (drop (at + length bytes) old)) ∙ take_at (take at old) (bytes ++ drop (at + length bytes) old) at (omega (arith, length-take at old))
+    ap (λ (l : List ℕ). take at l) (append_assoc (take at old) bytes (drop (at + length bytes) old))
+    ∙ take_at (take at old) (bytes ++ drop (at + length bytes) old) at (omega (arith, length-take at old))
 
-pub drop-overwritten : (old : List ℕ) (at : ℕ) (bytes : List ℕ) → at ≤ length old → drop (at + length bytes) (overwritten old at bytes) ≡ drop (at + length bytes) old
+pub drop-overwritten : (old : List ℕ) (at : ℕ) (bytes : List ℕ) → at ≤ length old → drop (at + length bytes) (overwritten old at bytes)
+    ≡ drop (at + length bytes) old
 drop-overwritten old at bytes within =
     drop_at (take at old ++ bytes) (drop (at + length bytes) old) (at + length bytes) (omega (arith, length-append (take at old) bytes, length-take at old))
 
 drop_further : (n m : ℕ) (xs ys : List ℕ) → n ≤ m → drop n xs ≡ drop n ys → drop m xs ≡ drop m ys
 drop_further n m xs ys le same =
     let parts : n + (m - n) ≡ m = omega arith in
-    ap (λ (k : ℕ). drop k xs) (sym parts) ∙ sym (drop-drop (m - n) n xs) ∙ ap (λ (l : List ℕ). drop (m - n) l) same ∙ drop-drop (m - n) n ys ∙ ap (λ (k : ℕ). drop k ys) parts
+    ap (λ (k : ℕ). drop k xs) (sym parts) ∙ sym (drop-drop (m - n) n xs) ∙ ap (λ (l : List ℕ). drop (m - n) l) same ∙ drop-drop (m - n) n ys
+    ∙ ap (λ (k : ℕ). drop k ys) parts
 
 -- what is left of a failing write is torn
 pub half_written-torn : (volume : Volume) (at : ℕ) (bytes : List ℕ) → at ≤ length volume.contents → FailsToWrite volume at bytes (half_written volume at bytes)
@@ -215,7 +246,8 @@ half_written-torn volume at bytes within =
     record {
       left = record {
         before = take-overwritten volume.contents at left within;
-        behind = drop_further (at + length left) (at + length bytes) _ _ (omega (arith, (length-left_of volume.contents at bytes).0)) (drop-overwritten volume.contents at left within);
+        behind = drop_further (at + length left) (at + length bytes) _ _ (omega (arith, (length-left_of volume.contents at bytes).0))
+            (drop-overwritten volume.contents at left within);
         size = inl (length-half_written volume at bytes within);
       };
       counts = refl;
@@ -228,7 +260,9 @@ IsCleanSettled volume = length volume.writes ≡ 0 → volume ≡ settled volume
 after_step-clean : (n : ℕ) (volume : Volume) (step : Step) → IsCleanSettled volume → IsCleanSettled (after_step n volume step)
 after_step-clean n volume (Write m at bytes failed) clean =
     either IsCleanSettled (eqb m n) _ volume
-    (either IsCleanSettled failed _ _ (λ none. absurd (omega (arith, none, length_push volume.writes (record { at = place_in volume.contents at; bytes = bytes })))) (λ none. absurd (omega (arith, none, length_push volume.writes (record { at = place_in volume.contents at; bytes = bytes })))))
+    (either IsCleanSettled failed _ _ (λ none.
+    absurd (omega (arith, none, length_push volume.writes (record { at = place_in volume.contents at; bytes = bytes }))))
+    (λ none. absurd (omega (arith, none, length_push volume.writes (record { at = place_in volume.contents at; bytes = bytes })))))
     clean
 after_step-clean n volume (Sync m) clean = either IsCleanSettled (eqb m n) _ volume (λ none. refl) clean
 
@@ -236,7 +270,8 @@ steps_clean : (n : ℕ) (volume : Volume) (steps : List Step) → IsCleanSettled
 steps_clean n volume [] clean = clean
 steps_clean n volume (step ∷ steps) clean = steps_clean n (after_step n volume step) steps (after_step-clean n volume step clean)
 
-pub after_steps-clean : (start : List (List ℕ)) (steps : List Step) (n : ℕ) → length (after_steps start steps n).writes ≡ 0 → after_steps start steps n ≡ settled (after_steps start steps n).contents
+pub after_steps-clean : (start : List (List ℕ)) (steps : List Step) (n : ℕ) → length (after_steps start steps n).writes ≡ 0 →
+    after_steps start steps n ≡ settled (after_steps start steps n).contents
 after_steps-clean start steps n = steps_clean n _ steps (λ none. refl)
 
 -- The members of the trait, of volumes in memory.
@@ -253,25 +288,37 @@ images_of memory n t image = LeftSince memory.start memory.steps n t image
 pub others_same : (old new : MemoryOf) (n : ℕ) → new.start ≡ old.start → new.steps ≡ old.steps → KeepsOthers volume_now moment_of images_of old new n
 others_same old new n start steps = record {
   known = λ m other. cc;
-  images = λ m t image other le. (λ left. subst (λ (s : List (List ℕ)). LeftSince s old.steps m t image) start (subst (λ (s : List Step). LeftSince new.start s m t image) steps left), λ left. subst (λ (s : List Step). LeftSince new.start s m t image) (sym steps) (subst (λ (s : List (List ℕ)). LeftSince s old.steps m t image) (sym start) left));
+  images = λ m t image other le. (
+    λ left. subst (λ (s : List (List ℕ)). LeftSince s old.steps m t image) start
+        (subst (λ (s : List Step). LeftSince new.start s m t image) steps left),
+    λ left.
+        subst (λ (s : List Step). LeftSince new.start s m t image) (sym steps)
+        (subst (λ (s : List (List ℕ)). LeftSince s old.steps m t image) (sym start) left),
+  );
 }
 
-others_push : (old : MemoryOf) (start : List (List ℕ)) (steps : List Step) (step : Step) (n : ℕ) → n ≡ volume_of step → start ≡ old.start → steps ≡ old.steps ++ step ∷ [] → (m t : ℕ) (image : List ℕ) → m ≢ n → t ≤ length old.steps → LeftSince start steps m t image ↔ LeftSince old.start old.steps m t image
+others_push : (old : MemoryOf) (start : List (List ℕ)) (steps : List Step) (step : Step) (n : ℕ) → n ≡ volume_of step → start ≡ old.start →
+    steps ≡ old.steps ++ step ∷ [] → (m t : ℕ) (image : List ℕ) → m ≢ n → t ≤ length old.steps →
+    LeftSince start steps m t image ↔ LeftSince old.start old.steps m t image
 others_push old start steps step n own same more m t image other le =
     let longer = old.steps ++ step ∷ [] in
-    let stays : after_steps old.start longer m ≡ after_steps old.start old.steps m = after_steps-push old.start old.steps step m ∙ after_step-other m _ step (λ is. other (is ∙ sym own)) in (
+    let stays : after_steps old.start longer m ≡ after_steps old.start old.steps m = after_steps-push old.start old.steps step m
+    ∙ after_step-other m _ step (λ is. other (is ∙ sym own)) in (
       λ left.
-          let here : LeftSince old.start longer m t image = subst (λ (s : List (List ℕ)). LeftSince s longer m t image) same (subst (λ (s : List Step). LeftSince start s m t image) more left) in
+          let here : LeftSince old.start longer m t image = subst (λ (s : List (List ℕ)). LeftSince s longer m t image) same
+          (subst (λ (s : List Step). LeftSince start s m t image) more left) in
           elim (left_now old.start old.steps m step t image here) [
             | inl before ↦ before
             | inr now ↦ counts_now old.start old.steps m t image le (subst (λ (v : Volume). IsImage v image) stays now)
           ],
       λ left.
-          subst (λ (s : List Step). LeftSince start s m t image) (sym more) (subst (λ (s : List (List ℕ)). LeftSince s longer m t image) (sym same) (left_before old.start old.steps m step t image left)),
+          subst (λ (s : List Step). LeftSince start s m t image) (sym more)
+          (subst (λ (s : List (List ℕ)). LeftSince s longer m t image) (sym same) (left_before old.start old.steps m step t image left)),
     )
 
 -- a step of one volume leaves all others alone
-pub others_stay : (old new : MemoryOf) (step : Step) (n : ℕ) → n ≡ volume_of step → new.start ≡ old.start → new.steps ≡ old.steps ++ step ∷ [] → KeepsOthers volume_now moment_of images_of old new n
+pub others_stay : (old new : MemoryOf) (step : Step) (n : ℕ) → n ≡ volume_of step → new.start ≡ old.start → new.steps ≡ old.steps ++ step ∷ [] →
+    KeepsOthers volume_now moment_of images_of old new n
 others_stay old new step n own start steps = record {
   known = λ m other. let more : after_steps new.start new.steps m ≡ after_steps old.start (old.steps ++ step ∷ []) m = cc in
       more ∙ after_steps-push old.start old.steps step m ∙ after_step-other m _ step (λ is. other (is ∙ sym own));
@@ -288,8 +335,13 @@ module _ (old new : MemoryOf) (step : Step) (n : ℕ) (start : new.start ≡ old
   pub elapses_step : Elapses (moment_of old) (moment_of new) (images_of old n) (images_of new n) (IsImage (volume_now new n))
   elapses_step =
       let push = elapses_push old.start old.steps n step in
-      let at_start : (s : List (List ℕ)) → old.start ≡ s → Elapses (moment_of old) (length (old.steps ++ step ∷ [])) (images_of old n) (LeftSince s (old.steps ++ step ∷ []) n) (IsImage (after_steps s (old.steps ++ step ∷ []) n)) = λ s same. subst (λ (x : List (List ℕ)). Elapses (moment_of old) (length (old.steps ++ step ∷ [])) (images_of old n) (LeftSince x (old.steps ++ step ∷ []) n) (IsImage (after_steps x (old.steps ++ step ∷ []) n))) same push in
-      subst (λ (x : List Step). Elapses (moment_of old) (length x) (images_of old n) (LeftSince new.start x n) (IsImage (after_steps new.start x n))) (sym steps) (at_start new.start (sym start))
+      let at_start : (s : List (List ℕ)) → old.start ≡ s →
+      Elapses (moment_of old) (length (old.steps ++ step ∷ [])) (images_of old n) (LeftSince s (old.steps ++ step ∷ []) n)
+      (IsImage (after_steps s (old.steps ++ step ∷ []) n)) = λ s same.
+      subst (λ (x : List (List ℕ)). Elapses (moment_of old) (length (old.steps ++ step ∷ [])) (images_of old n) (LeftSince x (old.steps ++ step ∷ []) n)
+      (IsImage (after_steps x (old.steps ++ step ∷ []) n))) same push in
+      subst (λ (x : List Step). Elapses (moment_of old) (length x) (images_of old n) (LeftSince new.start x n) (IsImage (after_steps new.start x n)))
+      (sym steps) (at_start new.start (sym start))
 
 -- with no step
 module _ (old new : MemoryOf) (n : ℕ) (start : new.start ≡ old.start) (steps : new.steps ≡ old.steps) where
@@ -299,5 +351,9 @@ module _ (old new : MemoryOf) (n : ℕ) (start : new.start ≡ old.start) (steps
   pub elapses_still : Elapses (moment_of old) (moment_of new) (images_of old n) (images_of new n) (IsImage (volume_now new n))
   elapses_still =
       let same = elapses_same old.start old.steps n in
-      let at_start : (s : List (List ℕ)) → old.start ≡ s → Elapses (moment_of old) (moment_of old) (images_of old n) (LeftSince s old.steps n) (IsImage (after_steps s old.steps n)) = λ s is. subst (λ (x : List (List ℕ)). Elapses (moment_of old) (moment_of old) (images_of old n) (LeftSince x old.steps n) (IsImage (after_steps x old.steps n))) is same in
-      subst (λ (x : List Step). Elapses (moment_of old) (length x) (images_of old n) (LeftSince new.start x n) (IsImage (after_steps new.start x n))) (sym steps) (at_start new.start (sym start))
+      let at_start : (s : List (List ℕ)) → old.start ≡ s →
+      Elapses (moment_of old) (moment_of old) (images_of old n) (LeftSince s old.steps n) (IsImage (after_steps s old.steps n)) = λ s is.
+      subst (λ (x : List (List ℕ)). Elapses (moment_of old) (moment_of old) (images_of old n) (LeftSince x old.steps n)
+      (IsImage (after_steps x old.steps n))) is same in
+      subst (λ (x : List Step). Elapses (moment_of old) (length x) (images_of old n) (LeftSince new.start x n) (IsImage (after_steps new.start x n)))
+      (sym steps) (at_start new.start (sym start))

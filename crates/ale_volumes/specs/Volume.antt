@@ -16,7 +16,8 @@ IsCovered (write ∷ writes) place = ((write.at ≤ place) × (place < write.at 
 -- since and past the synced end, and the synced bytes elsewhere.
 pub record IsImage (volume : Volume) (image : List ℕ) : Type 0 where
   pub size : Contains volume.lengths (length image)
-  pub synced : (place : ℕ) → place < length image → place < length volume.synced → ¬ IsCovered volume.writes place → slice_index image place ≡ slice_index volume.synced place
+  pub synced : (place : ℕ) → place < length image → place < length volume.synced → ¬ IsCovered volume.writes place →
+      slice_index image place ≡ slice_index volume.synced place
 
 -- these bytes are on the disk for good, and a crash leaves them and nothing else
 abbrev pub settled : List ℕ → Volume

@@ -1,5 +1,6 @@
 -- What a crash leaves in each of the two steps of an append.
-use Rattle.std.proofs.Common.{◌≡◌, ◌≢◌, inl, inr, ℕ, ◌+◌, ◌<◌, ◌≤◌, List, [], ◌∷◌, ◌++◌, length, take, drop, get_or, refl, sym, ◌∙◌, ap, subst, arith, length-append, append_assoc, take-append-drop}
+use Rattle.std.proofs.Common.{◌≡◌, ◌≢◌, inl, inr, ℕ, ◌+◌, ◌<◌, ◌≤◌, List, [], ◌∷◌, ◌++◌, length, take, drop, get_or, refl, sym, ◌∙◌, ap, subst, arith}
+use Rattle.std.proofs.Common.{length-append, append_assoc, take-append-drop}
 use Rattle.std.proofs.lemmas.Bool.{cases_eq}
 use Rattle.std.proofs.lemmas.List.{take_at, drop_at, drop_more}
 use Rattle.ale_volumes.specs.declared.volume.Volume.{Volume}
@@ -35,7 +36,15 @@ pub record IsStaged (bytes : List ℕ) (log : List (List ℕ)) (body : List ℕ)
 
 -- A record behind a closed gate is no part of the log.
 pub staged_closed : (bytes : List ℕ) (log : List (List ℕ)) (body : List ℕ) → IsStaged bytes log body → IsClosed bytes log
-staged_closed bytes log body is = record { gate = is.gate; behind = framed body ++ 0 ∷ is.behind; whole = is.whole; closed = is.closed; bodies = is.bodies; within = is.within }
+staged_closed bytes log body is = record {
+  gate = is.gate;
+  behind = framed body ++ 0
+      ∷ is.behind;
+  whole = is.whole;
+  closed = is.closed;
+  bodies = is.bodies;
+  within = is.within;
+}
 
 -- the bytes up to the gate, and with it
 front : (log : List (List ℕ)) (gate : ℕ) (behind : List ℕ) → take (length (records log)) (records log ++ gate ∷ behind) ≡ records log
@@ -63,14 +72,16 @@ torn_block bytes image log n is torn =
     record {
       gate = is.gate;
       behind = drop start image;
-      whole = sym (take-append-drop start image) ∙ ap (λ (l : List ℕ). l ++ drop start image) kept ∙ append_assoc (records log) (is.gate ∷ []) (drop start image);
+      whole = sym (take-append-drop start image) ∙ ap (λ (l : List ℕ). l ++ drop start image) kept
+          ∙ append_assoc (records log) (is.gate ∷ []) (drop start image);
       closed = is.closed;
       bodies = is.bodies;
       within = is.within;
     }
 
 -- The first write of an append leaves the record behind the closed gate.
-pub block_written : (bytes : List ℕ) (log : List (List ℕ)) (body : List ℕ) → IsClosed bytes log → IsStaged (overwritten bytes (length (records log) + 1) (framed body ++ 0 ∷ [])) log body
+pub block_written : (bytes : List ℕ) (log : List (List ℕ)) (body : List ℕ) → IsClosed bytes log →
+    IsStaged (overwritten bytes (length (records log) + 1) (framed body ++ 0 ∷ [])) log body
 block_written bytes log body is =
     let start = length (records log) + 1 in
     let block = framed body ++ 0 ∷ [] in
@@ -90,7 +101,8 @@ block_written bytes log body is =
 
 module _ (log : List (List ℕ)) (body : List ℕ) (some : 0 < length body) (fits : length (records log) + 5 + length body < most_bytes) where
   -- with an open gate before it the record is in the log
-  opened : (bytes : List ℕ) (behind : List ℕ) → AreBodies log → bytes ≡ records log ++ open_gate ∷ (framed body ++ 0 ∷ behind) → IsClosed bytes (log ++ body ∷ [])
+  opened : (bytes : List ℕ) (behind : List ℕ) → AreBodies log → bytes ≡ records log ++ open_gate ∷ (framed body ++ 0 ∷ behind) →
+      IsClosed bytes (log ++ body ∷ [])
   opened bytes behind bodies whole = record {
     gate = 0;
     behind = behind;
@@ -109,22 +121,26 @@ module _ (log : List (List ℕ)) (body : List ℕ) (some : 0 < length body) (fit
       let long = long_enough bytes log (staged_closed bytes log body is) in
       let gate = get_or image place 0 in
       let kept : take place image ≡ records log = torn.before ∙ ap (λ (l : List ℕ). take place l) is.whole ∙ front log is.gate (framed body ++ 0 ∷ is.behind) in
-      let rest : drop (place + 1) image ≡ framed body ++ 0 ∷ is.behind = torn.behind ∙ ap (λ (l : List ℕ). drop (place + 1) l) is.whole ∙ back log is.gate (framed body ++ 0 ∷ is.behind) in
+      let rest : drop (place + 1) image ≡ framed body ++ 0 ∷ is.behind = torn.behind ∙ ap (λ (l : List ℕ). drop (place + 1) l) is.whole
+      ∙ back log is.gate (framed body ++ 0 ∷ is.behind) in
       let whole : image ≡ records log ++ gate ∷ (framed body ++ 0 ∷ is.behind) =
       sym (take-append-drop place image)
       ∙ ap (λ (l : List ℕ). l ++ drop place image) kept
       ∙ ap (λ (l : List ℕ). records log ++ l) (drop_more image place 0 (omega (arith, long, torn.size)))
       ∙ ap (λ (l : List ℕ). records log ++ gate ∷ l) rest in
       elim (cases_eq gate open_gate) [
-        | inl same ↦ inr (closed_stands image (log ++ body ∷ []) (opened image is.behind is.bodies (subst (λ (g : ℕ). image ≡ records log ++ g ∷ (framed body ++ 0 ∷ is.behind)) same whole)))
-        | inr other ↦ inl (closed_stands image log (record { gate = gate; behind = framed body ++ 0 ∷ is.behind; whole = whole; closed = other; bodies = is.bodies; within = is.within }))
+        | inl same ↦ inr (closed_stands image (log ++ body ∷ [])
+            (opened image is.behind is.bodies (subst (λ (g : ℕ). image ≡ records log ++ g ∷ (framed body ++ 0 ∷ is.behind)) same whole)))
+        | inr other ↦ inl (closed_stands image log
+            (record { gate = gate; behind = framed body ++ 0 ∷ is.behind; whole = whole; closed = other; bodies = is.bodies; within = is.within }))
       ]
 
   -- The second write puts the record into the log.
   pub gate_opened : (bytes : List ℕ) → IsStaged bytes log body → IsClosed (overwritten bytes (length (records log)) (open_gate ∷ [])) (log ++ body ∷ [])
   gate_opened bytes is =
       let place = length (records log) in
-      let rest : drop (place + 1) bytes ≡ framed body ++ 0 ∷ is.behind = ap (λ (l : List ℕ). drop (place + 1) l) is.whole ∙ back log is.gate (framed body ++ 0 ∷ is.behind) in
+      let rest : drop (place + 1) bytes ≡ framed body ++ 0 ∷ is.behind = ap (λ (l : List ℕ). drop (place + 1) l) is.whole
+      ∙ back log is.gate (framed body ++ 0 ∷ is.behind) in
       let kept : take place bytes ≡ records log = ap (λ (l : List ℕ). take place l) is.whole ∙ front log is.gate (framed body ++ 0 ∷ is.behind) in
       opened _ is.behind is.bodies
       (ap (λ (l : List ℕ). l ++ (open_gate ∷ []) ++ drop (place + 1) bytes) kept
@@ -132,7 +148,8 @@ module _ (log : List (List ℕ)) (body : List ℕ) (some : 0 < length body) (fit
       ∙ append_assoc (records log) (open_gate ∷ []) (framed body ++ 0 ∷ is.behind))
 
 -- The same of a journal that stands at the end of the log, in the words of the two writes.
-module _ {D : Type 0} (volume : D → ℕ → Volume) (old mid new : D) (journal : Journal) (log : List (List ℕ)) (body block : List ℕ) (s : IsSettled volume old journal log) (is_block : block ≡ framed body ++ 0 ∷ []) where
+module _ {D : Type 0} (volume : D → ℕ → Volume) (old mid new : D) (journal : Journal) (log : List (List ℕ)) (body block : List ℕ)
+    (s : IsSettled volume old journal log) (is_block : block ≡ framed body ++ 0 ∷ []) where
   abbrev held : D → List ℕ
   held vols = (volume vols journal.volume).contents
 

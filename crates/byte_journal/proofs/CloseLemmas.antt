@@ -1,5 +1,6 @@
 -- Closing the last gate of a journal.
-use Rattle.std.proofs.Common.{◌≡◌, ◌≢◌, ◌⊎◌, inl, inr, ℕ, ◌+◌, ◌<◌, ◌≤◌, max, List, [], ◌∷◌, ◌++◌, length, take, drop, get_or, sym, ◌∙◌, ap, arith, length-append, append_assoc, take-append-drop}
+use Rattle.std.proofs.Common.{◌≡◌, ◌≢◌, ◌⊎◌, inl, inr, ℕ, ◌+◌, ◌<◌, ◌≤◌, max, List, [], ◌∷◌, ◌++◌, length, take, drop, get_or, sym, ◌∙◌, ap, arith}
+use Rattle.std.proofs.Common.{length-append, append_assoc, take-append-drop}
 use Rattle.std.proofs.lemmas.Bool.{cases_eq}
 use Rattle.std.proofs.lemmas.List.{take_at, get_or_at, drop_more, append-nil, nil_from_length, length-drop}
 use Rattle.ale_volumes.specs.Volume.{overwritten, Torn}
@@ -51,7 +52,8 @@ module _ (bytes : List ℕ) (log : List (List ℕ)) (gate : ℕ) (reads : ReadsT
     short_by [] whole last = absurd last
     short_by (first ∷ []) whole last = omega (arith, ap length whole, length-append (records log) (first ∷ []), reads.place)
     short_by (first ∷ next ∷ rest) whole last =
-        let here : get_or bytes gate 0 ≡ first = ap (λ (b : List ℕ). get_or b gate 0) whole ∙ get_or_at (records log) first (next ∷ rest) 0 gate (sym reads.place) in
+        let here : get_or bytes gate 0 ≡ first = ap (λ (b : List ℕ). get_or b gate 0) whole
+        ∙ get_or_at (records log) first (next ∷ rest) 0 gate (sym reads.place) in
         absurd (not_closed (omega (arith, ap length whole, length-append (records log) (first ∷ next ∷ rest), reads.place), λ is. last (sym here ∙ is)))
 
     short : (length bytes ≡ 0) ⊎ (length bytes ≡ gate + 1)
@@ -102,7 +104,8 @@ module _ (bytes : List ℕ) (log : List (List ℕ)) (gate : ℕ) (reads : ReadsT
           log = log;
           stands = reads.stands;
           lacks = lacks;
-          now = ap (λ (l : List ℕ). l ++ (0 ∷ []) ++ drop (gate + 1) bytes) front ∙ ap (λ (l : List ℕ). records log ++ (0 ∷ []) ++ l) none ∙ append-nil (records log ++ (0 ∷ []));
+          now = ap (λ (l : List ℕ). l ++ (0 ∷ []) ++ drop (gate + 1) bytes) front ∙ ap (λ (l : List ℕ). records log ++ (0 ∷ []) ++ l) none
+              ∙ append-nil (records log ++ (0 ∷ []));
         })
 
     -- a torn write of the gate leaves all but this byte
@@ -132,7 +135,8 @@ module _ (bytes : List ℕ) (log : List (List ℕ)) (gate : ℕ) (reads : ReadsT
           bodies = reads.stands.bodies;
           ends = elim (cases_eq (length image) 0) [
             | inl none ↦ inl (nil_from_length image none)
-            | inr some ↦ inr (last_of rest (omega (arith, length-drop gate image, sizes, short)) (omega (arith, length-drop gate image, sizes, short, some, has_gate, gate_within)))
+            | inr some ↦ inr (last_of rest (omega (arith, length-drop gate image, sizes, short))
+                (omega (arith, length-drop gate image, sizes, short, some, has_gate, gate_within)))
           ];
           within = reads.stands.within;
         }

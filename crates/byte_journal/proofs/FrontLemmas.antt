@@ -1,5 +1,6 @@
 -- Only the front of a volume's bytes can matter: they read as it does.
-use Rattle.std.proofs.Common.{◌≡◌, ◌≢◌, ◌⊎◌, inl, inr, ◌↔◌, ℕ, ◌+◌, ◌-◌, ◌<◌, ◌≤◌, min, List, [], ◌∷◌, ◌++◌, length, take, drop, get_or, refl, sym, ◌∙◌, ap, subst, arith, length-append, append_assoc, take-append-drop}
+use Rattle.std.proofs.Common.{◌≡◌, ◌≢◌, ◌⊎◌, inl, inr, ◌↔◌, ℕ, ◌+◌, ◌-◌, ◌<◌, ◌≤◌, min, List, [], ◌∷◌, ◌++◌, length, take, drop, get_or, refl, sym, ◌∙◌, ap}
+use Rattle.std.proofs.Common.{subst, arith, length-append, append_assoc, take-append-drop}
 use Rattle.std.proofs.lemmas.Bool.{cases_lt}
 use Rattle.std.proofs.lemmas.List.{take_at, take_min, nil_from_length, length-take, length-drop, get_or-take}
 use Rattle.std.proofs.Math.Seq.{take-append-add}
@@ -40,10 +41,12 @@ module _ (bytes : List ℕ) (k : ℕ) (enough : most_bytes < k) where
       }
 
   -- no record lies behind the gate in all that does not lie there in the front
-  record_front : (place : ℕ) (front behind body : List ℕ) → take k bytes ≡ front ++ open_gate ∷ behind → place ≡ length front → BeginsWithRecord place (behind ++ drop k bytes) body → BeginsWithRecord place behind body
+  record_front : (place : ℕ) (front behind body : List ℕ) → take k bytes ≡ front ++ open_gate ∷ behind → place ≡ length front →
+      BeginsWithRecord place (behind ++ drop k bytes) body → BeginsWithRecord place behind body
   record_front place front behind body is here found =
       let size : length (take k bytes) ≡ length front + (1 + length behind) = omega (arith, ap length is, length-append front (open_gate ∷ behind)) in
-      let long : length (behind ++ drop k bytes) ≡ length (framed body) + (1 + length found.rest) = omega (arith, ap length found.whole, length-append (framed body) (found.gate ∷ found.rest)) in
+      let long : length (behind ++ drop k bytes) ≡ length (framed body) + (1 + length found.rest) = omega
+      (arith, ap length found.whole, length-append (framed body) (found.gate ∷ found.rest)) in
       let framed_long = length-framed body in
       let back : (4 + length body < length behind) ⊎ (drop k bytes ≡ []) = elim (cases_short (length (take k bytes))) [
         | inl short ↦ inr (all_of short)
@@ -54,7 +57,8 @@ module _ (bytes : List ℕ) (k : ℕ) (enough : most_bytes < k) where
         | inr none ↦ omega (arith, long, framed_long, length-append behind (drop k bytes), ap length none)
       ] in
       let m = length behind - (5 + length body) in
-      let parts : length behind ≡ length (framed body ++ found.gate ∷ []) + m = omega (arith, fits, length-append (framed body) (found.gate ∷ []), framed_long) in
+      let parts : length behind ≡ length (framed body ++ found.gate ∷ []) + m = omega
+      (arith, fits, length-append (framed body) (found.gate ∷ []), framed_long) in
       record {
         gate = found.gate;
         rest = take m found.rest;
@@ -86,7 +90,8 @@ module _ (bytes : List ℕ) (k : ℕ) (enough : most_bytes < k) where
   }
 
   -- a gate that may be of a log lies in the front as in all
-  gate_front : (gate : ℕ) → gate < most_bytes → ((gate < length bytes) × (get_or bytes gate 0 ≢ open_gate)) ↔ ((gate < length (take k bytes)) × (get_or (take k bytes) gate 0 ≢ open_gate))
+  gate_front : (gate : ℕ) → gate < most_bytes →
+      ((gate < length bytes) × (get_or bytes gate 0 ≢ open_gate)) ↔ ((gate < length (take k bytes)) × (get_or (take k bytes) gate 0 ≢ open_gate))
   gate_front gate low =
       let same : get_or (take k bytes) gate 0 ≡ get_or bytes gate 0 = get_or-take k bytes gate 0 (omega arith) in (
         λ here. (omega (arith, here.0, length-take k bytes), λ is. here.1 (sym same ∙ is)),
@@ -107,10 +112,12 @@ pub ReadsTo-front : (bytes : List ℕ) (log : List (List ℕ)) (gate : ℕ) → 
 ReadsTo-front bytes log gate reads = record { stands = Stands-front bytes log reads.stands; place = reads.place }
 
 -- The gate of a log is closed in all bytes where it is closed in those that decide.
-pub closed-front : (bytes front : List ℕ) (gate : ℕ) → gate < most_bytes → front ≡ front_of bytes → ((gate < length bytes) × (get_or bytes gate 0 ≢ open_gate)) ↔ ((gate < length front) × (get_or front gate 0 ≢ open_gate))
+pub closed-front : (bytes front : List ℕ) (gate : ℕ) → gate < most_bytes → front ≡ front_of bytes →
+    ((gate < length bytes) × (get_or bytes gate 0 ≢ open_gate)) ↔ ((gate < length front) × (get_or front gate 0 ≢ open_gate))
 unfolding front_of
 closed-front bytes front gate low is =
-    subst (λ (f : List ℕ). ((gate < length bytes) × (get_or bytes gate 0 ≢ open_gate)) ↔ ((gate < length f) × (get_or f gate 0 ≢ open_gate))) (sym is) (gate_front bytes (most_bytes + 1) (omega arith) gate low)
+    subst (λ (f : List ℕ). ((gate < length bytes) × (get_or bytes gate 0 ≢ open_gate)) ↔ ((gate < length f) × (get_or f gate 0 ≢ open_gate))) (sym is)
+    (gate_front bytes (most_bytes + 1) (omega arith) gate low)
 
 pub gate-low : (bytes : List ℕ) (log : List (List ℕ)) (gate : ℕ) → ReadsTo bytes log gate → gate < most_bytes
 gate-low bytes log gate reads = omega (arith, reads.stands.within, reads.place)

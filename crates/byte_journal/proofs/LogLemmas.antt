@@ -11,7 +11,8 @@ length-framed body = omega (arith, length-append (to_be_bytes w32 (length body))
 -- one body more at the front of a log, and at its end
 pub records-append : (log more : List (List ℕ)) → records (log ++ more) ≡ records log ++ records more
 records-append [] more = refl
-records-append (body ∷ log) more = ap (λ (l : List ℕ). (open_gate ∷ framed body) ++ l) (records-append log more) ∙ sym (append_assoc (open_gate ∷ framed body) (records log) (records more))
+records-append (body ∷ log) more = ap (λ (l : List ℕ). (open_gate ∷ framed body) ++ l) (records-append log more)
+    ∙ sym (append_assoc (open_gate ∷ framed body) (records log) (records more))
 
 pub records-push : (log : List (List ℕ)) (body : List ℕ) → records (log ++ body ∷ []) ≡ records log ++ open_gate ∷ framed body
 records-push log body = records-append log (body ∷ []) ∙ ap (λ (l : List ℕ). records log ++ l) (append-nil (open_gate ∷ framed body))

@@ -13,7 +13,8 @@ use Rattle.byte_journal.specs.Bytes.{IsAsBeforeButForTheGate}
 use Rattle.byte_journal.specs.steps.Reading.{ReadsTo, Reads}
 use Rattle.byte_journal.proofs.FrontLemmas.{ReadsTo-front, DamagedAt-front}
 
-module _ {D : Type 0} (volume : D → ℕ → Volume) (moment : D → ℕ) (images_since : D → ℕ → ℕ → List ℕ → Type 0) (old mid new : D) (n : ℕ) (log : List (List ℕ)) where
+module _ {D : Type 0} (volume : D → ℕ → Volume) (moment : D → ℕ) (images_since : D → ℕ → ℕ → List ℕ → Type 0) (old mid new : D) (n : ℕ)
+    (log : List (List ℕ)) where
   abbrev before : List ℕ
   before = (volume old n).contents
 
@@ -21,9 +22,11 @@ module _ {D : Type 0} (volume : D → ℕ → Volume) (moment : D → ℕ) (imag
     reads : (image : List ℕ) → Stands image log → ReadsAs before image
     reads image also = inr (log, stands, also)
 
-    pub open-any_moment : LeavesOnly moment images_since old mid n (IsImage (volume old n)) → LeavesOnly moment images_since old new n (λ image. IsImage (volume old n) image ⊎ ReadsAs before image)
+    pub open-any_moment : LeavesOnly moment images_since old mid n (IsImage (volume old n)) →
+        LeavesOnly moment images_since old new n (λ image. IsImage (volume old n) image ⊎ ReadsAs before image)
     open-any_moment first =
-        joined moment images_since old mid new n _ (weaker moment images_since old mid n _ _ (λ image is. inl is) first) (weaker moment images_since mid new n _ _ (λ image also. inr (reads image also)) closes)
+        joined moment images_since old mid new n _ (weaker moment images_since old mid n _ _ (λ image is. inl is) first)
+        (weaker moment images_since mid new n _ _ (λ image also. inr (reads image also)) closes)
 
     later : LeavesOnlyLater moment images_since old mid n (λ image. image ≡ before) → LeavesOnlyLater moment images_since old new n (ReadsAs before)
     later first = record {
@@ -34,7 +37,8 @@ module _ {D : Type 0} (volume : D → ℕ → Volume) (moment : D → ℕ) (imag
     }
 
     pub open-from_sync : {T : Type 0} (result : Result T OpenFault) (value : T) → result ≡ Ok value
-        → (IsErrOf result VolumeFault × (volume mid n ≡ volume old n)) ⊎ LeavesOnlyLater moment images_since old mid n (λ image. image ≡ before) → LeavesOnlyLater moment images_since old new n (ReadsAs before)
+        → (IsErrOf result VolumeFault × (volume mid n ≡ volume old n)) ⊎ LeavesOnlyLater moment images_since old mid n (λ image. image ≡ before) →
+        LeavesOnlyLater moment images_since old new n (ReadsAs before)
     open-from_sync result value is (inl failed) = let refused = failed.0 in absurd (cc)
     open-from_sync result value is (inr first) = later first
 
@@ -49,5 +53,6 @@ pub reads-front : (bytes front : List ℕ) (log : List (List ℕ)) (gate : ℕ) 
 reads-front bytes front log gate is reads = ReadsTo-front bytes log gate (subst (λ (f : List ℕ). ReadsTo f log gate) is reads)
 
 -- opening that ended well leaves what closing the gate left
-pub opened-closed : (old mid new : Volume) → mid ≡ settled old.contents → IsAsBeforeButForTheGate mid.contents new.contents → IsAsBeforeButForTheGate old.contents new.contents
+pub opened-closed : (old mid new : Volume) → mid ≡ settled old.contents → IsAsBeforeButForTheGate mid.contents new.contents →
+    IsAsBeforeButForTheGate old.contents new.contents
 opened-closed old mid new durable left = subst (λ (v : Volume). IsAsBeforeButForTheGate v.contents new.contents) durable left

@@ -1,6 +1,7 @@
 -- Reading the records of a journal from its front on.
 use Rattle.std.specs.Int.{w32, to_be_bytes, from_be_bytes}
-use Rattle.std.proofs.Common.{◌≡◌, inl, inr, ℕ, ◌+◌, ◌<◌, ◌≤◌, List, [], ◌∷◌, ◌++◌, length, take, drop, get_or, refl, sym, ◌∙◌, ap, subst, arith, length-append, append_assoc, take-append-drop}
+use Rattle.std.proofs.Common.{◌≡◌, inl, inr, ℕ, ◌+◌, ◌<◌, ◌≤◌, List, [], ◌∷◌, ◌++◌, length, take, drop, get_or, refl, sym, ◌∙◌, ap, subst, arith, length-append}
+use Rattle.std.proofs.Common.{append_assoc, take-append-drop}
 use Rattle.std.proofs.lemmas.Bool.{cases_eq, cases_lt}
 use Rattle.std.proofs.lemmas.List.{drop_at, drop_more, nil_from_length, get_or_past, get_or-take, length-take, length-drop}
 use Rattle.std.proofs.lemmas.Nat.{be_bytes_4}
@@ -9,7 +10,8 @@ use Rattle.byte_journal.specs.steps.Reading.{ReadsTo}
 use Rattle.byte_journal.proofs.LogLemmas.{records-push, length-records-push, AreBodies-push}
 
 -- four bytes of a length, so many bytes, and one more are a record and a gate
-pub record_found : (place : ℕ) (behind : List ℕ) (n : ℕ) (head rest body : List ℕ) → ((i : ℕ) → get_or behind i 0 < 256) → 4 ≤ length behind → head ≡ take 4 behind → rest ≡ drop 4 behind
+pub record_found : (place : ℕ) (behind : List ℕ) (n : ℕ) (head rest body : List ℕ) → ((i : ℕ) → get_or behind i 0 < 256) → 4 ≤ length behind →
+    head ≡ take 4 behind → rest ≡ drop 4 behind
     → n ≡ from_be_bytes w32 head → 0 < n → n < length rest → place + 5 + n < most_bytes → body ≡ take n rest → BeginsWithRecord place behind body
 record_found place behind n head rest body bytes long is_head is_rest is_n some more within is_body =
     let size : length body ≡ n = ap length is_body ∙ omega (arith, length-take n rest) in
@@ -25,7 +27,8 @@ record_found place behind n head rest body bytes long is_head is_rest is_n some 
       rest = drop (n + 1) rest;
       whole = sym (take-append-drop 4 behind)
           ∙ ap (λ (l : List ℕ). l ++ drop 4 behind) (sym spelled)
-          ∙ ap (λ (l : List ℕ). to_be_bytes w32 n ++ l) (sym is_rest ∙ sym (take-append-drop n rest) ∙ ap (λ (l : List ℕ). take n rest ++ l) (drop_more rest n 0 more))
+          ∙ ap (λ (l : List ℕ). to_be_bytes w32 n ++ l) (sym is_rest ∙ sym (take-append-drop n rest)
+          ∙ ap (λ (l : List ℕ). take n rest ++ l) (drop_more rest n 0 more))
           ∙ ap (λ (l : List ℕ). to_be_bytes w32 n ++ (l ++ gate ∷ drop (n + 1) rest)) (sym is_body)
           ∙ sym (append_assoc (to_be_bytes w32 n) body (gate ∷ drop (n + 1) rest))
           ∙ ap (λ (m : ℕ). (to_be_bytes w32 m ++ body) ++ gate ∷ drop (n + 1) rest) (sym size);
@@ -70,7 +73,8 @@ module _ (bytes : List ℕ) (log : List (List ℕ)) (gate : ℕ) (so_far : IsRea
         ∙ sym (append_assoc (records log) (open_gate ∷ framed body) (found.gate ∷ found.rest))
         ∙ ap (λ (l : List ℕ). l ++ found.gate ∷ found.rest) (sym (records-push log body)) in
         let place : next ≡ length (records (log ++ body ∷ [])) = omega (arith, so_far.place, length-records-push log body) in
-        let rest : drop next bytes ≡ found.gate ∷ found.rest = ap (λ (l : List ℕ). drop next l) split ∙ drop_at (records (log ++ body ∷ [])) (found.gate ∷ found.rest) next (sym place) in
+        let rest : drop next bytes ≡ found.gate ∷ found.rest = ap (λ (l : List ℕ). drop next l) split
+        ∙ drop_at (records (log ++ body ∷ [])) (found.gate ∷ found.rest) next (sym place) in
         record {
           whole = split ∙ ap (λ (l : List ℕ). records (log ++ body ∷ []) ++ l) (sym rest);
           place = place;
@@ -79,7 +83,8 @@ module _ (bytes : List ℕ) (log : List (List ℕ)) (gate : ℕ) (so_far : IsRea
           inside = λ some. omega (arith, place, ap length split, length-append (records (log ++ body ∷ [])) (found.gate ∷ found.rest));
         }
 
-  last_here : (rest : List ℕ) → drop gate bytes ≡ rest → 0 < length bytes → ((gate + 1 < length bytes) × (get_or bytes gate 0 ≡ open_gate) → ⊥) → BeginsWithLastGate rest
+  last_here : (rest : List ℕ) → drop gate bytes ≡ rest → 0 < length bytes → ((gate + 1 < length bytes) × (get_or bytes gate 0 ≡ open_gate) → ⊥) →
+      BeginsWithLastGate rest
   last_here [] is some ends = absurd (omega (arith, so_far.inside some, ap length is, length-drop gate bytes))
   last_here (x ∷ []) is some ends = tt
   last_here (x ∷ next ∷ rest) is some ends = λ opens.

@@ -24,7 +24,8 @@ module _ {K : Type 0} (f : K → List ℕ) where
     where
       step : (order : Ordering) → map named (insert_key names_cmp names new) ≡ with_object (map named names) (named new)
           → map named (match_ordering order (new ∷ other ∷ names) (other ∷ names) (other ∷ insert_key names_cmp names new))
-          ≡ match_ordering order (named new ∷ named other ∷ map named names) (named other ∷ map named names) (named other ∷ with_object (map named names) (named new))
+          ≡ match_ordering order (named new ∷ named other ∷ map named names) (named other ∷ map named names)
+          (named other ∷ with_object (map named names) (named new))
       step Less rest = refl
       step Equal rest = refl
       step Greater rest = ap (λ (objects : List ObjectKey). named other ∷ objects) rest

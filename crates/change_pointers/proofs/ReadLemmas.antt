@@ -2,11 +2,13 @@
 use Rattle.std.specs.Prelude.{◌==◌, ◌&&◌, not, nat_eq, if◌then◌else◌, slice_get, option_and_then}
 use Rattle.std.specs.List.{AllByRecursion, IsDistinct, list_all}
 use Rattle.std.specs.Option.{option_map, option_map_or}
-use Rattle.std.proofs.Common.{◌≡◌, ℕ, zero, suc, ◌+◌, ◌-◌, ◌<◌, ◌≤◌, Bool, true, false, Option, Some, None, List, [], ◌∷◌, length, map, refl, ap, sym, subst, ◌∙◌, arith}
+use Rattle.std.proofs.Common.{◌≡◌, ℕ, zero, suc, ◌+◌, ◌-◌, ◌<◌, ◌≤◌, Bool, true, false, Option, Some, None, List, [], ◌∷◌, length, map, refl, ap, sym, subst}
+use Rattle.std.proofs.Common.{◌∙◌, arith}
 use Rattle.std.proofs.lemmas.Bool.{and_parts, both_ways}
 use Rattle.std.proofs.lemmas.Bool.Decides.{nat_tests}
 use Rattle.std.proofs.lemmas.Option.{none-some, same_Some, slice_get_within}
-use Rattle.ale_base.proofs.ListLemmas.{AllByRecursion-at, AllByRecursion-from_places, AllByRecursion-from_map, AllByRecursion-of, AllByRecursion-weaker, slice_get-within}
+use Rattle.ale_base.proofs.ListLemmas.{AllByRecursion-at, AllByRecursion-from_places, AllByRecursion-from_map, AllByRecursion-of, AllByRecursion-weaker}
+use Rattle.ale_base.proofs.ListLemmas.{slice_get-within}
 use Rattle.segment_defs.specs.declared.definitions.Definitions.{Definitions}
 use Rattle.segment_defs.specs.declared.idoc_type.IdocType.{IdocType}
 use Rattle.segment_defs.specs.declared.idoc_type.TypePlace.{TypePlace}
@@ -77,7 +79,8 @@ module _ (definitions : Definitions) (root : TypePlace) (rest : List TypePlace) 
 
   hangs : Hangs (root ∷ rest) None (leaf segment)
   hangs =
-      let first : place_in (root ∷ rest) segment.type ≡ 0 = ap (λ b. if b then 0 else suc (place_in rest segment.type)) (is_eqb root.segment segment.type rooted) in
+      let first : place_in (root ∷ rest) segment.type ≡ 0 = ap (λ b. if b then 0 else suc (place_in rest segment.type))
+      (is_eqb root.segment segment.type rooted) in
       (ap (λ place. option_map (type_above (root ∷ rest)) (slice_get (root ∷ rest) place)) first ∙ ap Some (none_above (root ∷ rest) root root-first), tt, tt)
 
   differ : AllByRecursion (λ (e : TypePlace). nat_eq root.segment e.segment ≡ false) rest
@@ -85,26 +88,33 @@ module _ (definitions : Definitions) (root : TypePlace) (rest : List TypePlace) 
   differ = AllByRecursion-from_map (λ (type : ℕ). nat_eq root.segment type ≡ false) (λ (e : TypePlace). e.segment) rest apart.0
 
   -- a mandatory entry that is not the root stands below another entry, which is not the root
-  far : (k : ℕ) (entry : TypePlace) → slice_get rest k ≡ Some entry → entry.mandatory ≡ true → (above : TypePlace) × (type_above (root ∷ rest) entry ≡ Some above.segment) × (nat_eq root.segment above.segment ≡ false)
+  far : (k : ℕ) (entry : TypePlace) → slice_get rest k ≡ Some entry → entry.mandatory ≡ true →
+      (above : TypePlace) × (type_above (root ∷ rest) entry ≡ Some above.segment) × (nat_eq root.segment above.segment ≡ false)
   far k entry here must = at entry.parent refl
     where
       near : is_near_root entry.parent ≡ true → ⊥
       near = not_both entry.mandatory (is_near_root entry.parent) (all_at (λ e. not (e.mandatory && is_near_root e.parent)) rest k entry enough here) must
 
-      at : (o : Option ℕ) → entry.parent ≡ o → (above : TypePlace) × (type_above (root ∷ rest) entry ≡ Some above.segment) × (nat_eq root.segment above.segment ≡ false)
+      at : (o : Option ℕ) → entry.parent ≡ o → (above : TypePlace) × (type_above (root ∷ rest) entry ≡ Some above.segment) × (nat_eq root.segment above.segment
+          ≡ false)
       at None is = absurd (near (ap is_near_root is))
       at (Some zero) is = absurd (near (ap is_near_root is))
       at (Some (suc q)) is =
           let here2 : slice_get (root ∷ rest) (suc k) ≡ Some entry = here in
           let less : suc q < 0 + suc k = parent-before (root ∷ rest) 0 [] (suc k) entry (suc q) preorder tt here2 is in
           let within : k < length rest = slice_get_within rest k entry here in
-          let (above, found) = slice_get-within rest q (omega (arith, less, within)) in
-          (above, some_above (root ∷ rest) entry (suc q) above is found, AllByRecursion-at (λ (e : TypePlace). nat_eq root.segment e.segment ≡ false) rest q above differ found)
+          let (above, found) = slice_get-within rest q (omega (arith, less, within)) in (
+            above,
+            some_above (root ∷ rest) entry (suc q) above is found,
+            AllByRecursion-at (λ (e : TypePlace). nat_eq root.segment e.segment ≡ false) rest q
+                above differ found,
+          )
 
   enough_roots : HasEnough (root ∷ rest) (record { above = None; children = segment ∷ [] })
   enough_roots = AllByRecursion-from_places (Suffices (root ∷ rest) (record { above = None; children = segment ∷ [] })) (root ∷ rest) each_of
     where
-      each_of : (i : ℕ) (entry : TypePlace) → slice_get (root ∷ rest) i ≡ Some entry → Suffices (root ∷ rest) (record { above = None; children = segment ∷ [] }) entry
+      each_of : (i : ℕ) (entry : TypePlace) → slice_get (root ∷ rest) i ≡ Some entry →
+          Suffices (root ∷ rest) (record { above = None; children = segment ∷ [] }) entry
       each_of zero entry here must own =
           let same : root ≡ entry = cc here in
           subst (λ (e : TypePlace). e.min ≤ count_of e.segment (segment ∷ [])) same (omega (arith, root-once, one))
@@ -115,7 +125,8 @@ module _ (definitions : Definitions) (root : TypePlace) (rest : List TypePlace) 
   enough_below : HasEnough (root ∷ rest) (record { above = Some segment.type; children = [] })
   enough_below = AllByRecursion-from_places (Suffices (root ∷ rest) (record { above = Some segment.type; children = [] })) (root ∷ rest) each_of
     where
-      each_of : (i : ℕ) (entry : TypePlace) → slice_get (root ∷ rest) i ≡ Some entry → Suffices (root ∷ rest) (record { above = Some segment.type; children = [] }) entry
+      each_of : (i : ℕ) (entry : TypePlace) → slice_get (root ∷ rest) i ≡ Some entry →
+          Suffices (root ∷ rest) (record { above = Some segment.type; children = [] }) entry
       each_of zero entry here must own =
           let same : root ≡ entry = cc here in
           let bare : type_above (root ∷ rest) entry ≡ None = ap (type_above (root ∷ rest)) (sym same) ∙ none_above (root ∷ rest) root root-first in
@@ -151,10 +162,14 @@ module _ (definitions : Definitions) (are : AreDefinitions definitions) (kind : 
   newest =
       let (type, at) = slice_get-within definitions.types kind.segment is_kind.known in
       let is = AllByRecursion-at IsSegmentType definitions.types kind.segment type are.each at in
-      let (v, here) = slice_get-within type.versions (length type.versions - 1) (omega (arith, is.some)) in
-      (v, ap (λ (found : Option SegmentType). slice_get (option_map_or (λ t. t.versions) found []) (length (option_map_or (λ t. t.versions) found []) - 1)) at ∙ here)
+      let (v, here) = slice_get-within type.versions (length type.versions - 1) (omega (arith, is.some)) in (
+        v,
+        ap (λ (found : Option SegmentType). slice_get (option_map_or (λ t. t.versions) found []) (length (option_map_or (λ t. t.versions) found []) - 1)) at
+            ∙ here,
+      )
 
-  fields_are : (v : Version) → version_of definitions kind.segment (length (versions_of definitions kind.segment) - 1) ≡ Some v → all_fields definitions kind.segment ≡ v.fields
+  fields_are : (v : Version) → version_of definitions kind.segment (length (versions_of definitions kind.segment) - 1) ≡ Some v →
+      all_fields definitions kind.segment ≡ v.fields
   fields_are v here = ap (λ (found : Option Version). option_map_or (λ last. last.fields) found []) here
 
   room : HaveRoom (all_fields definitions kind.segment) texts
@@ -173,7 +188,8 @@ module _ (definitions : Definitions) (are : AreDefinitions definitions) (kind : 
       let of = version-IsVersion definitions kind.segment (length (versions_of definitions kind.segment) - 1) v are here in
       let fits : width_of (all_fields definitions kind.segment) ≤ 1000 = subst (λ (fields : List Field). width_of fields ≤ 1000) (sym same) of.fields.fits in
       let cut : fitted v sdata ≡ sdata =
-      subst (λ (fields : List Field). HaveRoom fields texts → fitted v (data_of fields texts) ≡ data_of fields texts) (sym same) (fitted-data_of v texts) room in (
+      subst (λ (fields : List Field). HaveRoom fields texts → fitted v (data_of fields texts) ≡ data_of fields texts) (sym same)
+      (fitted-data_of v texts) room in (
         record {
           definition = v;
           here = here;
@@ -183,7 +199,8 @@ module _ (definitions : Definitions) (are : AreDefinitions definitions) (kind : 
         ap (λ (found : Option Version). fitted_by found sdata) here ∙ cut,
       )
 
-root_is : (type : IdocType) (entries : List TypePlace) → IsRootEntry (slice_get entries 0) → (root : TypePlace) × (rest : List TypePlace) × (entries ≡ root ∷ rest) × (root.parent ≡ None) × (root.min ≡ 1)
+root_is : (type : IdocType) (entries : List TypePlace) → IsRootEntry (slice_get entries 0) →
+    (root : TypePlace) × (rest : List TypePlace) × (entries ≡ root ∷ rest) × (root.parent ≡ None) × (root.min ≡ 1)
 root_is type [] is = absurd is
 root_is type (root ∷ rest) is = (root, rest, refl, is.0, is.2)
 
@@ -205,14 +222,17 @@ master-of_message model message m kind key values kept at listed of_kind =
     let each = subst (AllByRecursion (IsEntry model.definitions)) whole is_type.each in
     let apart = subst (λ (es : List TypePlace). IsDistinct nat_eq (map (λ (e : TypePlace). e.segment) es)) whole is_type.apart in
     let preorder = subst (IsPreorder 0 []) whole is_type.preorder in
-    let rooted : root.segment ≡ segment.type = same_Some root.segment kind.segment (sym (ap root_segment whole) ∙ is.root ∙ ap (λ (k : Kind). Some k.segment) its) in
+    let rooted : root.segment ≡ segment.type = same_Some root.segment kind.segment
+    (sym (ap root_segment whole) ∙ is.root ∙ ap (λ (k : Kind). Some k.segment) its) in
     let enough : list_all (λ (e : TypePlace). not (e.mandatory && is_near_root e.parent)) rest ≡ true = sym (ap is_root_enough whole) ∙ is.gathered listed in
     let node = object_is model.definitions kept.definitions kind is_kind key values in
     record {
       nodes = (node.0, tt, tt);
       fitted = (node.1, tt, tt);
-      hangs = subst (λ (es : List TypePlace). Hangs es None (leaf segment)) (sym entries) (hangs model.definitions root rest segment first once each apart preorder rooted enough);
-      valid = subst (λ (es : List TypePlace). IsValid es (leaf segment)) (sym entries) (valid model.definitions root rest segment first once each apart preorder rooted enough);
+      hangs = subst (λ (es : List TypePlace). Hangs es None (leaf segment)) (sym entries)
+          (hangs model.definitions root rest segment first once each apart preorder rooted enough);
+      valid = subst (λ (es : List TypePlace). IsValid es (leaf segment)) (sym entries)
+          (valid model.definitions root rest segment first once each apart preorder rooted enough);
     }
 
 -- so is the master of an object
@@ -224,5 +244,6 @@ master-is model message key values forest kept makes made =
     let of_kind : kind_of model message ≡ Some is.kind =
     ap (option_and_then (λ (m : Message). slice_get model.kinds m.kind)) makes.here ∙ is.of_kind in
     let forest_is : forest ≡ leaf (object_segment model.definitions key values is.kind) =
-    same_Some forest (leaf (object_segment model.definitions key values is.kind)) (made ∙ ap (λ (k : Option Kind). option_map leaf (option_map (object_segment model.definitions key values) k)) of_kind) in
+    same_Some forest (leaf (object_segment model.definitions key values is.kind))
+    (made ∙ ap (λ (k : Option Kind). option_map leaf (option_map (object_segment model.definitions key values) k)) of_kind) in
     subst (IsOfMessage model message) (sym forest_is) (master-of_message model message m is.kind key values kept makes.here makes.listed is.of_kind)

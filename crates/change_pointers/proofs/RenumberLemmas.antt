@@ -18,7 +18,8 @@ module _ {A B : Type 0} (view : A → B) (test : B → Bool) (place : ℕ) (xs :
 
   -- it is one behind the place
   pub found-behind : test (view x) ≡ false
-      → option_map (λ k. place + 1 + k) (position test (map view (drop (place + 1) xs))) ≡ option_map (λ k. place + k) (position test (map view (drop place xs)))
+      → option_map (λ k. place + 1 + k) (position test (map view (drop (place + 1) xs)))
+      ≡ option_map (λ k. place + k) (position test (map view (drop place xs)))
   found-behind fails =
       sym (ap (λ (left : List A). option_map (λ k. place + k) (position test (map view left))) here
       ∙ ap (option_map (λ k. place + k)) (position-behind test (view x) (map view (drop (place + 1) xs)) fails)

@@ -28,7 +28,8 @@ use Rattle.application_rules.specs.Puts.{may_put}
 use Rattle.application_rules.proofs.FollowLemmas.{gathered-may}
 use Rattle.document_tables.specs.OfLog.{applied_by}
 use Rattle.model_rules.specs.Allowed.{allowed_under, has_room, stands_at, waits_any}
-use Rattle.command_records.specs.Asked.{Asked, asked_app, asked_dispatch, asked_gather, asked_pass, asked_put, asked_repost, asked_send, gathered_for, gathered_or_none, has_inbound, sent_or_refused, units_with, with_room}
+use Rattle.command_records.specs.Asked.{Asked, asked_app, asked_dispatch, asked_gather, asked_pass, asked_put, asked_repost, asked_send, gathered_for}
+use Rattle.command_records.specs.Asked.{gathered_or_none, has_inbound, sent_or_refused, units_with, with_room}
 
 -- a command asks for this record
 abbrev pub Gives : Asked → Record → Type 0
@@ -67,24 +68,29 @@ module _ (log : List Record) (model : Lists) (is : model_of log ≡ Some model) 
       (parts.0, given one next parts.1)
 
   -- a Commit of documents that may be committed
-  commit-may : (origin : Option (List ℕ)) (docs : List RawUnitDoc) (next : Record) → may_commit model (applied_by log).application.objects (applied_by log).application.pointers origin docs ≡ true
+  commit-may : (origin : Option (List ℕ)) (docs : List RawUnitDoc) (next : Record) →
+      may_commit model (applied_by log).application.objects (applied_by log).application.pointers origin docs ≡ true
       → Gives (with_room log (Commit origin docs)) next → allowed_under log model next ≡ true
   commit-may origin docs next may gives =
       let parts = roomy (Commit origin docs) next gives in
       subst (λ one. allowed_under log model one ≡ true) parts.1
-      (and_from (may_commit model (applied_by log).application.objects (applied_by log).application.pointers origin docs) (has_room log (Commit origin docs)) may parts.0)
+      (and_from (may_commit model (applied_by log).application.objects (applied_by log).application.pointers origin docs)
+      (has_room log (Commit origin docs)) may parts.0)
 
   master-may : (master : RawUnitDoc) → length master.segments ≤ MOST_SEGMENTS → master_fault model master ≡ None
       → may_commit model (applied_by log).application.objects (applied_by log).application.pointers None (master ∷ []) ≡ true
   master-may master short good =
-      let one = and_from (nat_le (length master.segments) MOST_SEGMENTS) (is_none (master_fault model master)) (within (length master.segments) MOST_SEGMENTS short) (ap is_none good) in
-      and_from (are_of model (applied_by log).application.objects (applied_by log).application.pointers None (master ∷ [])) (list_all (may_be_committed model) (master ∷ [])) refl
+      let one = and_from (nat_le (length master.segments) MOST_SEGMENTS) (is_none (master_fault model master))
+      (within (length master.segments) MOST_SEGMENTS short) (ap is_none good) in
+      and_from (are_of model (applied_by log).application.objects (applied_by log).application.pointers None (master ∷ []))
+      (list_all (may_be_committed model) (master ∷ [])) refl
       (and_from (may_be_committed model master) true one refl)
 
   -- a master that is sent may be committed
   pub send-may : (master : RawUnitDoc) (next : Record) → length master.segments ≤ MOST_SEGMENTS → Gives (asked_send log master) next
       → allowed_under log model next ≡ true
-  send-may master next short gives = of (master_fault model master) refl (under (λ m. sent_or_refused (with_room log) master (master_fault m master)) next gives)
+  send-may master next short gives = of (master_fault model master) refl
+      (under (λ m. sent_or_refused (with_room log) master (master_fault m master)) next gives)
     where
       of : (found : Option MasterFault) → master_fault model master ≡ found → Gives (sent_or_refused (with_room log) master found) next
           → allowed_under log model next ≡ true
@@ -95,7 +101,8 @@ module _ (log : List Record) (model : Lists) (is : model_of log ≡ Some model) 
 
   -- so may what is gathered
   module _ (kept : IsModel model) where
-    gathered-allowed : (message : ℕ) (type : Message) (next : Record) → slice_get model.messages message ≡ Some type → Gives (gathered_for log model message type) next
+    gathered-allowed : (message : ℕ) (type : Message) (next : Record) → slice_get model.messages message ≡ Some type →
+        Gives (gathered_for log model message type) next
         → allowed_under log model next ≡ true
     gathered-allowed message type next here gives =
         let docs = gathered model (applied_by log).application.objects (applied_by log).application.pointers message in
@@ -103,29 +110,35 @@ module _ (log : List Record) (model : Lists) (is : model_of log ≡ Some model) 
         let makes : MakesDocuments model message = record { type = type; here = here; listed = least (length type.pointers) parts.0 } in
         of docs refl makes parts.1
       where
-        of : (docs : List RawUnitDoc) → gathered model (applied_by log).application.objects (applied_by log).application.pointers message ≡ docs → (makes : MakesDocuments model message)
+        of : (docs : List RawUnitDoc) → gathered model (applied_by log).application.objects (applied_by log).application.pointers message ≡ docs →
+            (makes : MakesDocuments model message)
             → Gives (gathered_or_none (with_room log) type.name docs) next → allowed_under log model next ≡ true
         of [] are makes sent = absurd (no-none next sent)
         of (doc ∷ docs) are makes sent =
             let made : makes.type ≡ type = same_Some makes.type type (sym makes.here ∙ here) in
-            let some : 1 ≤ length (gathered model (applied_by log).application.objects (applied_by log).application.pointers message) = let count = ap length are in omega (arith, count) in
+            let some : 1 ≤ length (gathered model (applied_by log).application.objects (applied_by log).application.pointers message) = let count = ap length
+            are in omega (arith, count) in
             let may = gathered-may model message kept makes (applied_by log).application.objects (applied_by log).application.pointers some in
             commit-may (Some type.name) (doc ∷ docs) next
             (ap (λ docs. may_commit model (applied_by log).application.objects (applied_by log).application.pointers (Some type.name) docs) (sym are)
-            ∙ ap (λ (t : Message). may_commit model (applied_by log).application.objects (applied_by log).application.pointers (Some t.name) (gathered model (applied_by log).application.objects (applied_by log).application.pointers message)) (sym made)
+            ∙ ap (λ (t : Message). may_commit model (applied_by log).application.objects (applied_by log).application.pointers (Some t.name)
+            (gathered model (applied_by log).application.objects (applied_by log).application.pointers message)) (sym made)
             ∙ may) sent
 
     pub gather-may : (name : List ℕ) (next : Record) → Gives (asked_gather log name) next → allowed_under log model next ≡ true
     gather-may name next gives =
         of (message_named name model)
-        (under (λ m. option_map_or (λ message. option_map_or (gathered_for log m message) (slice_get m.messages message) (Ok None)) (message_named name m) (Err N12)) next gives)
+        (under (λ m. option_map_or (λ message. option_map_or (gathered_for log m message) (slice_get m.messages message) (Ok None)) (message_named name m)
+        (Err N12)) next gives)
       where
-        at : (message : ℕ) (found : Option Message) → slice_get model.messages message ≡ found → Gives (option_map_or (gathered_for log model message) found (Ok None)) next
+        at : (message : ℕ) (found : Option Message) → slice_get model.messages message ≡ found →
+            Gives (option_map_or (gathered_for log model message) found (Ok None)) next
             → allowed_under log model next ≡ true
         at message None here sent = absurd (no-none next sent)
         at message (Some type) here sent = gathered-allowed message type next here sent
 
-        of : (found : Option ℕ) → Gives (option_map_or (λ message. option_map_or (gathered_for log model message) (slice_get model.messages message) (Ok None)) found (Err N12)) next
+        of : (found : Option ℕ) → Gives (option_map_or (λ message. option_map_or (gathered_for log model message) (slice_get model.messages message) (Ok None))
+            found (Err N12)) next
             → allowed_under log model next ≡ true
         of None sent = absurd (no-refusal N12 next sent)
         of (Some message) sent = at message (slice_get model.messages message) refl sent

@@ -2,7 +2,8 @@
 use Rattle.std.specs.Prelude.{if◌then◌else◌, nat_le, nat_lt, slice_get, Ok, Err}
 use Rattle.std.specs.List.{filter_map}
 use Rattle.std.specs.Option.{option_map_or}
-use Rattle.std.proofs.Common.{◌≡◌, inl, inr, ℕ, zero, suc, ◌+◌, ◌≤◌, ◌<◌, Bool, true, false, Option, Some, None, List, [], ◌∷◌, length, refl, sym, ap, ◌∙◌, arith}
+use Rattle.std.proofs.Common.{◌≡◌, inl, inr, ℕ, zero, suc, ◌+◌, ◌≤◌, ◌<◌, Bool, true, false, Option, Some, None, List, [], ◌∷◌, length, refl, sym, ap, ◌∙◌}
+use Rattle.std.proofs.Common.{arith}
 use Rattle.std.proofs.lemmas.Bool.Decides.{nat_tests}
 use Rattle.std.proofs.lemmas.List.{length-map}
 use Rattle.std.proofs.lemmas.List.Elements.{All-contains, All-from_recursion}
@@ -32,7 +33,8 @@ use Rattle.document_tables.specs.Made.{GoesWith}
 use Rattle.document_tables.specs.declared.made.Made.TheVariants.{Sent}
 use Rattle.document_tables.specs.OfLog.{applied_by, sent_by, added_behind}
 use Rattle.model_rules.specs.Allowed.{waits_any}
-use Rattle.command_records.specs.Asked.{Asked, asked_dispatch, asked_gather, asked_send, by_model, gathered_for, gathered_or_none, sent_or_refused, units_with, with_room}
+use Rattle.command_records.specs.Asked.{Asked, asked_dispatch, asked_gather, asked_send, by_model, gathered_for, gathered_or_none, sent_or_refused, units_with}
+use Rattle.command_records.specs.Asked.{with_room}
 use Rattle.command_records.specs.Judged.{IsMaster, JudgedAs}
 
 -- where there is no model in force all names are unknown
@@ -47,7 +49,8 @@ room-there log next few =
     let has : nat_le count MAX_UNIT ≡ true = grind (arith, nat_tests, few) in
     ap (λ b. if b then Ok (Some next) else Err (N11 (units_with log next))) has
 
-pub room-wanting : (log : List Record) (next : Record) (count : ℕ) → count ≡ length (sent_by log).past.units + length (added_behind log next).units → 65536 < count
+pub room-wanting : (log : List Record) (next : Record) (count : ℕ) → count ≡ length (sent_by log).past.units + length (added_behind log next).units →
+    65536 < count
     → with_room log next ≡ Err (N11 count)
 room-wanting log next count counts many =
     let most = length (sent_by log).past.units + length (added_behind log next).units in
@@ -67,7 +70,8 @@ module _ (log : List Record) (model : Lists) (is : model_of log ≡ Some model) 
   -- and is refused for its fault
   pub send-refused : (T : Type 0) (kind : Record → Bool) (master : RawUnitDoc) (why : Refusal) → IsMaster {T = T} (master_fault model master) (Err why)
       → JudgedAs log kind (asked_send log master) (Err why)
-  send-refused T kind master N12 fault = under-model (λ m. sent_or_refused (with_room log) master (master_fault m master)) ∙ ap (sent_or_refused (with_room log) master) fault
+  send-refused T kind master N12 fault = under-model (λ m. sent_or_refused (with_room log) master (master_fault m master))
+      ∙ ap (sent_or_refused (with_room log) master) fault
   send-refused T kind master (N4 syntax) fault =
       under-model (λ m. sent_or_refused (with_room log) master (master_fault m master)) ∙ ap (sent_or_refused (with_room log) master) fault
   send-refused T kind master OutOfMemory fault = tt
@@ -125,7 +129,8 @@ pub gathers : (log : List Record) (model : Lists) (message : ℕ) (type : Messag
     → gathered_for log model message type
     ≡ gathered_or_none (with_room log) type.name (gathered model (applied_by log).application.objects (applied_by log).application.pointers message)
 gathers log model message type some =
-    ap (λ b. if b then gathered_or_none (with_room log) type.name (gathered model (applied_by log).application.objects (applied_by log).application.pointers message) else Ok None)
+    ap (λ b. if b then gathered_or_none (with_room log) type.name
+    (gathered model (applied_by log).application.objects (applied_by log).application.pointers message) else Ok None)
     (of type.pointers some)
   where
     of : (places : List ℕ) → (places ≡ [] → ⊥) → nat_le 1 (length places) ≡ true

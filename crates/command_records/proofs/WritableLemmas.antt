@@ -87,11 +87,13 @@ module _ (fields : List Field) (are : AllByRecursion IsField fields) (key_place 
   value-writable given may = of (field_of_name given.field fields) refl may
     where
       of : (found : Option Field) → field_of_name given.field fields ≡ found
-          → option_map_or (λ (field : Field). not (is_text given.field (name_at fields key_place)) && nat_le (length given.value) field.length) found false ≡ true
+          → option_map_or (λ (field : Field). not (is_text given.field (name_at fields key_place)) && nat_le (length given.value) field.length) found false
+          ≡ true
           → IsFieldValue given
       of None here lies = absurd (cc)
       of (Some field) here is =
-          let fits = at_most (length given.value) field.length (and_parts (not (is_text given.field (name_at fields key_place))) (nat_le (length given.value) field.length) is).1 in
+          let fits = at_most (length given.value) field.length
+          (and_parts (not (is_text given.field (name_at fields key_place))) (nat_le (length given.value) field.length) is).1 in
           let its = find-keeps IsField (λ (one : Field). is_text given.field one.name) fields field are here in
           let same = same_text given.field field.name (find-Some (λ (one : Field). is_text given.field one.name) fields field here).1 in
           let least = its.named.least in
@@ -110,7 +112,8 @@ pub put-writable : (model : Lists) (kind key : List ℕ) (given : List FieldValu
     → IsWritable (Put kind key given)
 put-writable model kind key given kept may few = of (kind_named kind model) refl may
   where
-    of : (found : Option Kind) → kind_named kind model ≡ found → option_map_or (may_change model.definitions key given) found false ≡ true → IsWritable (Put kind key given)
+    of : (found : Option Kind) → kind_named kind model ≡ found → option_map_or (may_change model.definitions key given) found false ≡ true →
+        IsWritable (Put kind key given)
     of None here lies = absurd (cc)
     of (Some one) here is =
         let fields = all_fields model.definitions one.segment in
@@ -122,7 +125,8 @@ put-writable model kind key given kept may few = of (kind_named kind model) refl
         let second = and_parts (keyed && some) settable first.0 in
         let third = and_parts keyed some second.0 in
         let long = and_parts (nat_lt 0 (length key) && nat_le (length key) (length_at fields one.key)) (is_text (trimmed key) key) third.0 in
-        let fits = at_most (length key) (length_at fields one.key) (and_parts (nat_lt 0 (length key)) (nat_le (length key) (length_at fields one.key)) long.0).1 in
+        let fits = at_most (length key) (length_at fields one.key)
+        (and_parts (nat_lt 0 (length key)) (nat_le (length key) (length_at fields one.key)) long.0).1 in
         let bytes = length-most fields are one.key one.key in
         let its = find-keeps (IsKind model.definitions) (λ (other : Kind). is_text kind other.name) model.kinds one kept.kinds.each here in
         let same = same_text kind one.name (find-Some (λ (other : Kind). is_text kind other.name) model.kinds one here).1 in
@@ -145,10 +149,12 @@ gathered-short model message kept makes objects pointers = of (gathered model ob
     of [] are = subst (AllByRecursion IsDocument) (sym are) tt
     of (doc ∷ docs) are =
         let some : 1 ≤ length (gathered model objects pointers message) = let count = ap length are in omega (arith, count) in
-        commit-short model objects pointers (Some makes.type.name) (gathered model objects pointers message) (gathered-may model message kept makes objects pointers some)
+        commit-short model objects pointers (Some makes.type.name) (gathered model objects pointers message)
+        (gathered-may model message kept makes objects pointers some)
 
 -- the record by which an object gets values is asked for, and can be written
-pub put-wanted : (log : List Record) (model : Lists) (change : Change) (next : Record) → model_of log ≡ Some model → next ≡ Put change.kind change.key change.fields
+pub put-wanted : (log : List Record) (model : Lists) (change : Change) (next : Record) → model_of log ≡ Some model →
+    next ≡ Put change.kind change.key change.fields
     → may_put model change.kind change.key change.fields ≡ true → length change.fields < 2 ^ 32
     → IsWanted log is_applications (asked_put log change) (record { next = next; made = Nothing })
 put-wanted log model change next is same may few =

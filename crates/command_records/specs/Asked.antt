@@ -58,7 +58,8 @@ module _ (log : List Record) where
 
   -- an object gets values
   abbrev pub asked_put : Change → Asked
-  asked_put change = by_model (λ model. if may_put model change.kind change.key change.fields then Ok (Some (Put change.kind change.key change.fields)) else Err N12)
+  asked_put change = by_model (λ model. if may_put model change.kind change.key change.fields then Ok (Some (Put change.kind change.key change.fields)) else Err
+      N12)
 
   -- how many change pointers are noted where an object gets values
   abbrev pub pointers_noted : Change → ℕ
@@ -76,7 +77,8 @@ module _ (log : List Record) where
   -- objects that wait for a message type are gathered; the name of a reduced one stands for its basic one
   abbrev pub asked_gather : List ℕ → Asked
   asked_gather name =
-      by_model (λ model. option_map_or (λ message. option_map_or (gathered_for model message) (slice_get model.messages message) (Ok None)) (message_named name model) (Err N12))
+      by_model (λ model. option_map_or (λ message. option_map_or (gathered_for model message) (slice_get model.messages message) (Ok None))
+      (message_named name model) (Err N12))
 
   -- what waits is dispatched, where something waits
   abbrev pub asked_dispatch : Asked

@@ -25,7 +25,8 @@ all_fields_few definitions segment are = in_type (slice_get definitions.types se
     in_version type None is here = omega arith
     in_version type (Some version) is here = (AllByRecursion-at IsVersion type.versions (length type.versions - 1) version is.each here).fields.few
 
-    in_type : (o : Option SegmentType) → slice_get definitions.types segment ≡ o → length (last_fields (option_map_or (λ (type : SegmentType). type.versions) o [])) ≤ MOST_FIELDS
+    in_type : (o : Option SegmentType) → slice_get definitions.types segment ≡ o →
+        length (last_fields (option_map_or (λ (type : SegmentType). type.versions) o [])) ≤ MOST_FIELDS
     in_type None here = omega arith
     in_type (Some type) here =
         in_version type (slice_get type.versions (length type.versions - 1)) (AllByRecursion-at IsSegmentType definitions.types segment type are.each here) refl

@@ -36,7 +36,8 @@ module _ (model : Lists) (name : List ℕ) (found : Option ℕ) (sought : found 
   seen = sought ∙ position-map (λ system. system.name) (is_text name) model.systems
 
   -- the number of the system at a place
-  pub number-found : (r : Option ℕ) (place : ℕ) → found ≡ Some place → place < 16 → IfSome r (λ number. number ≡ place + 1) → IsNone r ↔ ((place + 1 ≡ 0) ⊎ (16 < place + 1)) → r ≡ system_named name model
+  pub number-found : (r : Option ℕ) (place : ℕ) → found ≡ Some place → place < 16 → IfSome r (λ number. number ≡ place + 1) →
+      IsNone r ↔ ((place + 1 ≡ 0) ⊎ (16 < place + 1)) → r ≡ system_named name model
   number-found None place there few is none = absurd (elim (none.0 refl) [ inl zero ↦ omega arith | inr many ↦ omega arith ])
   number-found (Some number) place there few is none = ap Some (is ∙ omega arith) ∙ ap (option_map suc) (sym there ∙ seen)
 
@@ -45,7 +46,8 @@ module _ (model : Lists) (name : List ℕ) (found : Option ℕ) (sought : found 
   number-none absent = ap (option_map suc) (sym absent ∙ seen)
 
 -- the same of a number that was found
-pub found-named : (model : Lists) (name : List ℕ) (r : Option ℕ) → r ≡ system_named name model → IsModel model → (number : ℕ) → (r ≡ Some number) ↔ HasSystem model name number
+pub found-named : (model : Lists) (name : List ℕ) (r : Option ℕ) → r ≡ system_named name model → IsModel model → (number : ℕ) →
+    (r ≡ Some number) ↔ HasSystem model name number
 found-named model name r found is number =
     subst (λ r. (r ≡ Some number) ↔ HasSystem model name number) (sym found) (system_named-HasSystem model name number is)
 

@@ -1,5 +1,6 @@
 -- The distribution model of a landscape: the rules that its lists keep, and what its names stand for.
-use Rattle.std.specs.Prelude.{◌≡◌, ℕ, suc, ◌-◌, ◌<◌, ◌≤◌, ◌&&◌, ◌⊎◌, Bool, List, [], ◌∷◌, ◌++◌, length, map, nat_eq, nat_lt, position, Option, Some, option_and_then, slice_get, Contains, IsTrue, if◌then◌else◌}
+use Rattle.std.specs.Prelude.{◌≡◌, ℕ, suc, ◌-◌, ◌<◌, ◌≤◌, ◌&&◌, ◌⊎◌, Bool, List, [], ◌∷◌, ◌++◌, length, map, nat_eq, nat_lt, position, Option, Some}
+use Rattle.std.specs.Prelude.{option_and_then, slice_get, Contains, IsTrue, if◌then◌else◌}
 use Rattle.std.specs.List.{AllByRecursion, IsDistinct, list_any}
 use Rattle.std.specs.Option.{option_map}
 use Rattle.ale_base.specs.Text.{is_text}

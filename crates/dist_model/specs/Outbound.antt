@@ -1,5 +1,6 @@
 -- Profiles of what is sent.
-use Rattle.std.specs.Prelude.{◌≡◌, ℕ, ◌<◌, ◌≤◌, ◌||◌, ◌&&◌, ◌⊎◌, Bool, false, not, List, [], ◌∷◌, ◌++◌, length, nat_eq, Option, Some, None, slice_get, is_none, IsTrue}
+use Rattle.std.specs.Prelude.{◌≡◌, ℕ, ◌<◌, ◌≤◌, ◌||◌, ◌&&◌, ◌⊎◌, Bool, false, not, List, [], ◌∷◌, ◌++◌, length, nat_eq, Option, Some, None, slice_get, is_none}
+use Rattle.std.specs.Prelude.{IsTrue}
 use Rattle.std.specs.List.{AllByRecursion, IsDistinct, list_any}
 use Rattle.std.specs.Option.{ForSome, option_map_or}
 use Rattle.ale_base.specs.QueueName.{IsQueueName}
@@ -32,7 +33,8 @@ pub record IsQueueRule (definitions : Definitions) (types : List IdocType) (mess
   pub collected : mode ≡ 4 → rule.place ≡ None
 
 -- such rules, not too many
-pub record AreQueueRules (definitions : Definitions) (types : List IdocType) (messages : List Message) (message mode : ℕ) (rules : List QueueRule) : Type 0 where
+pub record AreQueueRules (definitions : Definitions) (types : List IdocType) (messages : List Message) (message mode : ℕ)
+    (rules : List QueueRule) : Type 0 where
   pub few : length rules ≤ MOST_RULES
   pub each : AllByRecursion (IsQueueRule definitions types messages message mode) rules
 
@@ -43,7 +45,8 @@ pub record IsReductionOf (reduced : List Reduced) (message place : ℕ) : Type 0
   pub own : one.message ≡ message
 
 -- a profile of what is sent
-pub record IsOutbound (releases systems : ℕ) (definitions : Definitions) (types : List IdocType) (messages : List Message) (reduced : List Reduced) (profile : Outbound) : Type 0 where
+pub record IsOutbound (releases systems : ℕ) (definitions : Definitions) (types : List IdocType) (messages : List Message) (reduced : List Reduced)
+    (profile : Outbound) : Type 0 where
   pub way : IsWay systems (length messages) (outbound_way profile)
   pub mode : (profile.outmod ≡ 2) ⊎ (profile.outmod ≡ 4)
   pub some : 1 ≤ profile.packet
@@ -60,7 +63,8 @@ pub record IsOutbound (releases systems : ℕ) (definitions : Definitions) (type
   pub inq : AreQueueRules definitions types messages profile.message profile.outmod profile.inq
 
 -- not too many profiles, each with a way of its own
-pub record AreOutbound (releases systems : ℕ) (definitions : Definitions) (types : List IdocType) (messages : List Message) (reduced : List Reduced) (profiles : List Outbound) : Type 0 where
+pub record AreOutbound (releases systems : ℕ) (definitions : Definitions) (types : List IdocType) (messages : List Message) (reduced : List Reduced)
+    (profiles : List Outbound) : Type 0 where
   pub few : length profiles ≤ MOST_OUTBOUND
   pub each : AllByRecursion (IsOutbound releases systems definitions types messages reduced) profiles
   pub apart : IsDistinct same_way (outbound_ways profiles)

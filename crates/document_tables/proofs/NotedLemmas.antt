@@ -2,7 +2,8 @@
 use Rattle.std.specs.Prelude.{◌↔◌, IsTrue}
 use Rattle.std.specs.Arc.{arc_value}
 use Rattle.std.specs.Option.{option_map}
-use Rattle.std.proofs.Common.{◌≡◌, ℕ, zero, suc, ◌≤◌, Bool, true, false, Option, Some, None, option_and_then, List, [], ◌∷◌, ◌++◌, refl, sym, ap, subst, ◌∙◌, arith}
+use Rattle.std.proofs.Common.{◌≡◌, ℕ, zero, suc, ◌≤◌, Bool, true, false, Option, Some, None, option_and_then, List, [], ◌∷◌, ◌++◌, refl, sym, ap, subst, ◌∙◌}
+use Rattle.std.proofs.Common.{arith}
 use Rattle.dist_model.specs.declared.lists.Lists.{Lists}
 use Rattle.ale_base.specs.Tid.{TidOf}
 use Rattle.unit_core.specs.declared.ale_unit.AleUnit.{AleUnit}
@@ -53,7 +54,8 @@ alone-plain log.Dispatch alone = absurd (cc)
 alone-plain _ alone = refl
 
 -- what was made says what the record adds
-pub goes-adds : (records : List Record) (next : Record) (made : Made) (added : Added) → GoesWith records next made → AddsAs made added → added ≡ added_behind records next
+pub goes-adds : (records : List Record) (next : Record) (made : Made) (added : Added) → GoesWith records next made → AddsAs made added →
+    added ≡ added_behind records next
 goes-adds records (log.Commit origin docs) (Sent made) added goes adds = adds ∙ goes
 goes-adds records log.Dispatch (Sent made) added goes adds = adds ∙ goes
 goes-adds records (log.Direct unit) (Postings postings) added goes adds = adds ∙ sym (added-nothing records (log.Direct unit) refl)
@@ -86,7 +88,8 @@ between-noted records next made before after added are goes begun model adds app
 -- ---- the text of a record
 
 -- a record without a text brings no model into force
-silent-stays : (before after : Option Lists) (next : Record) (application : Application) → text_of next ≡ None → renumbered_at before after next application ≡ application
+silent-stays : (before after : Option Lists) (next : Record) (application : Application) → text_of next ≡ None →
+    renumbered_at before after next application ≡ application
 silent-stays before after (log.Model text) application silent = absurd (cc)
 silent-stays before after _ application silent = refl
 
@@ -133,7 +136,8 @@ pub tables-brought : (records : List Record) (next : Record) (text : List ℕ) (
 tables-brought records next text before after says is begun outbound model renumbers =
     let now : option_map arc_value after.model ≡ model_of (records ++ next ∷ []) =
     model ∙ ap (λ found. said_behind before.has_begun found text) is.model ∙ brought records next text before.has_begun says is.begun in
-    let counts : 1 ≤ models_in (records ++ next ∷ []) = let count = models_in-push records next in let more = text-counts (models_in records) next text says in omega (arith, count, more) in
+    let counts : 1 ≤ models_in (records ++ next ∷ []) = let count = models_in-push records next in let more = text-counts
+    (models_in records) next text says in omega (arith, count, more) in
     record {
       begun = (λ told. counts, λ told. subst IsTrue (sym begun) refl);
       model = now;
@@ -158,7 +162,8 @@ same_direct : (a b : AleUnit) → log.Direct a ≡ log.Direct b → a ≡ b
 same_direct a b same = cc
 
 -- a unit that is received and executed at once: of its documents becomes what was prepared
-pub direct-applied : (found : Option Lists) (model : Lists) (system : ℕ) (next : Record) (unit inner : AleUnit) (docs : List RawUnitDoc) (postings : List DocPosting)
+pub direct-applied : (found : Option Lists) (model : Lists) (system : ℕ) (next : Record) (unit inner : AleUnit) (docs : List RawUnitDoc)
+    (postings : List DocPosting)
     (application : Application) (after : ApplicationTables) → found ≡ Some model → next ≡ log.Direct inner → next ≡ log.Direct unit → docs ≡ inner.docs
     → postings ≡ postings_under found system unit → AreApplied (arrived_all inner.sender docs postings (with_unit unit application)) after
     → AreApplied (applied_under found system application next) after

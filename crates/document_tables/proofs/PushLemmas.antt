@@ -28,10 +28,12 @@ tracked-before models more (next ∷ records) tracked within =
     let least = models-grow tracked.past.models (next ∷ records) in
     let force = in_force-before models more tracked.past.models (omega (arith, least, within)) in
     let same : tracked_after (models ++ more) tracked next ≡ tracked_after models tracked next
-    = ap (λ (o : Option Lists). tracked_with tracked next (option_map_or (λ model. added_by model tracked.past.system tracked.past.outbox next) o no_more)) force in
+    = ap (λ (o : Option Lists). tracked_with tracked next (option_map_or (λ model. added_by model tracked.past.system tracked.past.outbox next) o no_more))
+    force in
     ap (λ (t : Tracked). fold (tracked_after (models ++ more)) t records) same ∙ tracked-before models more records (tracked_after models tracked next) within
 
-tracked_of-before : (models more : List Lists) (records : List Record) → models_in records ≤ length models → tracked_of (models ++ more) records ≡ tracked_of models records
+tracked_of-before : (models more : List Lists) (records : List Record) → models_in records ≤ length models →
+    tracked_of (models ++ more) records ≡ tracked_of models records
 unfolding tracked_of
 tracked_of-before models more records within = tracked-before models more records nothing_tracked within
 
@@ -57,7 +59,8 @@ past-before models more (next ∷ records) past within =
     (next-same models more past next (omega (arith, least, within))) in
     ap (λ (p : Past). fold (past_after (models ++ more)) p records) same ∙ past-before models more records (past_after models past next) within
 
-past_of-before : (models more : List Lists) (records : List Record) → models_in records ≤ length models → past_of (models ++ more) records ≡ past_of models records
+past_of-before : (models more : List Lists) (records : List Record) → models_in records ≤ length models →
+    past_of (models ++ more) records ≡ past_of models records
 unfolding past_of
 past_of-before models more records within = past-before models more records no_past within
 
@@ -73,7 +76,8 @@ pub sent-counts : (records : List Record) → (sent_by records).past.models ≡ 
 unfolding tracked_of
 sent-counts records = tracked-counts (models_of records) records nothing_tracked
 
-past-counts : (models : List Lists) (records : List Record) (past : Past) → (fold (past_after models) past records).models ≡ fold models_after past.models records
+past-counts : (models : List Lists) (records : List Record) (past : Past) → (fold (past_after models) past records).models
+    ≡ fold models_after past.models records
 past-counts models [] past = refl
 past-counts models (next ∷ records) past = past-counts models records (past_after models past next)
 

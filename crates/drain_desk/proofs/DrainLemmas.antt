@@ -105,7 +105,8 @@ going-first faults began lines bare = record {
 }
 
 -- rounds that ended, of which no more is told than that they were works
-pub rounds-work : {V : Type 0} (faults : V → ℕ → ℕ) (before last : KeptOf ModelRules DocumentTables V) (lines lines_last : Lines) (result : Result ℕ OutOfMemory)
+pub rounds-work : {V : Type 0} (faults : V → ℕ → ℕ) (before last : KeptOf ModelRules DocumentTables V) (lines lines_last : Lines)
+    (result : Result ℕ OutOfMemory)
     → RoundsAs faults before lines last lines_last result → Worked faults before last is_work false
 rounds-work faults before last lines lines_last (Ok m) rounds =
     let gone = rounds.0 in

@@ -1,7 +1,8 @@
 -- Tables of what is mandatory below each segment type.
 use Rattle.std.specs.Prelude.{filter, replicate, slice_get, slice_set, IsSome}
 use Rattle.std.specs.Option.{option_map, option_map_or}
-use Rattle.std.proofs.Common.{◌≡◌, ◌≢◌, ℕ, zero, suc, ◌+◌, ◌<◌, ◌≤◌, ◌==◌, ◌&&◌, Bool, true, false, cond, Option, Some, None, List, [], ◌∷◌, ◌++◌, length, take, get_or, refl, ap, sym, ◌∙◌, inl, inr, arith}
+use Rattle.std.proofs.Common.{◌≡◌, ◌≢◌, ℕ, zero, suc, ◌+◌, ◌<◌, ◌≤◌, ◌==◌, ◌&&◌, Bool, true, false, cond, Option, Some, None, List, [], ◌∷◌, ◌++◌, length, take}
+use Rattle.std.proofs.Common.{get_or, refl, ap, sym, ◌∙◌, inl, inr, arith}
 use Rattle.std.proofs.lemmas.Bool.{cases_Bool}
 use Rattle.std.proofs.lemmas.Bool.Decides.{eqb_tells}
 use Rattle.std.proofs.lemmas.List.{get_or-replicate, length-replicate, length-set, take_more}
@@ -34,7 +35,8 @@ module _ (place : ℕ) (entry : TypePlace) where
   left type (Some list) is = ap (λ (b : Bool). Some (cond b (list ++ entry ∷ []) list)) is
 
   -- one more in the list at a place
-  pub is_added : (lists : List (List TypePlace)) (old new : List TypePlace) → slice_get lists place ≡ Some old → new ≡ old ++ entry ∷ [] → IsAdded place entry lists (slice_set lists place new)
+  pub is_added : (lists : List (List TypePlace)) (old new : List TypePlace) → slice_get lists place ≡ Some old → new ≡ old ++ entry ∷ [] →
+      IsAdded place entry lists (slice_set lists place new)
   is_added lists old new here written = record {
     long = length-set lists place new;
     each = λ type. elim (eqb_tells place type) [
@@ -62,7 +64,8 @@ module _ (place : ℕ) (entry : TypePlace) where
     ];
   }
 
-filter-snoc : (p : TypePlace → Bool) (some : List TypePlace) (entry : TypePlace) → filter p (some ++ entry ∷ []) ≡ cond (p entry) (filter p some ++ entry ∷ []) (filter p some)
+filter-snoc : (p : TypePlace → Bool) (some : List TypePlace) (entry : TypePlace) →
+    filter p (some ++ entry ∷ []) ≡ cond (p entry) (filter p some ++ entry ∷ []) (filter p some)
 filter-snoc p some entry = elim (cases_Bool (p entry)) [
   | inl passes ↦ filter-kept p some entry passes ∙ sym (ap (λ (b : Bool). cond b (filter p some ++ entry ∷ []) (filter p some)) passes)
   | inr fails ↦ filter-left_out p some entry fails ∙ sym (ap (λ (b : Bool). cond b (filter p some ++ entry ∷ []) (filter p some)) fails)
@@ -79,12 +82,15 @@ needed_nowhere type true (Some a) is = cc
 needed_nowhere type false o is = refl
 
 module _ (entries : List TypePlace) (types : ℕ) where
-  next : (some : List TypePlace) (at : ℕ) (entry : TypePlace) → at < length some → entry ≡ get_or some at entry → take (at + 1) some ≡ take at some ++ entry ∷ []
+  next : (some : List TypePlace) (at : ℕ) (entry : TypePlace) → at < length some → entry ≡ get_or some at entry →
+      take (at + 1) some ≡ take at some ++ entry ∷ []
   next some at entry within here = take_more some at entry within ∙ ap (λ e. take at some ++ e ∷ []) (sym here)
 
   -- one more entry, which is mandatory below a type
-  pub below_more : (some : List TypePlace) (at : ℕ) (entry : TypePlace) (above : ℕ) (lists more : List (List TypePlace)) → at < length some → entry ≡ get_or some at entry
-      → needed_below entries entry ≡ Some above → AreBelow entries types (take at some) lists → IsAdded above entry lists more → AreBelow entries types (take (at + 1) some) more
+  pub below_more : (some : List TypePlace) (at : ℕ) (entry : TypePlace) (above : ℕ) (lists more : List (List TypePlace)) → at < length some →
+      entry ≡ get_or some at entry
+      → needed_below entries entry ≡ Some above → AreBelow entries types (take at some) lists → IsAdded above entry lists more →
+      AreBelow entries types (take (at + 1) some) more
   below_more some at entry above lists more within here needed are added = record {
     long = added.long ∙ are.long;
     each = λ type less.
@@ -92,7 +98,8 @@ module _ (entries : List TypePlace) (types : ℕ) where
         added.each type
         ∙ ap (option_map (with_entry above entry type)) (are.each type less)
         ∙ ap Some (sym (ap (filter p) (next some at entry within here) ∙ filter-snoc p (take at some) entry
-        ∙ ap (λ (b : Bool). cond b (filter p (take at some) ++ entry ∷ []) (filter p (take at some))) (needed_there above type entry.mandatory (type_above entries entry) needed)));
+        ∙ ap (λ (b : Bool). cond b (filter p (take at some) ++ entry ∷ []) (filter p (take at some)))
+        (needed_there above type entry.mandatory (type_above entries entry) needed)));
   }
 
   -- one more entry, which is mandatory below no type
@@ -104,7 +111,8 @@ module _ (entries : List TypePlace) (types : ℕ) where
         let p = is_needed entries (Some type) in
         are.each type less
         ∙ ap Some (sym (ap (filter p) (next some at entry within here) ∙ filter-snoc p (take at some) entry
-        ∙ ap (λ (b : Bool). cond b (filter p (take at some) ++ entry ∷ []) (filter p (take at some))) (needed_nowhere type entry.mandatory (type_above entries entry) needed)));
+        ∙ ap (λ (b : Bool). cond b (filter p (take at some) ++ entry ∷ []) (filter p (take at some)))
+        (needed_nowhere type entry.mandatory (type_above entries entry) needed)));
   }
 
   -- empty lists, before the first entry
@@ -140,7 +148,8 @@ known_type definitions segment there = elim (none_or_some (slice_get definitions
         is_value (version_of definitions segment.type segment.version) found there_is
 
 -- the tables of an IDoc type give what it needs, at each forest of known types
-pub tables-united : (model : Lists) (entries : List TypePlace) (tables : Needs) (tests : List (Segment → Bool)) (forest : Forest) → AreNeeds entries (length model.definitions.types) tables
+pub tables-united : (model : Lists) (entries : List TypePlace) (tables : Needs) (tests : List (Segment → Bool)) (forest : Forest) →
+    AreNeeds entries (length model.definitions.types) tables
     → AllNodes (HasDefinition model.definitions) forest → united (needs_at tables) tests forest ≡ united (needs entries) tests forest
 tables-united model entries tables tests forest are all =
     united-same (needs_at tables) (needs entries) tests forest are.roots

@@ -19,13 +19,20 @@ part-all_of no_trees = refl
 part-all_of (tree root under behind) = rw (part-all_of under, part-all_of behind) refl
 
 -- each segment that is kept is as it was in the forest, below the same one, in its order
-pub IsKeptPart-part : (model : Lists) (entries : List TypePlace) (groups : List Group) (forest kept : Forest) → IsKeptPart model entries groups forest kept → (set : SegmentSet) × (kept ≡ part forest set)
+pub IsKeptPart-part : (model : Lists) (entries : List TypePlace) (groups : List Group) (forest kept : Forest) → IsKeptPart model entries groups forest kept →
+    (set : SegmentSet) × (kept ≡ part forest set)
 IsKeptPart-part model entries [] forest kept is = (all_of forest, is ∙ sym (part-all_of forest))
 IsKeptPart-part model entries (group ∷ others) forest kept is = (is.0, is.2)
 
 -- a segment is in the union where it is in either set, so it has there what is mandatory below it
-pub IsClosed-union : (entries : List TypePlace) (Passes : Segment → Type 0) (forest : Forest) (set other : SegmentSet) → IsClosed entries Passes forest set → IsClosed entries Passes forest other → IsClosed entries Passes forest (union set other)
+pub IsClosed-union : (entries : List TypePlace) (Passes : Segment → Type 0) (forest : Forest) (set other : SegmentSet) → IsClosed entries Passes forest set →
+    IsClosed entries Passes forest other → IsClosed entries Passes forest (union set other)
 IsClosed-union entries Passes forest set other one two = record {
   pass = union-AllNodes Passes forest set other one.pass two.pass;
-  enough = (HasEnough-more entries None (roots (part forest set)) (roots (part forest (union set other))) (λ segment. count_of-within segment forest set (union set other) (within-union forest set other).0) one.enough.0, union-enough entries forest set other one.enough.1 two.enough.1);
+  enough = (
+    HasEnough-more entries None (roots (part forest set)) (roots (part forest (union set other)))
+        (λ segment. count_of-within segment forest set (union set other) (within-union forest set other).0) one.enough.0,
+    union-enough entries forest set other
+        one.enough.1 two.enough.1,
+  );
 }

@@ -115,7 +115,8 @@ or_false false = refl
 -- one more value in a table, or one that was there, and those to come
 pub one_more_value : (table new : List (List ℕ)) (value : List ℕ) (rest : List (List ℕ)) (is_new : Bool) → is_new ≡ not (list_any (is_text value) table)
     → (is_new ≡ true → new ≡ table ++ value ∷ []) → (is_new ≡ false → new ≡ table)
-    → (text : List ℕ) → (list_any (is_text text) new || list_any (is_text text) rest) ≡ (list_any (is_text text) table || (is_text text value || list_any (is_text text) rest))
+    → (text : List ℕ) → (list_any (is_text text) new || list_any (is_text text) rest)
+    ≡ (list_any (is_text text) table || (is_text text value || list_any (is_text text) rest))
 one_more_value table new value rest true is added known text =
     ap (λ ts. list_any (is_text text) ts || list_any (is_text text) rest) (added refl)
     ∙ ap (λ b. b || list_any (is_text text) rest) (list_any-append (is_text text) table (value ∷ []))
@@ -136,27 +137,35 @@ one_more_value table new value rest false is added known text =
     was false is = cc
 
 -- one more condition, with the same values as a choice
-pub suits-push : (model : Lists) (segment : Segment) (conditions : List Condition) (condition : Condition) (choice : Choice) (filter : Filter) (rest : List Choice)
-    → slice_get model.filters choice.filter ≡ Some filter → condition.segment ≡ filter.segment → condition.field ≡ filter.field → HasSame condition.values choice.values
+pub suits-push : (model : Lists) (segment : Segment) (conditions : List Condition) (condition : Condition) (choice : Choice) (filter : Filter)
+    (rest : List Choice)
+    → slice_get model.filters choice.filter ≡ Some filter → condition.segment ≡ filter.segment → condition.field ≡ filter.field →
+    HasSame condition.values choice.values
     → (suits_all model.definitions (conditions ++ condition ∷ []) segment && list_all (meets model segment) rest)
     ≡ (suits_all model.definitions conditions segment && list_all (meets model segment) (choice ∷ rest))
 suits-push model segment conditions condition choice filter rest here type_is field_is same =
     ap (λ b. b && list_all (meets model segment) rest) (list_all-append (suits model.definitions segment) conditions (condition ∷ []))
-    ∙ ap (λ b. (suits_all model.definitions conditions segment && b) && list_all (meets model segment) rest) (and_true (suits model.definitions segment condition))
+    ∙ ap (λ b. (suits_all model.definitions conditions segment && b) && list_all (meets model segment) rest)
+    (and_true (suits model.definitions segment condition))
     ∙ and_assoc (suits_all model.definitions conditions segment) (suits model.definitions segment condition) (list_all (meets model segment) rest)
     ∙ ap (λ b. suits_all model.definitions conditions segment && (b && list_all (meets model segment) rest)) suits_is
   where
     suits_is : suits model.definitions segment condition ≡ meets model segment choice
     suits_is =
-        ap (λ t. not (t == segment.type) || is_some (position (is_text (text_of model.definitions segment.type segment.version condition.field segment.sdata)) condition.values)) type_is
-        ∙ ap (λ f. not (filter.segment == segment.type) || is_some (position (is_text (text_of model.definitions segment.type segment.version f segment.sdata)) condition.values)) field_is
+        ap (λ t. not (t == segment.type) || is_some
+        (position (is_text (text_of model.definitions segment.type segment.version condition.field segment.sdata)) condition.values)) type_is
+        ∙ ap (λ f. not (filter.segment == segment.type)
+        || is_some (position (is_text (text_of model.definitions segment.type segment.version f segment.sdata)) condition.values)) field_is
         ∙ ap (λ b. not (filter.segment == segment.type) || b)
         (found-any (is_text (text_of model.definitions segment.type segment.version filter.field segment.sdata)) condition.values
         ∙ same (text_of model.definitions segment.type segment.version filter.field segment.sdata))
         ∙ sym (ap (λ o. option_map_or (has_value model segment choice.values) o true) here)
 
 -- a choice of no filter is met
-pub meets-none : (model : Lists) (segment : Segment) (conditions : List Condition) (choice : Choice) (rest : List Choice) → slice_get model.filters choice.filter ≡ None
-    → (suits_all model.definitions conditions segment && list_all (meets model segment) rest) ≡ (suits_all model.definitions conditions segment && list_all (meets model segment) (choice ∷ rest))
+pub meets-none : (model : Lists) (segment : Segment) (conditions : List Condition) (choice : Choice) (rest : List Choice) →
+    slice_get model.filters choice.filter ≡ None
+    → (suits_all model.definitions conditions segment && list_all (meets model segment) rest)
+    ≡ (suits_all model.definitions conditions segment && list_all (meets model segment) (choice ∷ rest))
 meets-none model segment conditions choice rest none =
-    sym (ap (λ o. suits_all model.definitions conditions segment && (option_map_or (has_value model segment choice.values) o true && list_all (meets model segment) rest)) none)
+    sym (ap (λ o. suits_all model.definitions conditions segment
+    && (option_map_or (has_value model segment choice.values) o true && list_all (meets model segment) rest)) none)

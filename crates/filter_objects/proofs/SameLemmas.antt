@@ -19,9 +19,12 @@ module _ (needs other : Option ℕ → List TypePlace) where
   best-same : (test : Segment → Bool) (forest : Forest) → AllNodes SameBelow forest → best needs test forest ≡ best other test forest
   best-same test no_trees all = refl
   best-same test (tree root under behind) all =
-      ap (λ (n : List TypePlace). with_root (test root && list_all (is_enough (part under (best needs test under))) n) (best needs test under) (best needs test behind)) all.0
-      ∙ ap (λ (s : SegmentSet). with_root (test root && list_all (is_enough (part under s)) (other (Some root.type))) s (best needs test behind)) (best-same test under all.1)
-      ∙ ap (with_root (test root && list_all (is_enough (part under (best other test under))) (other (Some root.type))) (best other test under)) (best-same test behind all.2)
+      ap (λ (n : List TypePlace). with_root (test root && list_all (is_enough (part under (best needs test under))) n) (best needs test under)
+      (best needs test behind)) all.0
+      ∙ ap (λ (s : SegmentSet). with_root (test root && list_all (is_enough (part under s)) (other (Some root.type))) s (best needs test behind))
+      (best-same test under all.1)
+      ∙ ap (with_root (test root && list_all (is_enough (part under (best other test under))) (other (Some root.type))) (best other test under))
+      (best-same test behind all.2)
 
   kept-same : (test : Segment → Bool) (forest : Forest) → needs None ≡ other None → AllNodes SameBelow forest → kept needs test forest ≡ kept other test forest
   kept-same test forest top all =
@@ -29,7 +32,8 @@ module _ (needs other : Option ℕ → List TypePlace) where
       ∙ ap (λ (s : SegmentSet). if_enough (list_all (is_enough (part forest s)) (other None)) s) (best-same test forest all)
 
   -- so the tests keep the same
-  pub united-same : (tests : List (Segment → Bool)) (forest : Forest) → needs None ≡ other None → AllNodes SameBelow forest → united needs tests forest ≡ united other tests forest
+  pub united-same : (tests : List (Segment → Bool)) (forest : Forest) → needs None ≡ other None → AllNodes SameBelow forest →
+      united needs tests forest ≡ united other tests forest
   united-same [] forest top all = refl
   united-same (test ∷ tests) forest top all =
       ap (λ (s : SegmentSet). union s (united needs tests forest)) (kept-same test forest top all)

@@ -1,5 +1,6 @@
 -- Lines have one answer.
-use Rattle.std.proofs.Common.{◌≡◌, ℕ, ◌+◌, ◌⊎◌, inl, inr, Some, None, Result, Ok, Err, List, [], ◌∷◌, ◌++◌, length, refl, sym, ap, subst, ◌∙◌, append_assoc, append-nil}
+use Rattle.std.proofs.Common.{◌≡◌, ℕ, ◌+◌, ◌⊎◌, inl, inr, Some, None, Result, Ok, Err, List, [], ◌∷◌, ◌++◌, length, refl, sym, ap, subst, ◌∙◌, append_assoc}
+use Rattle.std.proofs.Common.{append-nil}
 use Rattle.idoc_file.specs.declared.raw_doc.RawDoc.{RawDoc}
 use Rattle.idoc_file.specs.declared.file_fault.FileFault.{FileFault}
 use Rattle.idoc_file.specs.DocumentFile.{AreDocuments, IsFirstBad, IsAnswer, first_fault}
@@ -42,7 +43,8 @@ module _ (lines : List (List ℕ)) (fault : FileFault) (bad : IsFirstBad lines f
   -- nor are more lines
   unread_further : (behind : List (List ℕ)) (documents : List RawDoc) → AreDocuments (bad.before ++ bad.line ∷ behind) documents → ⊥
   unread_further behind documents are =
-      let front = front_of (bad.before ++ bad.line ∷ []) behind documents (subst (λ all. AreDocuments all documents) (sym (append_assoc bad.before (bad.line ∷ []) behind)) are) in
+      let front = front_of (bad.before ++ bad.line ∷ []) behind documents
+      (subst (λ all. AreDocuments all documents) (sym (append_assoc bad.before (bad.line ∷ []) behind)) are) in
       unread front.0 front.1
 
   -- so the lines are those of no documents
@@ -56,7 +58,8 @@ fault_once lines one other bad another =
       | inl here ↦
           let fronts = here.0 in
           let line = here.1 in
-          let read : bad.read ≡ another.read = same_documents another.before bad.read another.read (subst (λ front. AreDocuments front bad.read) fronts bad.are) another.are in
+          let read : bad.read ≡ another.read = same_documents another.before bad.read another.read (subst (λ front. AreDocuments front bad.read) fronts bad.are)
+          another.are in
           let same : first_fault (length bad.before + 1) bad.read bad.line ≡ first_fault (length another.before + 1) another.read another.line =
           λ i. first_fault (length (fronts i) + 1) (read i) (line i) in
           let both : Some one ≡ Some other = sym bad.why ∙ same ∙ another.why in

@@ -1,5 +1,6 @@
 -- What a reader stands for, line by line.
-use Rattle.std.proofs.Common.{◌≡◌, ℕ, ◌+◌, ◌≤◌, Option, Some, None, false, is_some, nat_eq, List, [], ◌∷◌, ◌++◌, length, refl, sym, ap, subst, ◌∙◌, arith, append_assoc, append-nil, length-append}
+use Rattle.std.proofs.Common.{◌≡◌, ℕ, ◌+◌, ◌≤◌, Option, Some, None, false, is_some, nat_eq, List, [], ◌∷◌, ◌++◌, length, refl, sym, ap, subst, ◌∙◌, arith}
+use Rattle.std.proofs.Common.{append_assoc, append-nil, length-append}
 use Rattle.std.specs.List.{AllByRecursion}
 use Rattle.std.proofs.lemmas.Bool.{false≢true}
 use Rattle.idoc_file.specs.declared.raw_doc.RawDoc.{RawDoc}
@@ -12,7 +13,8 @@ use Rattle.ale_base.proofs.ListLemmas.{AllByRecursion-append}
 use Rattle.ale_base.proofs.LinesLemmas.{lines_of-ended, lines_of-unended, length-lines_of}
 
 -- a line with a fault is the first bad one
-pub IsFirstBad-here : (lines : List (List ℕ)) (line : List ℕ) (read : List RawDoc) (number : ℕ) (fault : FileFault) → AreDocuments lines read → number ≡ length lines + 1
+pub IsFirstBad-here : (lines : List (List ℕ)) (line : List ℕ) (read : List RawDoc) (number : ℕ) (fault : FileFault) → AreDocuments lines read →
+    number ≡ length lines + 1
     → first_fault number read line ≡ Some fault → IsFirstBad (lines ++ line ∷ []) fault
 IsFirstBad-here lines line read number fault are is why = record {
   before = lines;
@@ -37,7 +39,8 @@ IsFirstBad-more lines more fault bad = record {
 }
 
 -- where there is no fault
-pub AreRead-good : (read : LinesRead) (lines : List (List ℕ)) → is_some read.fault ≡ false → AreRead read lines → AreDocuments lines read.documents × (read.count ≡ length lines)
+pub AreRead-good : (read : LinesRead) (lines : List (List ℕ)) → is_some read.fault ≡ false → AreRead read lines →
+    AreDocuments lines read.documents × (read.count ≡ length lines)
 AreRead-good read lines good are = good_with read.fault read lines good are
   where
     good_with : (fault : Option FileFault) (read : LinesRead) (lines : List (List ℕ)) → is_some fault ≡ false → AreReadWith fault read lines
@@ -46,7 +49,8 @@ AreRead-good read lines good are = good_with read.fault read lines good are
     good_with (Some fault) read lines good are = absurd (false≢true (sym good))
 
 -- equal parts stand for equal bytes
-pub IsReading-same : (read after : LinesRead) (unfinished line bytes more : List ℕ) → read ≡ after → unfinished ≡ line → bytes ≡ more → IsReading read unfinished bytes → IsReading after line more
+pub IsReading-same : (read after : LinesRead) (unfinished line bytes more : List ℕ) → read ≡ after → unfinished ≡ line → bytes ≡ more →
+    IsReading read unfinished bytes → IsReading after line more
 IsReading-same read after unfinished line bytes more same_read same_line same_bytes is =
     subst (λ (r : LinesRead). IsReading r line more) same_read
     (subst (λ (l : List ℕ). IsReading read l more) same_line

@@ -50,7 +50,8 @@ pub control_kind : (line bytes : List ℕ) → IsControlLine line bytes → is_c
 control_kind line bytes is =
     let text = trimmed line in
     let table : trimmed (take 10 (padded 524 text)) ≡ codes "EDI_DC40" =
-    (bytes_decides (trimmed (take 10 (padded 524 text))) (codes "EDI_DC40")).0 (subst (λ (bs : List ℕ). is_control_table (field_of bs Tabnam) ≡ true) is.bytes is.kept.table) in
+    (bytes_decides (trimmed (take 10 (padded 524 text))) (codes "EDI_DC40")).0
+    (subst (λ (bs : List ℕ). is_control_table (field_of bs Tabnam) ≡ true) is.bytes is.kept.table) in
     (bytes_decides (trimmed (take 10 line)) (codes "EDI_DC40")).1 (sym (trimmed-take-trimmed 10 line) ∙ sym (trimmed-take-padded 10 524 text) ∙ table)
 
 -- and a data record is none
@@ -81,8 +82,11 @@ control_read-Ok line bytes is =
 pub data_read-Ok : (line : List ℕ) (data_record : DataRecord) → IsDataLine line data_record → (new : DataRecord) × (data_read line ≡ Ok new)
 data_read-Ok line data_record is =
     let named : is_no_segment (text_at segnam (padded 1063 (trimmed line))) ≡ false =
-    ap is_no_segment (sym is.segnam) ∙ not-true (is_no_segment data_record.segnam) is.kept.segnam in
-    (record { segnam = text_at segnam (padded 1063 (trimmed line)); sdata = text_at sdata (padded 1063 (trimmed line)) }, rw (le-ltb 1063 (length (trimmed line)) is.fits, named) refl)
+    ap is_no_segment (sym is.segnam) ∙ not-true (is_no_segment data_record.segnam) is.kept.segnam in (
+      record { segnam = text_at segnam (padded 1063 (trimmed line)); sdata = text_at sdata (padded 1063 (trimmed line)) },
+      rw
+          (le-ltb 1063 (length (trimmed line)) is.fits, named) refl,
+    )
 
 -- a line is one record at most
 pub one_record : (line : ℕ × List ℕ) (r q : FileRecord) → IsLineOf line r → IsLineOf line q → r ≡ q

@@ -27,14 +27,16 @@ apart_from-Direct _ = inr refl
 
 module _ (field : ControlField) (text control : List ℕ) (is : IsControl control) (fits : length text ≤ (span_of field).length) where
   within : (span_of field).offset + (span_of field).length ≤ length control
-  within = subst (λ (n : ℕ). (span_of field).offset + (span_of field).length ≤ n) (sym is.whole) (leb-true ((span_of field).offset + (span_of field).length) 524 (ends_within field))
+  within = subst (λ (n : ℕ). (span_of field).offset + (span_of field).length ≤ n) (sym is.whole)
+      (leb-true ((span_of field).offset + (span_of field).length) 524 (ends_within field))
 
   -- a field has its new text, or the one that it had
   field_of-written : (other : ControlField) (P : List ℕ → Type 0) → (field ≡ other) ⊎ (is_apart (span_of field) (span_of other) ≡ true)
       → (field ≡ other → P (trimmed text)) → P (field_of control other) → P (field_of (with_text (span_of field) text control) other)
   field_of-written other P which new old =
       elim which [
-        | inl same ↦ subst (λ (f : ControlField). P (field_of (with_text (span_of field) text control) f)) same (subst P (sym (text_at-same (span_of field) text control fits within)) (new same))
+        | inl same ↦ subst (λ (f : ControlField). P (field_of (with_text (span_of field) text control) f)) same
+            (subst P (sym (text_at-same (span_of field) text control fits within)) (new same))
         | inr apart ↦ subst P (sym (ap trimmed (part-apart (span_of field) (span_of other) text control fits within apart))) old
       ]
 
@@ -42,7 +44,10 @@ module _ (field : ControlField) (text control : List ℕ) (is : IsControl contro
   pub IsControl-written : IsAllowed field (trimmed text) → IsControl (with_text (span_of field) text control)
   IsControl-written allowed = record {
     whole = length-with_text (span_of field) text control fits within ∙ is.whole;
-    table = field_of-written Tabnam (λ t. IsTrue (is_control_table t)) (apart_from-Tabnam field) (λ same. subst (λ f. IsAllowed f (trimmed text)) same allowed) is.table;
-    number = field_of-written Docnum (λ t. IsTrue (is_number t)) (apart_from-Docnum field) (λ same. subst (λ f. IsAllowed f (trimmed text)) same allowed) is.number;
-    direction = field_of-written Direct (λ t. IsTrue (is_direction t)) (apart_from-Direct field) (λ same. subst (λ f. IsAllowed f (trimmed text)) same allowed) is.direction;
+    table = field_of-written Tabnam (λ t. IsTrue (is_control_table t)) (apart_from-Tabnam field) (λ same. subst (λ f. IsAllowed f (trimmed text)) same allowed)
+        is.table;
+    number = field_of-written Docnum (λ t. IsTrue (is_number t)) (apart_from-Docnum field) (λ same. subst (λ f. IsAllowed f (trimmed text)) same allowed)
+        is.number;
+    direction = field_of-written Direct (λ t. IsTrue (is_direction t)) (apart_from-Direct field) (λ same. subst (λ f. IsAllowed f (trimmed text)) same allowed)
+        is.direction;
   }

@@ -16,12 +16,14 @@ text_at-segnam text = trimmed-take-padded 30 1063 text ∙ ap trimmed (sym (take
 pub text_at-sdata : (text : List ℕ) → length text ≤ 1063 → text_at sdata (padded 1063 text) ≡ trimmed (drop 63 text)
 text_at-sdata text fits =
     let bytes = padded 1063 text in
-    let rest : take 1000 (drop 63 bytes) ≡ drop 63 bytes = subst (λ (n : ℕ). take (n - 63) (drop 63 bytes) ≡ drop 63 bytes) (length-padded 1063 text fits) (take_rest bytes 63) in
+    let rest : take 1000 (drop 63 bytes) ≡ drop 63 bytes = subst (λ (n : ℕ). take (n - 63) (drop 63 bytes) ≡ drop 63 bytes) (length-padded 1063 text fits)
+    (take_rest bytes 63) in
     ap trimmed rest ∙ trimmed-drop-padded 63 1063 text
 
 -- what is read from a line is its data record
 pub IsDataLine-read : (line : List ℕ) (data_record : DataRecord) → length (trimmed line) ≤ 1063 → is_no_segment data_record.segnam ≡ false
-    → data_record.segnam ≡ text_at segnam (padded 1063 (trimmed line)) → data_record.sdata ≡ text_at sdata (padded 1063 (trimmed line)) → IsDataLine line data_record
+    → data_record.segnam ≡ text_at segnam (padded 1063 (trimmed line)) → data_record.sdata ≡ text_at sdata (padded 1063 (trimmed line)) →
+    IsDataLine line data_record
 IsDataLine-read line data_record fits named is_segnam is_sdata = record {
   fits = fits;
   segnam = is_segnam;

@@ -1,6 +1,7 @@
 -- The fields of a control record side by side, written and read in any pair.
 use Rattle.std.specs.Prelude.{◌==◌, ◌&&◌, if◌then◌else◌, codes}
-use Rattle.std.proofs.Common.{◌≡◌, ℕ, ◌+◌, ◌-◌, ◌≤◌, Bool, true, false, nat_le, ◌||◌, ◌⊎◌, inl, inr, Option, Some, None, List, [], ◌∷◌, ◌++◌, length, take, drop, refl, sym, ap, subst, ◌∙◌, arith, length-append}
+use Rattle.std.proofs.Common.{◌≡◌, ℕ, ◌+◌, ◌-◌, ◌≤◌, Bool, true, false, nat_le, ◌||◌, ◌⊎◌, inl, inr, Option, Some, None, List, [], ◌∷◌, ◌++◌, length, take}
+use Rattle.std.proofs.Common.{drop, refl, sym, ap, subst, ◌∙◌, arith, length-append}
 use Rattle.std.proofs.lemmas.Bool.{le-leb, eqb-true, eq-eqb, cases_Bool, cond-true, cond-false, and_parts}
 use Rattle.std.proofs.lemmas.Option.{same_Some}
 use Rattle.std.proofs.lemmas.List.{drop_all, length-take, length-drop, drop-drop, take-append-drop}
@@ -59,7 +60,8 @@ first_at-cases first fields offset field here =
 -- a field is the one that its offset tells
 is_field-same : (field other : ControlField) → is_field field other ≡ true → field ≡ other
 is_field-same field other is =
-    same_Some field other (sym (among_all field) ∙ ap (λ n. first_at n all_fields) (eqb-true (span_of field).offset (span_of other).offset is) ∙ among_all other)
+    same_Some field other (sym (among_all field) ∙ ap (λ n. first_at n all_fields) (eqb-true (span_of field).offset (span_of other).offset is)
+    ∙ among_all other)
 
 is_field-self : (field : ControlField) → is_field field field ≡ true
 is_field-self field = eq-eqb (span_of field).offset (span_of field).offset refl
@@ -82,7 +84,8 @@ field-within_at : (offset : ℕ) (fields : List ControlField) (at : ℕ) (field 
 field-within_at offset [] at field side here = cc
 field-within_at offset (first ∷ fields) at field side here =
     elim (first_at-cases first fields at field here) [
-      | inl same ↦ subst (λ f. (span_of f).offset + (span_of f).length ≤ 524) same (omega (arith, side.0, ends-within (offset + (span_of first).length) fields side.1))
+      | inl same ↦ subst (λ f. (span_of f).offset + (span_of f).length ≤ 524) same
+          (omega (arith, side.0, ends-within (offset + (span_of first).length) fields side.1))
       | inr there ↦ field-within_at (offset + (span_of first).length) fields at field side.1 there
     ]
 
@@ -92,12 +95,14 @@ field-within field = field-within_at 0 all_fields (span_of field).offset field a
 
 apart-left : (p q : ControlField) → (span_of q).offset + (span_of q).length ≤ (span_of p).offset → is_apart (span_of p) (span_of q) ≡ true
 apart-left p q before =
-    ap (λ b. b || nat_le ((span_of p).offset + (span_of p).length) (span_of q).offset) (le-leb ((span_of q).offset + (span_of q).length) (span_of p).offset before)
+    ap (λ b. b || nat_le ((span_of p).offset + (span_of p).length) (span_of q).offset)
+    (le-leb ((span_of q).offset + (span_of q).length) (span_of p).offset before)
     ∙ true-or (nat_le ((span_of p).offset + (span_of p).length) (span_of q).offset)
 
 apart-right : (p q : ControlField) → (span_of p).offset + (span_of p).length ≤ (span_of q).offset → is_apart (span_of p) (span_of q) ≡ true
 apart-right p q behind =
-    ap (λ b. nat_le ((span_of q).offset + (span_of q).length) (span_of p).offset || b) (le-leb ((span_of p).offset + (span_of p).length) (span_of q).offset behind)
+    ap (λ b. nat_le ((span_of q).offset + (span_of q).length) (span_of p).offset || b)
+    (le-leb ((span_of p).offset + (span_of p).length) (span_of q).offset behind)
     ∙ or-true (nat_le ((span_of q).offset + (span_of q).length) (span_of p).offset)
 
 first-ends : (offset : ℕ) (first : ControlField) (fields : List ControlField) (field other : ControlField) → AreSideBySide offset (first ∷ fields)
@@ -106,7 +111,8 @@ first-ends offset first fields field other side same there =
     subst (λ f. (span_of f).offset + (span_of f).length ≤ (span_of other).offset) same
     (omega (arith, side.0, begins-from (offset + (span_of first).length) fields (span_of other).offset other side.1 there))
 
-same_or_apart : (offset : ℕ) (fields : List ControlField) (field other : ControlField) → AreSideBySide offset fields → first_at (span_of field).offset fields ≡ Some field
+same_or_apart : (offset : ℕ) (fields : List ControlField) (field other : ControlField) → AreSideBySide offset fields →
+    first_at (span_of field).offset fields ≡ Some field
     → first_at (span_of other).offset fields ≡ Some other → (field ≡ other) ⊎ (is_apart (span_of field) (span_of other) ≡ true)
 same_or_apart offset [] field other side one two = cc
 same_or_apart offset (first ∷ fields) field other side one two =
@@ -145,7 +151,8 @@ take_front n front rest same = subst (λ (m : ℕ). take m (front ++ rest) ≡ f
 drop_front : (n more : ℕ) (front rest : List ℕ) → length front ≡ n → drop (n + more) (front ++ rest) ≡ drop more rest
 drop_front n more front rest same = subst (λ (m : ℕ). drop (m + more) (front ++ rest) ≡ drop more rest) same (drop-append-add front rest more)
 
-fields_joined-part : (fields : List ControlField) (texts : ControlField → List ℕ) (offset skipped : ℕ) (field : ControlField) → AreSideBySide offset fields → HasRoom texts
+fields_joined-part : (fields : List ControlField) (texts : ControlField → List ℕ) (offset skipped : ℕ) (field : ControlField) → AreSideBySide offset fields →
+    HasRoom texts
     → first_at (span_of field).offset fields ≡ Some field → (span_of field).offset ≡ offset + skipped
     → take (span_of field).length (drop skipped (fields_joined fields texts)) ≡ padded (span_of field).length (texts field)
 fields_joined-part [] texts offset skipped field side room here at = cc
@@ -160,7 +167,8 @@ fields_joined-part (first ∷ fields) texts offset skipped field side room here 
           (subst (λ n. take (span_of first).length (drop n (front ++ rest)) ≡ front) none (take_front (span_of first).length front rest long))
       | inr there ↦
           let left = skipped - (span_of first).length in
-          let split : skipped ≡ (span_of first).length + left = omega (arith, begins-from (offset + (span_of first).length) fields (span_of field).offset field side.1 there) in
+          let split : skipped ≡ (span_of first).length + left = omega
+          (arith, begins-from (offset + (span_of first).length) fields (span_of field).offset field side.1 there) in
           ap (λ n. take (span_of field).length (drop n (front ++ rest))) split
           ∙ ap (take (span_of field).length) (drop_front (span_of first).length left front rest long)
           ∙ fields_joined-part fields texts (offset + (span_of first).length) left field side.1 room there (omega arith)
@@ -194,7 +202,14 @@ joined-read offset (field ∷ fields) bytes side whole =
     let size = (span_of field).length in
     let own = take size (drop (span_of field).offset bytes) in
     let ends = ends-within (offset + size) fields side.1 in
-    let long : length own ≡ size = omega (arith, length-take size (drop (span_of field).offset bytes), length-drop (span_of field).offset bytes, side.0, ends) in
+    let long : length own ≡ size = omega (
+      arith,
+      length-take size (drop (span_of field).offset bytes),
+      length-drop
+          (span_of field).offset bytes,
+      side.0,
+      ends,
+    ) in
     ap (λ front. front ++ fields_joined fields (field_of bytes)) (padded-trimmed_at size own long)
     ∙ ap (λ rest. own ++ rest) (joined-read (offset + size) fields bytes side.1 whole ∙ sym (drop-drop size offset bytes))
     ∙ ap (λ at. take size (drop at bytes) ++ drop size (drop offset bytes)) side.0
@@ -205,7 +220,8 @@ pub control_with-read : (bytes : List ℕ) → length bytes ≡ 524 → control_
 control_with-read bytes whole = joined-read 0 all_fields bytes all-side_by_side whole
 
 fields_joined-same : (fields : List ControlField) (texts others : ControlField → List ℕ)
-    → ((field : ControlField) → padded (span_of field).length (texts field) ≡ padded (span_of field).length (others field)) → fields_joined fields texts ≡ fields_joined fields others
+    → ((field : ControlField) → padded (span_of field).length (texts field) ≡ padded (span_of field).length (others field)) →
+    fields_joined fields texts ≡ fields_joined fields others
 fields_joined-same [] texts others same = refl
 fields_joined-same (field ∷ fields) texts others same =
     ap (λ front. front ++ fields_joined fields texts) (same field)
@@ -231,14 +247,17 @@ padded-text : (width : ℕ) (text : List ℕ) → length text ≤ width → padd
 padded-text width text fits = ap (padded width) (sym (trimmed-padded width text)) ∙ padded-trimmed_at width (padded width text) (length-padded width text fits)
 
 -- texts that are the same but for blanks at their ends make the same record
-pub control_with-same : (texts others : ControlField → List ℕ) → HasRoom texts → HasRoom others → ((field : ControlField) → trimmed (texts field) ≡ trimmed (others field))
+pub control_with-same : (texts others : ControlField → List ℕ) → HasRoom texts → HasRoom others →
+    ((field : ControlField) → trimmed (texts field) ≡ trimmed (others field))
     → control_with texts ≡ control_with others
 control_with-same texts others room too same =
     fields_joined-same all_fields texts others
-    (λ field. sym (padded-text (span_of field).length (texts field) (room field)) ∙ ap (padded (span_of field).length) (same field) ∙ padded-text (span_of field).length (others field) (too field))
+    (λ field. sym (padded-text (span_of field).length (texts field) (room field)) ∙ ap (padded (span_of field).length) (same field)
+    ∙ padded-text (span_of field).length (others field) (too field))
 
 -- one text more that has room in its field
-pub HasRoom-written : (field : ControlField) (text : List ℕ) (texts : ControlField → List ℕ) → length text ≤ (span_of field).length → HasRoom texts → HasRoom (written_at field text texts)
+pub HasRoom-written : (field : ControlField) (text : List ℕ) (texts : ControlField → List ℕ) → length text ≤ (span_of field).length → HasRoom texts →
+    HasRoom (written_at field text texts)
 HasRoom-written field text texts fits room other =
     elim (cases_Bool (is_field field other)) [
       | inl is ↦ omega (arith, ap length (cond-true (is_field field other) text (texts other) is), ap (λ f. (span_of f).length) (is_field-same field other is))
@@ -266,4 +285,5 @@ control_with-written field text texts fits room =
           ∙ ap trimmed (sym (cond-false (is_field field other) text (texts other) differ))
     ] in
     sym (control_with-read bytes long)
-    ∙ control_with-same (field_of bytes) (written_at field text texts) (λ other. length-text_at (span_of other) bytes) (HasRoom-written field text texts fits room) reads
+    ∙ control_with-same (field_of bytes) (written_at field text texts) (λ other. length-text_at (span_of other) bytes)
+    (HasRoom-written field text texts fits room) reads

@@ -65,7 +65,8 @@ length-placed place bytes long =
     stays_long hlevel (decimal_digits 2 place.level) r2 (digits_fit 2 place.level) (omega arith) l2
 
 -- the length of a data record
-pub length-data_line : (control : List ℕ) (place : Place) (data_record : DataRecord) → IsDataRecord data_record → length (data_line control place data_record) ≡ 1063
+pub length-data_line : (control : List ℕ) (place : Place) (data_record : DataRecord) → IsDataRecord data_record → length (data_line control place data_record)
+    ≡ 1063
 length-data_line control place data_record is =
     let named = with_text segnam data_record.segnam blank_record in
     let l0 : length named ≡ 1063 = stays_long segnam data_record.segnam blank_record is.named (omega arith) length-blank_record in
@@ -73,7 +74,8 @@ length-data_line control place data_record is =
     stays_long sdata data_record.sdata (placed place (addressed control named)) is.fits (omega arith) (length-placed place (addressed control named) l1)
 
 -- the line of a data record is read as it again
-pub IsDataLine-written : (control : List ℕ) (place : Place) (data_record : DataRecord) → IsDataRecord data_record → IsDataLine (data_line control place data_record) data_record
+pub IsDataLine-written : (control : List ℕ) (place : Place) (data_record : DataRecord) → IsDataRecord data_record →
+    IsDataLine (data_line control place data_record) data_record
 IsDataLine-written control place data_record is =
     let client = field_of control Mandt in
     let number = field_of control Docnum in

@@ -2,7 +2,10 @@
 use Rattle.std.specs.Prelude.{ℕ, ◌==◌, List, [], ◌∷◌, codes, Bool}
 use Rattle.idoc_record.specs.declared.span.Span.{Span}
 use Rattle.idoc_record.specs.declared.control_field.ControlField.{ControlField}
-use Rattle.idoc_record.specs.declared.control_field.ControlField.TheVariants.{Tabnam, Mandt, Docnum, Docrel, Status, Direct, Outmod, Exprss, Test, Idoctyp, Cimtyp, Mestyp, Mescod, Mesfct, Std, Stdvrs, Stdmes, Sndpor, Sndprt, Sndpfc, Sndprn, Sndsad, Sndlad, Rcvpor, Rcvprt, Rcvpfc, Rcvprn, Rcvsad, Rcvlad, Credat, Cretim, Refint, Refgrp, Refmes, Arckey, Serial}
+use Rattle.idoc_record.specs.declared.control_field.ControlField.TheVariants.{Tabnam, Mandt, Docnum, Docrel, Status, Direct, Outmod, Exprss, Test, Idoctyp}
+use Rattle.idoc_record.specs.declared.control_field.ControlField.TheVariants.{Cimtyp, Mestyp, Mescod, Mesfct, Std, Stdvrs, Stdmes, Sndpor, Sndprt, Sndpfc}
+use Rattle.idoc_record.specs.declared.control_field.ControlField.TheVariants.{Sndprn, Sndsad, Sndlad, Rcvpor, Rcvprt, Rcvpfc, Rcvprn, Rcvsad, Rcvlad, Credat}
+use Rattle.idoc_record.specs.declared.control_field.ControlField.TheVariants.{Cretim, Refint, Refgrp, Refmes, Arckey, Serial}
 
 -- a place by its two numbers
 abbrev pub span : ℕ → ℕ → Span

@@ -28,7 +28,8 @@ pub preorder-joined : (first second : Forest) → preorder (joined first second)
 preorder-joined no_trees second = refl
 preorder-joined (tree root below after) second =
     ap (λ (segments : List Segment). root ∷ segments)
-    (ap (λ (segments : List Segment). preorder below ++ segments) (preorder-joined after second) ∙ sym (append_assoc (preorder below) (preorder after) (preorder second)))
+    (ap (λ (segments : List Segment). preorder below ++ segments) (preorder-joined after second)
+    ∙ sym (append_assoc (preorder below) (preorder after) (preorder second)))
 
 -- a change of each segment changes each in the list of all
 pub preorder-map_nodes : (change : Segment → Segment) (forest : Forest) → preorder (map_nodes change forest) ≡ map change (preorder forest)
@@ -40,7 +41,8 @@ preorder-map_nodes change (tree root below after) =
     ∙ sym (map-append change (preorder below) (preorder after)))
 
 -- a change of each segment of two forests changes each of them
-pub map_nodes-joined : (change : Segment → Segment) (first second : Forest) → map_nodes change (joined first second) ≡ joined (map_nodes change first) (map_nodes change second)
+pub map_nodes-joined : (change : Segment → Segment) (first second : Forest) →
+    map_nodes change (joined first second) ≡ joined (map_nodes change first) (map_nodes change second)
 map_nodes-joined change no_trees second = refl
 map_nodes-joined change (tree root below after) second = ap (tree (change root) (map_nodes change below)) (map_nodes-joined change after second)
 
@@ -50,7 +52,9 @@ without-joined goes no_trees second = refl
 without-joined goes (tree root below after) second =
     rw (without-joined goes after second) (moved (goes root))
   where
-    moved : (b : Bool) → cond b (joined (without goes after) (without goes second)) (tree root (without goes below) (joined (without goes after) (without goes second))) ≡ joined (cond b (without goes after) (tree root (without goes below) (without goes after))) (without goes second)
+    moved : (b : Bool) → cond b (joined (without goes after) (without goes second))
+        (tree root (without goes below) (joined (without goes after) (without goes second)))
+        ≡ joined (cond b (without goes after) (tree root (without goes below) (without goes after))) (without goes second)
     moved true = refl
     moved false = refl
 
@@ -65,7 +69,9 @@ count_of-append type [] second = omega arith
 count_of-append type (segment ∷ segments) second =
     counted (segment.type == type) (count_of-append type segments second)
   where
-    counted : (b : Bool) → count_of type (segments ++ second) ≡ count_of type segments + count_of type second → cond b (suc (count_of type (segments ++ second))) (count_of type (segments ++ second)) ≡ cond b (suc (count_of type segments)) (count_of type segments) + count_of type second
+    counted : (b : Bool) → count_of type (segments ++ second) ≡ count_of type segments + count_of type second →
+        cond b (suc (count_of type (segments ++ second))) (count_of type (segments ++ second))
+        ≡ cond b (suc (count_of type segments)) (count_of type segments) + count_of type second
     counted true same = omega arith
     counted false same = same
 
@@ -87,12 +93,14 @@ AllNodes-weaker P Q (tree root below after) follows all =
     (follows root all.0, AllNodes-weaker P Q below follows all.1, AllNodes-weaker P Q after follows all.2)
 
 -- what holds of each changed segment holds of all of the changed forest
-pub AllNodes-map_nodes : (P : Segment → Type 0) (change : Segment → Segment) (forest : Forest) → AllNodes (λ segment. P (change segment)) forest → AllNodes P (map_nodes change forest)
+pub AllNodes-map_nodes : (P : Segment → Type 0) (change : Segment → Segment) (forest : Forest) → AllNodes (λ segment. P (change segment)) forest →
+    AllNodes P (map_nodes change forest)
 AllNodes-map_nodes P change no_trees all = tt
 AllNodes-map_nodes P change (tree root below after) all =
     (all.0, AllNodes-map_nodes P change below all.1, AllNodes-map_nodes P change after all.2)
 
-without-kept : (P : Segment → Type 0) (goes : Bool) (root : Segment) (below after : Forest) → (goes ≡ false → P root) → AllNodes P below → AllNodes P after → AllNodes P (cond goes after (tree root below after))
+without-kept : (P : Segment → Type 0) (goes : Bool) (root : Segment) (below after : Forest) → (goes ≡ false → P root) → AllNodes P below → AllNodes P after →
+    AllNodes P (cond goes after (tree root below after))
 without-kept P true root below after here under behind = behind
 without-kept P false root below after here under behind = (here refl, under, behind)
 

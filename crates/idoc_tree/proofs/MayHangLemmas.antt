@@ -35,7 +35,9 @@ pub record Grows (definitions : Definitions) (entries : List TypePlace) (line : 
   pub is : grown ≡ hung (type_above entries may.entry) segment forest
 
 module _ (definitions : Definitions) (entries : List TypePlace) (number : ℕ) (line : DataRecord) (forest : Forest) where
-  grows_among : (after : Forest) (segment : Segment) (entry : TypePlace) (among : Option (List Segment)) → segment_of definitions line ≡ Some segment → entry_of entries segment.type ≡ Some entry → siblings (type_above entries entry) forest ≡ among → grown_among entries number segment entry forest among ≡ Ok after → Grows definitions entries line forest after
+  grows_among : (after : Forest) (segment : Segment) (entry : TypePlace) (among : Option (List Segment)) → segment_of definitions line ≡ Some segment →
+      entry_of entries segment.type ≡ Some entry → siblings (type_above entries entry) forest ≡ among → grown_among entries number segment entry forest among
+      ≡ Ok after → Grows definitions entries line forest after
   grows_among after segment entry None known entry_at siblings_are grew = cc
   grows_among after segment entry (Some among) known entry_at siblings_are grew =
       elim (chosen (has_later entries (place_in entries segment.type) among) _ _ _ grew) [
@@ -52,12 +54,14 @@ module _ (definitions : Definitions) (entries : List TypePlace) (number : ℕ) (
             ]
       ]
 
-  grows_at : (after : Forest) (segment : Segment) (entry : Option TypePlace) → segment_of definitions line ≡ Some segment → entry_of entries segment.type ≡ entry → grown_at entries number segment forest entry ≡ Ok after → Grows definitions entries line forest after
+  grows_at : (after : Forest) (segment : Segment) (entry : Option TypePlace) → segment_of definitions line ≡ Some segment →
+      entry_of entries segment.type ≡ entry → grown_at entries number segment forest entry ≡ Ok after → Grows definitions entries line forest after
   grows_at after segment None known entry_at grew = cc
   grows_at after segment (Some entry) known entry_at grew =
       grows_among after segment entry (siblings (type_above entries entry) forest) known entry_at refl grew
 
-  grows_by : (after : Forest) (segment : Option Segment) → segment_of definitions line ≡ segment → grown_by entries number forest segment ≡ Ok after → Grows definitions entries line forest after
+  grows_by : (after : Forest) (segment : Option Segment) → segment_of definitions line ≡ segment → grown_by entries number forest segment ≡ Ok after →
+      Grows definitions entries line forest after
   grows_by after None known grew = cc
   grows_by after (Some segment) known grew = grows_at after segment (entry_of entries segment.type) known refl grew
 

@@ -32,25 +32,30 @@ forest_of-append [] second = refl
 forest_of-append (node ∷ nodes) second = ap (tree (tree_of node).root (tree_of node).below) (forest_of-append nodes second)
 
 -- nodes with one more behind them
-pub forest_of-snoc : (nodes : List Node) (last : Node) → forest_of (nodes ++ last ∷ []) ≡ joined (forest_of nodes) (tree (tree_of last).root (tree_of last).below no_trees)
+pub forest_of-snoc : (nodes : List Node) (last : Node) →
+    forest_of (nodes ++ last ∷ []) ≡ joined (forest_of nodes) (tree (tree_of last).root (tree_of last).below no_trees)
 forest_of-snoc nodes last = forest_of-append nodes (last ∷ [])
 
 -- the forest of some nodes is that of all but the last, and the tree of the last
-pub forest_of-last : (nodes : List Node) (at : ℕ) (last : Node) → at + 1 ≡ length nodes → slice_get nodes at ≡ Some last → forest_of nodes ≡ joined (forest_of (take at nodes)) (tree (root_of (out-Node last)) (forest_of (out-Node last).children.items) no_trees)
+pub forest_of-last : (nodes : List Node) (at : ℕ) (last : Node) → at + 1 ≡ length nodes → slice_get nodes at ≡ Some last →
+    forest_of nodes ≡ joined (forest_of (take at nodes)) (tree (root_of (out-Node last)) (forest_of (out-Node last).children.items) no_trees)
 forest_of-last nodes at last long here =
     ap forest_of (set-last nodes at last last long here).0 ∙ forest_of-snoc (take at nodes) last
     ∙ ap (λ (t : Tree). joined (forest_of (take at nodes)) (tree t.root t.below no_trees)) (tree_of-out last)
 
 -- nodes with another one in the place of the last
-pub forest_of-set_last : (nodes : List Node) (at : ℕ) (last : Node) (node : Node-F Node) → at + 1 ≡ length nodes → slice_get nodes at ≡ Some last → forest_of (slice_set nodes at (roll-Node node)) ≡ joined (forest_of (take at nodes)) (tree (root_of node) (forest_of node.children.items) no_trees)
+pub forest_of-set_last : (nodes : List Node) (at : ℕ) (last : Node) (node : Node-F Node) → at + 1 ≡ length nodes → slice_get nodes at ≡ Some last →
+    forest_of (slice_set nodes at (roll-Node node)) ≡ joined (forest_of (take at nodes)) (tree (root_of node) (forest_of node.children.items) no_trees)
 forest_of-set_last nodes at last node long here =
     ap forest_of (set-last nodes at last (roll-Node node) long here).1 ∙ forest_of-snoc (take at nodes) (roll-Node node)
     ∙ ap (λ (t : Tree). joined (forest_of (take at nodes)) (tree t.root t.below no_trees)) (tree_of-roll node)
 
 -- the nodes from one on
-pub forest_of-drop : (nodes : List Node) (at : ℕ) (node : Node) → at < length nodes → node ≡ get_or nodes at node → forest_of (drop at nodes) ≡ tree (root_of (out-Node node)) (forest_of (out-Node node).children.items) (forest_of (drop (at + 1) nodes))
+pub forest_of-drop : (nodes : List Node) (at : ℕ) (node : Node) → at < length nodes → node ≡ get_or nodes at node →
+    forest_of (drop at nodes) ≡ tree (root_of (out-Node node)) (forest_of (out-Node node).children.items) (forest_of (drop (at + 1) nodes))
 forest_of-drop nodes at node within here =
-    let next : drop at nodes ≡ node ∷ drop (at + 1) nodes = drop-cons nodes at node within ∙ ap (λ n. n ∷ drop (suc at) nodes) (sym here) ∙ ap (λ k. node ∷ drop k nodes) (one_more at) in
+    let next : drop at nodes ≡ node ∷ drop (at + 1) nodes = drop-cons nodes at node within ∙ ap (λ n. n ∷ drop (suc at) nodes) (sym here)
+    ∙ ap (λ k. node ∷ drop k nodes) (one_more at) in
     ap forest_of next ∙ ap (λ (t : Tree). tree t.root t.below (forest_of (drop (at + 1) nodes))) (tree_of-out node)
   where
     one_more : (n : ℕ) → suc n ≡ n + 1
@@ -71,7 +76,8 @@ drop-past (x ∷ xs) zero past = absurd (omega arith)
 drop-past (x ∷ xs) (suc at) past = drop-past xs at (omega arith)
 
 -- the nodes from one on, with that one as a tree
-pub trees_of-drop : (nodes : List Node) (at : ℕ) (node : Node) → at < length nodes → node ≡ get_or nodes at node → forest_of (drop at nodes) ≡ tree (tree_of node).root (tree_of node).below (forest_of (drop (at + 1) nodes))
+pub trees_of-drop : (nodes : List Node) (at : ℕ) (node : Node) → at < length nodes → node ≡ get_or nodes at node →
+    forest_of (drop at nodes) ≡ tree (tree_of node).root (tree_of node).below (forest_of (drop (at + 1) nodes))
 trees_of-drop nodes at node within here = ap forest_of (drop-here nodes at node within here)
 
 -- the forest below a node is that of its children
@@ -79,7 +85,8 @@ pub below-out : (node : Node) → (tree_of node).below ≡ forest_of (out-Node n
 below-out node = ap (λ (t : Tree). t.below) (tree_of-out node)
 
 -- one more node behind those before, and what is to follow
-pub forest_of-push : (nodes : List Node) (last : Node) (others : Forest) → joined (forest_of (nodes ++ last ∷ [])) others ≡ joined (forest_of nodes) (tree (tree_of last).root (tree_of last).below others)
+pub forest_of-push : (nodes : List Node) (last : Node) (others : Forest) → joined (forest_of (nodes ++ last ∷ [])) others
+    ≡ joined (forest_of nodes) (tree (tree_of last).root (tree_of last).below others)
 forest_of-push nodes last others =
     ap (λ (f : Forest). joined f others) (forest_of-snoc nodes last)
     ∙ joined_assoc (forest_of nodes) (tree (tree_of last).root (tree_of last).below no_trees) others

@@ -23,7 +23,8 @@ AllNodes-part P (tree root under behind) (takes below after) all =
 AllNodes-part P (tree root under behind) (leaves after) all = AllNodes-part P behind after all.2
 
 -- what hung together still does
-pub Hangs-part : (entries : List TypePlace) (above : Option ℕ) (forest : Forest) (set : SegmentSet) → Hangs entries above forest → Hangs entries above (part forest set)
+pub Hangs-part : (entries : List TypePlace) (above : Option ℕ) (forest : Forest) (set : SegmentSet) → Hangs entries above forest →
+    Hangs entries above (part forest set)
 Hangs-part entries above no_trees set all = tt
 Hangs-part entries above (tree root under behind) none all = tt
 Hangs-part entries above (tree root under behind) (takes below after) all =
@@ -38,7 +39,8 @@ roots-part P (tree root under behind) (takes below after) all = (all.0, roots-pa
 roots-part P (tree root under behind) (leaves after) all = roots-part P behind after all.1
 
 -- roots that stood in order still do
-pub IsOrdered-part : (entries : List TypePlace) (forest : Forest) (set : SegmentSet) → IsOrdered entries (roots forest) → IsOrdered entries (roots (part forest set))
+pub IsOrdered-part : (entries : List TypePlace) (forest : Forest) (set : SegmentSet) → IsOrdered entries (roots forest) →
+    IsOrdered entries (roots (part forest set))
 IsOrdered-part entries no_trees set all = tt
 IsOrdered-part entries (tree root under behind) none all = tt
 IsOrdered-part entries (tree root under behind) (takes below after) all =
@@ -63,14 +65,16 @@ count_of-part type (tree root under behind) (takes below after) = one_more (root
 count_of-part type (tree root under behind) (leaves after) = not_less (root.type == type) _ _ (count_of-part type behind after)
 
 -- a family that fitted still does
-pub Fits-part : (entries : List TypePlace) (above : Option ℕ) (forest : Forest) (set : SegmentSet) → Fits entries (record { above = above; children = roots forest }) → Fits entries (record { above = above; children = roots (part forest set) })
+pub Fits-part : (entries : List TypePlace) (above : Option ℕ) (forest : Forest) (set : SegmentSet) →
+    Fits entries (record { above = above; children = roots forest }) → Fits entries (record { above = above; children = roots (part forest set) })
 Fits-part entries above forest set fits = record {
   ordered = IsOrdered-part entries forest set fits.ordered;
   at_most = AllByRecursion-weaker _ _ entries (λ entry most. omega (arith, count_of-part entry.segment forest set)) fits.at_most;
 }
 
 -- and so do those below each segment
-pub fits_below-part : (entries : List TypePlace) (forest : Forest) (set : SegmentSet) → AllByRecursion (Fits entries) (families_below forest) → AllByRecursion (Fits entries) (families_below (part forest set))
+pub fits_below-part : (entries : List TypePlace) (forest : Forest) (set : SegmentSet) → AllByRecursion (Fits entries) (families_below forest) →
+    AllByRecursion (Fits entries) (families_below (part forest set))
 fits_below-part entries no_trees set all = tt
 fits_below-part entries (tree root under behind) none all = tt
 fits_below-part entries (tree root under behind) (takes below after) all =
@@ -83,11 +87,13 @@ fits_below-part entries (tree root under behind) (leaves after) all =
     fits_below-part entries behind after (AllByRecursion-parts (Fits entries) (families_below under) (families_below behind) all.1).1
 
 -- the same with the family of the roots
-pub fits-part : (entries : List TypePlace) (forest : Forest) (set : SegmentSet) → AllByRecursion (Fits entries) (families None forest) → AllByRecursion (Fits entries) (families None (part forest set))
+pub fits-part : (entries : List TypePlace) (forest : Forest) (set : SegmentSet) → AllByRecursion (Fits entries) (families None forest) →
+    AllByRecursion (Fits entries) (families None (part forest set))
 fits-part entries forest set all = (Fits-part entries None forest set all.0, fits_below-part entries forest set all.1)
 
 -- what had enough has enough where no type has fewer
-pub HasEnough-more : (entries : List TypePlace) (above : Option ℕ) (few more : List Segment) → ((type : ℕ) → count_of type few ≤ count_of type more) → HasEnough entries (record { above = above; children = few }) → HasEnough entries (record { above = above; children = more })
+pub HasEnough-more : (entries : List TypePlace) (above : Option ℕ) (few more : List Segment) → ((type : ℕ) → count_of type few ≤ count_of type more) →
+    HasEnough entries (record { above = above; children = few }) → HasEnough entries (record { above = above; children = more })
 HasEnough-more entries above few more grows enough =
     AllByRecursion-weaker _ _ entries (λ entry suffices. λ mandatory own. omega (arith, suffices mandatory own, grows entry.segment)) enough
 
@@ -96,9 +102,13 @@ abbrev pub EnoughBelow : List TypePlace → Forest → Type 0
 EnoughBelow entries forest = AllByRecursion (HasEnough entries) (families_below forest)
 
 -- a tree has enough below its segments where its root, those below it and those after it have
-pub EnoughBelow-tree : (entries : List TypePlace) (root : Segment) (below after : Forest) → HasEnough entries (record { above = Some root.type; children = roots below }) → EnoughBelow entries below → EnoughBelow entries after → EnoughBelow entries (tree root below after)
-EnoughBelow-tree entries root below after here under behind = (here, AllByRecursion-append (HasEnough entries) (families_below below) (families_below after) under behind)
+pub EnoughBelow-tree : (entries : List TypePlace) (root : Segment) (below after : Forest) →
+    HasEnough entries (record { above = Some root.type; children = roots below }) → EnoughBelow entries below → EnoughBelow entries after →
+    EnoughBelow entries (tree root below after)
+EnoughBelow-tree entries root below after here under
+    behind = (here, AllByRecursion-append (HasEnough entries) (families_below below) (families_below after) under behind)
 
 -- and then those below the root and those after it have
-pub EnoughBelow-parts : (entries : List TypePlace) (root : Segment) (below after : Forest) → EnoughBelow entries (tree root below after) → EnoughBelow entries below × EnoughBelow entries after
+pub EnoughBelow-parts : (entries : List TypePlace) (root : Segment) (below after : Forest) → EnoughBelow entries (tree root below after) →
+    EnoughBelow entries below × EnoughBelow entries after
 EnoughBelow-parts entries root below after all = AllByRecursion-parts (HasEnough entries) (families_below below) (families_below after) all.1

@@ -6,14 +6,17 @@ use Rattle.idoc_tree.specs.Parts.{SegmentSet, none, takes, leaves, part, IsWithi
 use Rattle.idoc_tree.proofs.PartLemmas.{part-none, one_more, not_less, EnoughBelow, EnoughBelow-tree, EnoughBelow-parts, HasEnough-more}
 
 -- a larger set has as many of each type or more
-pub count_of-within : (type : ℕ) (forest : Forest) (set other : SegmentSet) → IsWithin forest set other → count_of type (roots (part forest set)) ≤ count_of type (roots (part forest other))
+pub count_of-within : (type : ℕ) (forest : Forest) (set other : SegmentSet) → IsWithin forest set other →
+    count_of type (roots (part forest set)) ≤ count_of type (roots (part forest other))
 count_of-within type no_trees set other within = omega arith
 count_of-within type (tree root under behind) none other within = omega arith
 count_of-within type (tree root under behind) (takes below after) none within = absurd within
-count_of-within type (tree root under behind) (takes below after) (takes b a) within = one_more (root.type == type) _ _ (count_of-within type behind after a within.1)
+count_of-within type (tree root under behind) (takes below after) (takes b a) within = one_more (root.type == type) _ _
+    (count_of-within type behind after a within.1)
 count_of-within type (tree root under behind) (takes below after) (leaves a) within = absurd within
 count_of-within type (tree root under behind) (leaves after) none within =
-    subst (λ (f : Forest). count_of type (roots (part behind after)) ≤ count_of type (roots f)) (part-none behind) (count_of-within type behind after none within)
+    subst (λ (f : Forest). count_of type (roots (part behind after)) ≤ count_of type (roots f)) (part-none behind)
+    (count_of-within type behind after none within)
 count_of-within type (tree root under behind) (leaves after) (takes b a) within = not_less (root.type == type) _ _ (count_of-within type behind after a within)
 count_of-within type (tree root under behind) (leaves after) (leaves a) within = count_of-within type behind after a within
 
@@ -43,7 +46,8 @@ within-union (tree root under behind) (leaves after) (takes b a) =
 within-union (tree root under behind) (leaves after) (leaves a) = within-union behind after a
 
 -- sets whose segments have enough below them do together too
-pub union-enough : (entries : List TypePlace) (forest : Forest) (set other : SegmentSet) → EnoughBelow entries (part forest set) → EnoughBelow entries (part forest other) → EnoughBelow entries (part forest (union set other))
+pub union-enough : (entries : List TypePlace) (forest : Forest) (set other : SegmentSet) → EnoughBelow entries (part forest set) →
+    EnoughBelow entries (part forest other) → EnoughBelow entries (part forest (union set other))
 union-enough entries no_trees set other here there = tt
 union-enough entries (tree root under behind) none other here there = there
 union-enough entries (tree root under behind) (takes below after) none here there = here
@@ -90,7 +94,8 @@ union-least (tree root under behind) none two set here there = there
 union-least (tree root under behind) (takes below after) two none here there = absurd here
 union-least (tree root under behind) (takes below after) two (leaves s) here there = absurd here
 union-least (tree root under behind) (takes below after) none (takes t s) here there = here
-union-least (tree root under behind) (takes below after) (takes b a) (takes t s) here there = (union-least under below b t here.0 there.0, union-least behind after a s here.1 there.1)
+union-least (tree root under behind) (takes below after) (takes b a)
+    (takes t s) here there = (union-least under below b t here.0 there.0, union-least behind after a s here.1 there.1)
 union-least (tree root under behind) (takes below after) (leaves a) (takes t s) here there = (here.0, union-least behind after a s here.1 there)
 union-least (tree root under behind) (leaves after) none set here there = here
 union-least (tree root under behind) (leaves after) (takes b a) none here there = absurd there
@@ -117,7 +122,8 @@ within_within (tree root under behind) (takes below after) none set here there =
 within_within (tree root under behind) (takes below after) (leaves a) set here there = absurd here
 within_within (tree root under behind) (takes below after) (takes b a) none here there = absurd there
 within_within (tree root under behind) (takes below after) (takes b a) (leaves s) here there = absurd there
-within_within (tree root under behind) (takes below after) (takes b a) (takes t s) here there = (within_within under below b t here.0 there.0, within_within behind after a s here.1 there.1)
+within_within (tree root under behind) (takes below after) (takes b a)
+    (takes t s) here there = (within_within under below b t here.0 there.0, within_within behind after a s here.1 there.1)
 within_within (tree root under behind) (leaves after) none set here there = within_none (tree root under behind) (leaves after) set here
 within_within (tree root under behind) (leaves after) (takes b a) none here there = absurd there
 within_within (tree root under behind) (leaves after) (takes b a) (leaves s) here there = absurd there
@@ -129,7 +135,8 @@ within_within (tree root under behind) (leaves after) (leaves a) (leaves s) here
 -- sets that are within others are within them together
 pub union-within : (forest : Forest) (a b c d : SegmentSet) → IsWithin forest a c → IsWithin forest b d → IsWithin forest (union a b) (union c d)
 union-within forest a b c d one two =
-    union-least forest a b (union c d) (within_within forest a c (union c d) one (within-union forest c d).0) (within_within forest b d (union c d) two (within-union forest c d).1)
+    union-least forest a b (union c d) (within_within forest a c (union c d) one (within-union forest c d).0)
+    (within_within forest b d (union c d) two (within-union forest c d).1)
 
 -- nothing more is in the union with the empty set
 pub union-none : (set : SegmentSet) → union set none ≡ set
@@ -142,7 +149,8 @@ pub union_assoc : (one two three : SegmentSet) → union (union one two) three �
 union_assoc none two three = refl
 union_assoc (takes b a) none three = refl
 union_assoc (takes b a) (takes d c) none = refl
-union_assoc (takes b a) (takes d c) (takes f e) = ap (λ (s : SegmentSet). takes s (union (union a c) e)) (union_assoc b d f) ∙ ap (takes (union b (union d f))) (union_assoc a c e)
+union_assoc (takes b a) (takes d c) (takes f e) = ap (λ (s : SegmentSet). takes s (union (union a c) e)) (union_assoc b d f)
+    ∙ ap (takes (union b (union d f))) (union_assoc a c e)
 union_assoc (takes b a) (takes d c) (leaves e) = ap (takes (union b d)) (union_assoc a c e)
 union_assoc (takes b a) (leaves c) none = refl
 union_assoc (takes b a) (leaves c) (takes f e) = ap (takes (union b f)) (union_assoc a c e)
@@ -156,7 +164,8 @@ union_assoc (leaves a) (leaves c) (takes f e) = ap (takes f) (union_assoc a c e)
 union_assoc (leaves a) (leaves c) (leaves e) = ap leaves (union_assoc a c e)
 
 -- what holds of the segments of two sets holds of those of both together
-pub union-AllNodes : (P : Segment → Type 0) (forest : Forest) (set other : SegmentSet) → AllNodes P (part forest set) → AllNodes P (part forest other) → AllNodes P (part forest (union set other))
+pub union-AllNodes : (P : Segment → Type 0) (forest : Forest) (set other : SegmentSet) → AllNodes P (part forest set) → AllNodes P (part forest other) →
+    AllNodes P (part forest (union set other))
 union-AllNodes P no_trees set other here there = tt
 union-AllNodes P (tree root under behind) none other here there = there
 union-AllNodes P (tree root under behind) (takes below after) none here there = here

@@ -2,7 +2,8 @@
 use Rattle.std.specs.Prelude.{nat_eq}
 use Rattle.std.specs.Option.{option_map}
 use Rattle.std.specs.List.{AllByRecursion, IsDistinct}
-use Rattle.std.proofs.Common.{◌≡◌, ℕ, zero, suc, ◌≤◌, false, Option, Some, None, List, [], ◌∷◌, ◌++◌, map, length, refl, ap, sym, subst, ◌∙◌, arith, length-append}
+use Rattle.std.proofs.Common.{◌≡◌, ℕ, zero, suc, ◌≤◌, false, Option, Some, None, List, [], ◌∷◌, ◌++◌, map, length, refl, ap, sym, subst, ◌∙◌, arith}
+use Rattle.std.proofs.Common.{length-append}
 use Rattle.std.proofs.lemmas.Option.{same_Some}
 use Rattle.std.proofs.lemmas.List.{map-append}
 use Rattle.ale_base.proofs.SnocLemmas.{Snoc, none, some, snoc, last-injective}
@@ -19,7 +20,8 @@ use Rattle.idoc_tree.specs.steps.Growing.{hung}
 use Rattle.idoc_tree.specs.Builds.{SpellsInOrder}
 use Rattle.idoc_tree.proofs.ForestLemmas.{preorder-joined, roots-joined}
 use Rattle.ale_base.proofs.ListLemmas.{AllByRecursion-append, AllByRecursion-parts, AllByRecursion-of}
-use Rattle.idoc_tree.proofs.HangingLemmas.{hangs_below, HangsBelow-open, HangsBelow-preorder, HangsBelow-roots, Hangs-joined, Hangs-parts, HangsBelow-hangs, HangsBelow-hung, families_below-joined, HangsBelow-families, HangsBelow-fewer, HangsBelow-family, more_in, none_in}
+use Rattle.idoc_tree.proofs.HangingLemmas.{hangs_below, HangsBelow-open, HangsBelow-preorder, HangsBelow-roots, Hangs-joined, Hangs-parts, HangsBelow-hangs}
+use Rattle.idoc_tree.proofs.HangingLemmas.{HangsBelow-hung, families_below-joined, HangsBelow-families, HangsBelow-fewer, HangsBelow-family, more_in, none_in}
 use Rattle.idoc_tree.proofs.FamilyLemmas.{Fits-more, Fits-fewer, Fits-in_time, Fits-room}
 use Rattle.idoc_tree.proofs.MayHangLemmas.{Grows}
 use Rattle.idoc_tree.proofs.LastSegmentLemmas.{EndsWith, a_root, below, has_last}
@@ -29,20 +31,25 @@ module _ (segment : Segment) (forest : Forest) (among : List Segment) where
   -- a segment that is hung comes last in preorder
   pub hung-preorder : (above : Option ℕ) → siblings above forest ≡ Some among → preorder (hung above segment forest) ≡ preorder forest ++ segment ∷ []
   hung-preorder None found = preorder-joined forest (leaf segment)
-  hung-preorder (Some type) found = HangsBelow-preorder type segment forest among (hung (Some type) segment forest) (hangs_below type segment forest among found)
+  hung-preorder (Some type) found = HangsBelow-preorder type segment forest among (hung (Some type) segment forest)
+      (hangs_below type segment forest among found)
 
   -- a forest with a segment hung below its parent hangs together
-  pub hung-hangs : (entries : List TypePlace) (above : Option ℕ) → parent_of entries segment.type ≡ Some above → siblings above forest ≡ Some among → Hangs entries None forest → Hangs entries None (hung above segment forest)
+  pub hung-hangs : (entries : List TypePlace) (above : Option ℕ) → parent_of entries segment.type ≡ Some above → siblings above forest ≡ Some among →
+      Hangs entries None forest → Hangs entries None (hung above segment forest)
   hung-hangs entries None parent found hangs = Hangs-joined entries None forest (leaf segment) hangs (parent, tt, tt)
   hung-hangs entries (Some type) parent found hangs =
       HangsBelow-hangs entries type segment None forest among (hung (Some type) segment forest) parent (hangs_below type segment forest among found) hangs
 
   -- what holds of the families before and of the family with one more holds after a segment is hung
-  pub hung-families : (P : Family → Type 0) (above : Option ℕ) → siblings above forest ≡ Some among → P (more_in above among segment) → P (none_in segment) → AllByRecursion P (families None forest) → AllByRecursion P (families None (hung above segment forest))
+  pub hung-families : (P : Family → Type 0) (above : Option ℕ) → siblings above forest ≡ Some among → P (more_in above among segment) → P (none_in segment) →
+      AllByRecursion P (families None forest) → AllByRecursion P (families None (hung above segment forest))
   hung-families P None found more bare all =
-      let own : P (more_in None (roots forest) segment) = subst (λ segments. P (more_in None segments segment)) (sym (same_Some (roots forest) among found)) more in (
+      let own : P (more_in None (roots forest) segment) = subst (λ segments. P (more_in None segments segment))
+      (sym (same_Some (roots forest) among found)) more in (
         subst (λ segments. P (record { above = None; children = segments })) (sym (roots-joined forest (leaf segment))) own,
-        subst (AllByRecursion P) (sym (families_below-joined forest (leaf segment))) (AllByRecursion-append P (families_below forest) (none_in segment ∷ []) all.1 (bare, tt)),
+        subst (AllByRecursion P) (sym (families_below-joined forest (leaf segment)))
+            (AllByRecursion-append P (families_below forest) (none_in segment ∷ []) all.1 (bare, tt)),
       )
   hung-families P (Some type) found more bare all =
       let hangs = hangs_below type segment forest among found in
@@ -52,11 +59,15 @@ module _ (segment : Segment) (forest : Forest) (among : List Segment) where
       )
 
   -- and what holds of the families after holds before, where it holds of the family without the last one
-  pub hung-fewer : (P : Family → Type 0) (above : Option ℕ) → siblings above forest ≡ Some among → (P (more_in above among segment) → P (record { above = above; children = among })) → AllByRecursion P (families None (hung above segment forest)) → AllByRecursion P (families None forest) × P (more_in above among segment)
+  pub hung-fewer : (P : Family → Type 0) (above : Option ℕ) → siblings above forest ≡ Some among →
+      (P (more_in above among segment) → P (record { above = above; children = among })) → AllByRecursion P (families None (hung above segment forest)) →
+      AllByRecursion P (families None forest) × P (more_in above among segment)
   hung-fewer P None found less all =
       let is = same_Some (roots forest) among found in
-      let own : P (more_in None among segment) = subst (λ segments. P (more_in None segments segment)) is (subst (λ segments. P (record { above = None; children = segments })) (roots-joined forest (leaf segment)) all.0) in
-      let parts = AllByRecursion-parts P (families_below forest) (none_in segment ∷ []) (subst (AllByRecursion P) (families_below-joined forest (leaf segment)) all.1) in
+      let own : P (more_in None among segment) = subst (λ segments. P (more_in None segments segment)) is
+      (subst (λ segments. P (record { above = None; children = segments })) (roots-joined forest (leaf segment)) all.0) in
+      let parts = AllByRecursion-parts P (families_below forest) (none_in segment ∷ [])
+      (subst (AllByRecursion P) (families_below-joined forest (leaf segment)) all.1) in
       ((subst (λ segments. P (record { above = None; children = segments })) (sym is) (less own), parts.0), own)
   hung-fewer P (Some type) found less all =
       let hangs = hangs_below type segment forest among found in
@@ -65,18 +76,21 @@ module _ (segment : Segment) (forest : Forest) (among : List Segment) where
       ((subst (λ segments. P (record { above = None; children = segments })) (HangsBelow-roots type segment forest among grown hangs) all.0, parts.0), parts.1)
 
   -- what holds of all families holds of the one that a segment joins
-  pub hung-family : (P : Family → Type 0) (above : Option ℕ) → siblings above forest ≡ Some among → AllByRecursion P (families None forest) → P (record { above = above; children = among })
+  pub hung-family : (P : Family → Type 0) (above : Option ℕ) → siblings above forest ≡ Some among → AllByRecursion P (families None forest) →
+      P (record { above = above; children = among })
   hung-family P None found all = subst (λ segments. P (record { above = None; children = segments })) (same_Some (roots forest) among found) all.0
   hung-family P (Some type) found all =
       HangsBelow-family P type segment forest among (hung (Some type) segment forest) (hangs_below type segment forest among found) all.1
 
 -- the same, of no segment
-pub sibling_family : (P : Family → Type 0) (above : Option ℕ) (forest : Forest) (among : List Segment) → siblings above forest ≡ Some among → AllByRecursion P (families None forest) → P (record { above = above; children = among })
+pub sibling_family : (P : Family → Type 0) (above : Option ℕ) (forest : Forest) (among : List Segment) → siblings above forest ≡ Some among →
+    AllByRecursion P (families None forest) → P (record { above = above; children = among })
 sibling_family P above forest among = hung-family (record { type = 0; version = 0; sdata = [] }) forest among P above
 
 module _ (definitions : Definitions) (entries : List TypePlace) where
   -- lines and one more, if that one's segment hangs right
-  pub Grows-spells : (lines : List DataRecord) (line : DataRecord) (forest grown : Forest) → Grows definitions entries line forest grown → Spells definitions entries lines forest → Spells definitions entries (lines ++ line ∷ []) grown
+  pub Grows-spells : (lines : List DataRecord) (line : DataRecord) (forest grown : Forest) → Grows definitions entries line forest grown →
+      Spells definitions entries lines forest → Spells definitions entries (lines ++ line ∷ []) grown
   Grows-spells lines line forest grown grows spells =
       let may = grows.may in
       let segment = grows.segment in
@@ -97,7 +111,9 @@ module _ (definitions : Definitions) (entries : List TypePlace) where
   bare_fits segment = record { ordered = tt; at_most = AllByRecursion-of (λ (entry : TypePlace). 0 ≤ entry.max) (λ entry. omega arith) entries }
 
   -- a record that makes the forest grow leaves the records spelling a forest in order
-  pub Grows-stands : (lines : List DataRecord) (line : DataRecord) (forest grown : Forest) → IsDistinct nat_eq (map (λ entry. entry.segment) entries) → Grows definitions entries line forest grown → SpellsInOrder definitions entries lines forest → SpellsInOrder definitions entries (lines ++ line ∷ []) grown
+  pub Grows-stands : (lines : List DataRecord) (line : DataRecord) (forest grown : Forest) → IsDistinct nat_eq (map (λ entry. entry.segment) entries) →
+      Grows definitions entries line forest grown → SpellsInOrder definitions entries lines forest →
+      SpellsInOrder definitions entries (lines ++ line ∷ []) grown
   Grows-stands lines line forest grown apart grows stands =
       let may = grows.may in
       let segment = grows.segment in
@@ -122,15 +138,19 @@ module _ (definitions : Definitions) (entries : List TypePlace) where
     pub siblings_are : siblings above front ≡ Some among
     pub is : forest ≡ hung above segment front
 
-  not_bare : (lines : List DataRecord) (line : DataRecord) (forest : Forest) → map (segment_of definitions) (lines ++ line ∷ []) ≡ map Some (preorder forest) → is_bare forest ≡ false
+  not_bare : (lines : List DataRecord) (line : DataRecord) (forest : Forest) → map (segment_of definitions) (lines ++ line ∷ []) ≡ map Some (preorder forest) →
+      is_bare forest ≡ false
   not_bare [] line no_trees same = cc
   not_bare (first ∷ lines) line no_trees same = cc
   not_bare lines line (tree r b a) same = refl
 
-  ended_by : (lines : List DataRecord) (line : DataRecord) (forest front : Forest) (segment : Segment) (above : Option ℕ) (among : List Segment) → map (segment_of definitions) (lines ++ line ∷ []) ≡ map Some (preorder forest) → Hangs entries None front → parent_of entries segment.type ≡ Some above → siblings above front ≡ Some among → forest ≡ hung above segment front → Ended lines line forest
+  ended_by : (lines : List DataRecord) (line : DataRecord) (forest front : Forest) (segment : Segment) (above : Option ℕ) (among : List Segment) →
+      map (segment_of definitions) (lines ++ line ∷ []) ≡ map Some (preorder forest) → Hangs entries None front → parent_of entries segment.type ≡ Some above →
+      siblings above front ≡ Some among → forest ≡ hung above segment front → Ended lines line forest
   ended_by lines line forest front segment above among same hangs parent siblings_are is =
       let parts = last-injective (map (segment_of definitions) lines) (map Some (preorder front)) (segment_of definitions line) (Some segment)
-      (sym (map-append (segment_of definitions) lines (line ∷ [])) ∙ same ∙ ap (λ f. map Some (preorder f)) is ∙ ap (map Some) (hung-preorder segment front among above siblings_are) ∙ map-append Some (preorder front) (segment ∷ [])) in
+      (sym (map-append (segment_of definitions) lines (line ∷ [])) ∙ same ∙ ap (λ f. map Some (preorder f)) is
+      ∙ ap (map Some) (hung-preorder segment front among above siblings_are) ∙ map-append Some (preorder front) (segment ∷ [])) in
       record {
         segment = segment;
         known = parts.1;
@@ -143,15 +163,19 @@ module _ (definitions : Definitions) (entries : List TypePlace) where
         is = is;
       }
 
-  ended_at : (lines : List DataRecord) (line : DataRecord) (front forest : Forest) (segment : Segment) → map (segment_of definitions) (lines ++ line ∷ []) ≡ map Some (preorder forest) → Hangs entries None forest → EndsWith entries None segment front forest → Ended lines line forest
+  ended_at : (lines : List DataRecord) (line : DataRecord) (front forest : Forest) (segment : Segment) → map (segment_of definitions) (lines ++ line ∷ [])
+      ≡ map Some (preorder forest) → Hangs entries None forest → EndsWith entries None segment front forest → Ended lines line forest
   ended_at lines line front _ segment same hangs (a_root _ parent) =
-      ended_by lines line (joined front (leaf segment)) front segment None (roots front) same (Hangs-parts entries None front (leaf segment) hangs).0 parent refl refl
+      ended_by lines line (joined front (leaf segment)) front segment None (roots front) same (Hangs-parts entries None front (leaf segment) hangs).0 parent
+      refl refl
   ended_at lines line front forest segment same hangs (below _ _ type among parent stands hung_there) =
       let computed = HangsBelow-open type segment front among forest hung_there in
-      ended_by lines line forest front segment (Some type) among same (HangsBelow-hung entries type segment None front among forest hung_there hangs) parent computed.0 (sym computed.1)
+      ended_by lines line forest front segment (Some type) among same (HangsBelow-hung entries type segment None front among forest hung_there hangs) parent
+      computed.0 (sym computed.1)
 
   -- records that spell a forest are those before the last one, and a segment that it hung
-  pub Spells-last : IsPreorder 0 [] entries → (lines : List DataRecord) (line : DataRecord) (forest : Forest) → Spells definitions entries (lines ++ line ∷ []) forest → Ended lines line forest
+  pub Spells-last : IsPreorder 0 [] entries → (lines : List DataRecord) (line : DataRecord) (forest : Forest) →
+      Spells definitions entries (lines ++ line ∷ []) forest → Ended lines line forest
   Spells-last preorder_kept lines line forest spells =
       let last = has_last entries preorder_kept None forest (not_bare lines line forest spells.segments) spells.hangs in
       ended_at lines line last.front forest last.segment spells.segments spells.hangs last.ends
@@ -163,7 +187,8 @@ module _ (definitions : Definitions) (entries : List TypePlace) where
     pub grows : Grows definitions entries line front forest
 
   -- the same of records that spell a forest in order
-  pub SpellsInOrder-last : IsPreorder 0 [] entries → (lines : List DataRecord) (line : DataRecord) (forest : Forest) → SpellsInOrder definitions entries (lines ++ line ∷ []) forest → Stood lines line forest
+  pub SpellsInOrder-last : IsPreorder 0 [] entries → (lines : List DataRecord) (line : DataRecord) (forest : Forest) →
+      SpellsInOrder definitions entries (lines ++ line ∷ []) forest → Stood lines line forest
   SpellsInOrder-last preorder_kept lines line forest stands =
       let ended = Spells-last preorder_kept lines line forest stands.spells in
       let segment = ended.segment in
@@ -205,7 +230,8 @@ module _ (definitions : Definitions) (entries : List TypePlace) where
   }
 
   -- lines spell one forest at most
-  one_forest_of : IsPreorder 0 [] entries → (count : ℕ) (lines : List DataRecord) (first second : Forest) → length lines ≡ count → Snoc lines → Spells definitions entries lines first → Spells definitions entries lines second → first ≡ second
+  one_forest_of : IsPreorder 0 [] entries → (count : ℕ) (lines : List DataRecord) (first second : Forest) → length lines ≡ count → Snoc lines →
+      Spells definitions entries lines first → Spells definitions entries lines second → first ≡ second
   one_forest_of kept count _ first second long none one other = Spells-none first one ∙ sym (Spells-none second other)
   one_forest_of kept zero _ first second long (some front line) one other = absurd (omega (arith, length-append front (line ∷ [])))
   one_forest_of kept (suc count) _ first second long (some front line) one other =
@@ -215,8 +241,10 @@ module _ (definitions : Definitions) (entries : List TypePlace) where
       let same_above : a.above ≡ b.above = same_Some a.above b.above (sym a.parent ∙ ap (λ (i : Segment). parent_of entries i.type) same_segment ∙ b.parent) in
       let shorter : length front ≡ count = omega (arith, length-append front (line ∷ [])) in
       let same_front : a.front ≡ b.front = one_forest_of kept count front a.front b.front shorter (snoc front) a.spells b.spells in
-      a.is ∙ ap (λ above. hung above a.segment a.front) same_above ∙ ap (λ i. hung b.above i a.front) same_segment ∙ ap (hung b.above b.segment) same_front ∙ sym b.is
+      a.is ∙ ap (λ above. hung above a.segment a.front) same_above ∙ ap (λ i. hung b.above i a.front) same_segment ∙ ap (hung b.above b.segment) same_front
+      ∙ sym b.is
 
   -- records spell one forest at most
-  pub one_forest : IsPreorder 0 [] entries → (lines : List DataRecord) (first second : Forest) → Spells definitions entries lines first → Spells definitions entries lines second → first ≡ second
+  pub one_forest : IsPreorder 0 [] entries → (lines : List DataRecord) (first second : Forest) → Spells definitions entries lines first →
+      Spells definitions entries lines second → first ≡ second
   one_forest kept lines first second = one_forest_of kept (length lines) lines first second refl (snoc lines)

@@ -22,28 +22,36 @@ pub without-part : (goes : Segment → Bool) (forest : Forest) → without goes 
 without-part goes no_trees = refl
 without-part goes (tree root under behind) = left (goes root) (without-part goes under) (without-part goes behind)
   where
-    left : (b : Bool) → without goes under ≡ part under (staying goes under) → without goes behind ≡ part behind (staying goes behind) → cond b (without goes behind) (tree root (without goes under) (without goes behind)) ≡ part (tree root under behind) (with_root (not b) (staying goes under) (staying goes behind))
+    left : (b : Bool) → without goes under ≡ part under (staying goes under) → without goes behind ≡ part behind (staying goes behind) →
+        cond b (without goes behind) (tree root (without goes under) (without goes behind))
+        ≡ part (tree root under behind) (with_root (not b) (staying goes under) (staying goes behind))
     left true below after = after
     left false below after = ap (λ (f : Forest). tree root f (without goes behind)) below ∙ ap (tree root (part under (staying goes under))) after
 
 -- it fits, if the whole did
-pub without-fits : (entries : List TypePlace) (goes : Segment → Bool) (forest : Forest) → AllByRecursion (Fits entries) (families None forest) → AllByRecursion (Fits entries) (families None (without goes forest))
+pub without-fits : (entries : List TypePlace) (goes : Segment → Bool) (forest : Forest) → AllByRecursion (Fits entries) (families None forest) →
+    AllByRecursion (Fits entries) (families None (without goes forest))
 without-fits entries goes forest all =
-    subst (λ (f : Forest). AllByRecursion (Fits entries) (families None f)) (sym (without-part goes forest)) (fits-part entries forest (staying goes forest) all)
+    subst (λ (f : Forest). AllByRecursion (Fits entries) (families None f)) (sym (without-part goes forest))
+    (fits-part entries forest (staying goes forest) all)
 
 -- it hangs together, if the whole did
-pub without-hangs : (entries : List TypePlace) (above : Option ℕ) (goes : Segment → Bool) (forest : Forest) → Hangs entries above forest → Hangs entries above (without goes forest)
+pub without-hangs : (entries : List TypePlace) (above : Option ℕ) (goes : Segment → Bool) (forest : Forest) → Hangs entries above forest →
+    Hangs entries above (without goes forest)
 without-hangs entries above goes forest all =
     subst (Hangs entries above) (sym (without-part goes forest)) (Hangs-part entries above forest (staying goes forest) all)
 
-more_left : (type : ℕ) (root : Segment) (left before after : Forest) (b own : Bool) → root.type == type ≡ own → (own ≡ true → b ≡ false) → count_of type (roots before) ≤ count_of type (roots after) → cond own (suc (count_of type (roots before))) (count_of type (roots before)) ≤ count_of type (roots (cond b after (tree root left after)))
+more_left : (type : ℕ) (root : Segment) (left before after : Forest) (b own : Bool) → root.type == type ≡ own → (own ≡ true → b ≡ false) →
+    count_of type (roots before) ≤ count_of type (roots after) → cond own (suc (count_of type (roots before))) (count_of type (roots before)) ≤ count_of type
+    (roots (cond b after (tree root left after)))
 more_left type root left before after true true is stays less = let never = stays refl in cc
 more_left type root left before after true false is stays less = less
 more_left type root left before after false true is stays less = rw is (omega arith)
 more_left type root left before after false false is stays less = rw is less
 
 -- of a type of which none goes there are as many roots as before
-pub count_of-without : (type : ℕ) (goes : Segment → Bool) (forest : Forest) → ((segment : Segment) → segment.type ≡ type → goes segment ≡ false) → count_of type (roots forest) ≤ count_of type (roots (without goes forest))
+pub count_of-without : (type : ℕ) (goes : Segment → Bool) (forest : Forest) → ((segment : Segment) → segment.type ≡ type → goes segment ≡ false) →
+    count_of type (roots forest) ≤ count_of type (roots (without goes forest))
 count_of-without type goes no_trees stays = omega arith
 count_of-without type goes (tree root under behind) stays =
     more_left type root (without goes under) behind (without goes behind) (goes root) (root.type == type) refl
@@ -62,7 +70,8 @@ module _ (entries : List TypePlace) (goes : ℕ → Bool) (stays : Option ℕ �
   leaves_type segment = goes segment.type
 
   -- the family of a type that stays has enough left
-  pub without-HasEnough : (above : Option ℕ) (forest : Forest) → stays above ≡ true → HasEnough entries (record { above = above; children = roots forest }) → HasEnough entries (record { above = above; children = roots (without leaves_type forest) })
+  pub without-HasEnough : (above : Option ℕ) (forest : Forest) → stays above ≡ true → HasEnough entries (record { above = above; children = roots forest }) →
+      HasEnough entries (record { above = above; children = roots (without leaves_type forest) })
   without-HasEnough above forest here enough =
       AllByRecursion-weaker _ _ entries (λ entry both. λ mandatory own.
       let least : entry.min ≤ count_of entry.segment (roots forest) = both.1 mandatory own in
@@ -70,13 +79,16 @@ module _ (entries : List TypePlace) (goes : ℕ → Bool) (stays : Option ℕ �
       omega (arith, least, left))
       (AllByRecursion-both _ (Suffices entries (record { above = above; children = roots forest })) entries whole.mandatory enough)
 
-  below-tree : (root : Segment) (b : Bool) (below after : Forest) → (b ≡ false → HasEnough entries (record { above = Some root.type; children = roots below }) × EnoughBelow entries below) → EnoughBelow entries after → EnoughBelow entries (cond b after (tree root below after))
+  below-tree : (root : Segment) (b : Bool) (below after : Forest) →
+      (b ≡ false → HasEnough entries (record { above = Some root.type; children = roots below }) × EnoughBelow entries below) → EnoughBelow entries after →
+      EnoughBelow entries (cond b after (tree root below after))
   below-tree root true below after under behind = behind
   below-tree root false below after under behind =
       let parts = under refl in (parts.0, AllByRecursion-append (HasEnough entries) (families_below below) (families_below after) parts.1 behind)
 
   -- and so have all families below it
-  pub without-enough : (above : Option ℕ) (forest : Forest) → stays above ≡ true → Hangs entries above forest → EnoughBelow entries forest → EnoughBelow entries (without leaves_type forest)
+  pub without-enough : (above : Option ℕ) (forest : Forest) → stays above ≡ true → Hangs entries above forest → EnoughBelow entries forest →
+      EnoughBelow entries (without leaves_type forest)
   without-enough above no_trees here hangs all = tt
   without-enough above (tree root under behind) here hangs all =
       let parts = EnoughBelow-parts entries root under behind all in

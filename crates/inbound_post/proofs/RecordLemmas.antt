@@ -17,14 +17,16 @@ use Rattle.object_store.specs.declared.posting.Posting.{Posting}
 use Rattle.inbound_post.specs.declared.application_tables.ApplicationTables.{ApplicationTables}
 use Rattle.inbound_post.specs.Reading.{posting}
 use Rattle.inbound_post.specs.Prepared.{prepared}
-use Rattle.inbound_post.specs.Application.{Application, Arrived, Past, application_after, arrived_all, executed_if, next_application, no_past, passed, passed_at, passed_again, past_after, past_of, with_document, with_unit}
+use Rattle.inbound_post.specs.Application.{Application, Arrived, Past, application_after, arrived_all, executed_if, next_application, no_past, passed}
+use Rattle.inbound_post.specs.Application.{passed_at, passed_again, past_after, past_of, with_document, with_unit}
 use Rattle.inbound_post.specs.Tables.{AreTablesOf}
 use Rattle.inbound_post.proofs.ApplicationLemmas.{executed-prepared}
 
 -- ---- the tables
 
 -- a unit that is received leaves the tables
-pub AreTablesOf-Accept : (unit : AleUnit) (application : Application) (tables : ApplicationTables) → AreTablesOf application tables → AreTablesOf (with_unit unit application) tables
+pub AreTablesOf-Accept : (unit : AleUnit) (application : Application) (tables : ApplicationTables) → AreTablesOf application tables →
+    AreTablesOf (with_unit unit application) tables
 AreTablesOf-Accept unit application tables are = record { documents = are.documents; statuses = are.statuses; objects = are.objects; pointers = are.pointers }
 
 -- what `execute` makes of the tables
@@ -35,7 +37,8 @@ Executes model system unit before after =
 
 -- a Direct: a unit is received, and its documents come in as they were prepared
 pub AreTablesOf-Direct : (model : Lists) (system : ℕ) (unit : AleUnit) (application : Application) (before after : ApplicationTables)
-    → AreTablesOf application before → Executes model system unit before after → AreTablesOf (application_after model system application (log.Direct unit)) after
+    → AreTablesOf application before → Executes model system unit before after →
+    AreTablesOf (application_after model system application (log.Direct unit)) after
 AreTablesOf-Direct model system unit application before after are executes =
     subst (λ (a : Application). AreTablesOf a after) (sym (executed-prepared model system unit (with_unit unit application)))
     (executes (with_unit unit application) (AreTablesOf-Accept unit application before are))
@@ -43,7 +46,8 @@ AreTablesOf-Direct model system unit application before after are executes =
 -- an Execute: the documents of a unit that was received come in as they were prepared
 pub AreTablesOf-Execute : (model : Lists) (system : ℕ) (tid : TidOf) (unit : AleUnit) (application : Application) (before after : ApplicationTables)
     → unit_named tid application.received ≡ Some unit
-    → AreTablesOf application before → Executes model system unit before after → AreTablesOf (application_after model system application (log.Execute tid)) after
+    → AreTablesOf application before → Executes model system unit before after →
+    AreTablesOf (application_after model system application (log.Execute tid)) after
 AreTablesOf-Execute model system tid unit application before after named are executes =
     subst (λ (a : Application). AreTablesOf a after) (sym (ap (executed_if model system application) named ∙ executed-prepared model system unit application))
     (executes application are)
@@ -58,7 +62,8 @@ executed_same : (model : Lists) (system sender : ℕ) (docs : List RawUnitDoc) (
 executed_same model system sender [] application = refl
 executed_same model system sender (doc ∷ docs) application = executed_same model system sender docs (with_document model system sender application doc)
 
-passed_same : (model : Lists) (place : ℕ) (application : Application) (found : Option Arrived) → (passed_at model place application found).received ≡ application.received
+passed_same : (model : Lists) (place : ℕ) (application : Application) (found : Option Arrived) → (passed_at model place application found).received
+    ≡ application.received
 passed_same model place application None = refl
 passed_same model place application (Some document) = of_posting (posting model document.document)
   where
@@ -70,16 +75,19 @@ again_same : (model : Lists) (application : Application) (doc : ℕ) → (passed
 again_same model application zero = refl
 again_same model application (suc place) = passed_same model place application (slice_get application.documents place)
 
-if_same : (model : Lists) (system : ℕ) (application : Application) (found : Option AleUnit) → (executed_if model system application found).received ≡ application.received
+if_same : (model : Lists) (system : ℕ) (application : Application) (found : Option AleUnit) → (executed_if model system application found).received
+    ≡ application.received
 if_same model system application None = refl
 if_same model system application (Some unit) = executed_same model system unit.sender unit.docs application
 
 -- a record takes in the unit that it says
-after_received : (model : Lists) (system : ℕ) (application : Application) (next : Record) → (application_after model system application next).received ≡ application.received ++ taken next
+after_received : (model : Lists) (system : ℕ) (application : Application) (next : Record) → (application_after model system application next).received
+    ≡ application.received ++ taken next
 unfolding taken
 after_received model system application (log.Accept unit) = refl
 after_received model system application (log.Direct unit) = executed_same model system unit.sender unit.docs (with_unit unit application)
-after_received model system application (log.Execute tid) = if_same model system application (unit_named tid application.received) ∙ sym (append-nil application.received)
+after_received model system application (log.Execute tid) = if_same model system application (unit_named tid application.received)
+    ∙ sym (append-nil application.received)
 after_received model system application (log.App doc) = again_same model application doc.0 ∙ sym (append-nil application.received)
 after_received model system application (log.Repost doc) = again_same model application doc.0 ∙ sym (append-nil application.received)
 after_received model system application _ = sym (append-nil application.received)

@@ -1,7 +1,8 @@
 -- The tables of an application, and what one more document or one more status does to them.
 use Rattle.std.specs.Prelude.{slice_get, slice_set}
 use Rattle.std.specs.Option.{option_map, option_map_or}
-use Rattle.std.proofs.Common.{◌≡◌, ◌≢◌, ℕ, inl, inr, zero, suc, ◌==◌, Option, Some, None, List, [], ◌∷◌, ◌++◌, length, map, if◌then◌else◌, refl, ap, sym, subst, ◌∙◌}
+use Rattle.std.proofs.Common.{◌≡◌, ◌≢◌, ℕ, inl, inr, zero, suc, ◌==◌, Option, Some, None, List, [], ◌∷◌, ◌++◌, length, map, if◌then◌else◌, refl, ap, sym, subst}
+use Rattle.std.proofs.Common.{◌∙◌}
 use Rattle.std.proofs.lemmas.Option.{slice_get-map}
 use Rattle.std.proofs.lemmas.Bool.Decides.{eqb_tells}
 use Rattle.dist_model.specs.declared.lists.Lists.{Lists}
@@ -15,7 +16,8 @@ use Rattle.inbound_post.specs.declared.prepared.DocPosting.{DocPosting}
 use Rattle.inbound_post.specs.declared.inbound_document.InboundDocument.{InboundDocument}
 use Rattle.inbound_post.specs.declared.application_tables.ApplicationTables.{ApplicationTables}
 use Rattle.inbound_post.specs.Reading.{posting}
-use Rattle.inbound_post.specs.Application.{Application, Arrived, arrived, first_statuses, objects_with, passed, passed_at, status_of, statuses_at, with_statuses}
+use Rattle.inbound_post.specs.Application.{Application, Arrived, arrived, first_statuses, objects_with, passed, passed_at, status_of, statuses_at}
+use Rattle.inbound_post.specs.Application.{with_statuses}
 use Rattle.inbound_post.specs.Tables.{AreTablesOf, bare}
 
 abbrev statuses_from : List Arrived → ℕ → List Status
@@ -29,17 +31,20 @@ bare_push : (documents : List Arrived) (d : Arrived) → map bare (documents ++ 
 bare_push [] d = refl
 bare_push (x ∷ xs) d = ap (λ v. bare x ∷ v) (bare_push xs d)
 
-from_push : (documents : List Arrived) (d : Arrived) → statuses_from (documents ++ d ∷ []) (length documents) ≡ statuses_from documents (length documents) ++ d.statuses
+from_push : (documents : List Arrived) (d : Arrived) → statuses_from (documents ++ d ∷ []) (length documents) ≡ statuses_from documents (length documents)
+    ++ d.statuses
 from_push [] d = refl
 from_push (x ∷ xs) d = from_push xs d
 
-from_before : (documents : List Arrived) (d : Arrived) (place : ℕ) → place ≢ length documents → statuses_from (documents ++ d ∷ []) place ≡ statuses_from documents place
+from_before : (documents : List Arrived) (d : Arrived) (place : ℕ) → place ≢ length documents →
+    statuses_from (documents ++ d ∷ []) place ≡ statuses_from documents place
 from_before [] d zero other = absurd (other refl)
 from_before [] d (suc place) other = refl
 from_before (x ∷ xs) d zero other = refl
 from_before (x ∷ xs) d (suc place) other = from_before xs d place (λ same. other (ap suc same))
 
-at_before : (documents : List Arrived) (d : Arrived) (doc : ℕ) → doc ≢ suc (length documents) → statuses_at (documents ++ d ∷ []) doc ≡ statuses_at documents doc
+at_before : (documents : List Arrived) (d : Arrived) (doc : ℕ) → doc ≢ suc (length documents) →
+    statuses_at (documents ++ d ∷ []) doc ≡ statuses_at documents doc
 at_before documents d zero other = refl
 at_before documents d (suc place) other = from_before documents d place (λ same. other (ap suc same))
 
@@ -64,20 +69,23 @@ from_set [] place d more known = absurd (cc)
 from_set (x ∷ xs) zero d more known = let same : d ≡ x = cc known in ap (λ (e : Arrived). e.statuses ++ more) same
 from_set (x ∷ xs) (suc place) d more known = from_set xs place d more known
 
-from_beside : (documents : List Arrived) (place : ℕ) (new : Arrived) (k : ℕ) → k ≢ place → statuses_from (slice_set documents place new) k ≡ statuses_from documents k
+from_beside : (documents : List Arrived) (place : ℕ) (new : Arrived) (k : ℕ) → k ≢ place → statuses_from (slice_set documents place new) k
+    ≡ statuses_from documents k
 from_beside [] place new k other = refl
 from_beside (x ∷ xs) zero new zero other = absurd (other refl)
 from_beside (x ∷ xs) zero new (suc k) other = refl
 from_beside (x ∷ xs) (suc place) new zero other = refl
 from_beside (x ∷ xs) (suc place) new (suc k) other = from_beside xs place new k (λ same. other (ap suc same))
 
-at_beside : (documents : List Arrived) (place : ℕ) (new : Arrived) (doc : ℕ) → doc ≢ suc place → statuses_at (slice_set documents place new) doc ≡ statuses_at documents doc
+at_beside : (documents : List Arrived) (place : ℕ) (new : Arrived) (doc : ℕ) → doc ≢ suc place → statuses_at (slice_set documents place new) doc
+    ≡ statuses_at documents doc
 at_beside documents place new zero other = refl
 at_beside documents place new (suc k) other = from_beside documents place new k (λ same. other (ap suc same))
 
 -- the statuses of documents of which one got more
 at_set : (documents : List Arrived) (place : ℕ) (d : Arrived) (more : List Status) (doc : ℕ) → slice_get documents place ≡ Some d
-    → statuses_at (slice_set documents place (with_statuses more d)) doc ≡ (if doc == suc place then statuses_at documents doc ++ more else statuses_at documents doc)
+    → statuses_at (slice_set documents place (with_statuses more d)) doc
+    ≡ (if doc == suc place then statuses_at documents doc ++ more else statuses_at documents doc)
 at_set documents place d more doc known =
     elim (eqb_tells doc (suc place)) [
       | inl same ↦ rw (same.0, same.1) (from_set documents place d more known)
@@ -98,15 +106,23 @@ pub arrived-tables : (sender : ℕ) (doc : RawUnitDoc) (becomes : DocPosting) (a
     (statuses : List (List Status)) (objects : ObjectsOf) → AreTablesOf application tables → number ≡ suc (length tables.documents)
     → AddsAll number (first_statuses tables.objects becomes) tables.statuses statuses → objects ≡ objects_with becomes tables.objects
     → AreTablesOf (arrived sender doc becomes application)
-    (record { documents = tables.documents ++ record { sender = sender; document = doc } ∷ []; statuses = statuses; objects = objects; pointers = tables.pointers })
+    (record {
+      documents = tables.documents ++ record { sender = sender; document = doc }
+          ∷ [];
+      statuses = statuses;
+      objects = objects;
+      pointers = tables.pointers;
+    })
 arrived-tables sender doc becomes application tables number statuses objects are next adds of_objects =
     let new : Arrived = record { sender = sender; document = doc; statuses = first_statuses application.objects becomes } in
     let count : length tables.documents ≡ length application.documents = ap length are.documents ∙ length_map application.documents in
     let its : number ≡ suc (length application.documents) = next ∙ ap suc count in
     record {
       documents = ap (λ v. v ++ bare new ∷ []) are.documents ∙ sym (bare_push application.documents new);
-      statuses = λ other. both_added number (first_statuses tables.objects becomes) tables.statuses statuses (statuses_at application.documents) are.statuses adds other
-          ∙ ap (λ (o : ObjectsOf). if other == number then statuses_at application.documents other ++ first_statuses o becomes else statuses_at application.documents other) are.objects
+      statuses = λ other. both_added number (first_statuses tables.objects becomes) tables.statuses statuses (statuses_at application.documents) are.statuses
+          adds other
+          ∙ ap (λ (o : ObjectsOf). if other == number then statuses_at application.documents other
+          ++ first_statuses o becomes else statuses_at application.documents other) are.objects
           ∙ ap (λ (n : ℕ). if other == n then statuses_at application.documents other ++ new.statuses else statuses_at application.documents other) its
           ∙ sym (at_push application.documents new other);
       objects = of_objects ∙ ap (objects_with becomes) are.objects;
@@ -126,7 +142,8 @@ document-there application tables place document are known =
     found (Some d) is maps = (d, is, cc (maps, ap (option_map bare) is))
 
 -- a document got statuses, and the objects are others: the tables after it
-with_more : (application : Application) (tables : ApplicationTables) (place : ℕ) (d : Arrived) (more : List Status) (statuses : List (List Status)) (objects : ObjectsOf)
+with_more : (application : Application) (tables : ApplicationTables) (place : ℕ) (d : Arrived) (more : List Status) (statuses : List (List Status))
+    (objects : ObjectsOf)
     → AreTablesOf application tables → slice_get application.documents place ≡ Some d → AddsAll (suc place) more tables.statuses statuses
     → AreTablesOf (record application { documents = slice_set application.documents place (with_statuses more d); objects = objects })
     (record tables { statuses = statuses; objects = objects })
@@ -152,7 +169,8 @@ passed-tables model application tables place document made statuses objects are 
     let of_it : posting model d.document ≡ Some made = ap (λ (e : InboundDocument). posting model e.document) same ∙ is in
     subst (λ (a : Application). AreTablesOf a (record tables { statuses = statuses; objects = objects }))
     (sym (ap (passed_at model place application) at ∙ ap (passed place d application) of_it
-    ∙ ap (λ (o : ObjectsOf). let a : Application = record application { documents = slice_set application.documents place (with_statuses more d); objects = o } in a)
+    ∙ ap (λ (o : ObjectsOf). let a : Application = record application
+    { documents = slice_set application.documents place (with_statuses more d); objects = o } in a)
     (ap (applied made) (sym are.objects) ∙ sym of_objects)))
     (with_more application tables place d more statuses objects are at adds2)
 
@@ -166,6 +184,7 @@ unread-tables model application tables place document statuses are known is adds
     let of_it : posting model d.document ≡ None = ap (λ (e : InboundDocument). posting model e.document) same ∙ is in
     subst (λ (a : Application). AreTablesOf a (record tables { statuses = statuses }))
     (sym (ap (passed_at model place application) at ∙ ap (passed place d application) of_it))
-    (let set : AreTablesOf (record application { documents = slice_set application.documents place (with_statuses (plain 56 ∷ []) d); objects = tables.objects })
+    (let set : AreTablesOf (record application
+    { documents = slice_set application.documents place (with_statuses (plain 56 ∷ []) d); objects = tables.objects })
     (record tables { statuses = statuses }) = with_more application tables place d (plain 56 ∷ []) statuses tables.objects are at adds in
     record { documents = set.documents; statuses = set.statuses; objects = are.objects; pointers = set.pointers })

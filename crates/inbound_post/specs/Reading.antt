@@ -1,6 +1,7 @@
 -- What a received document is to make of an object: the posting of its root segment. SAP Library, ALE: inbound processing hands a
 -- document to the application; what that makes of it is this project's own rule.
-use Rattle.std.specs.Prelude.{ℕ, suc, ◌==◌, ◌||◌, Bool, true, false, List, [], ◌∷◌, map, Option, Some, None, option_and_then, slice_get, codes, Result, Ok, Err, if◌then◌else◌}
+use Rattle.std.specs.Prelude.{ℕ, suc, ◌==◌, ◌||◌, Bool, true, false, List, [], ◌∷◌, map, Option, Some, None, option_and_then, slice_get, codes, Result, Ok, Err}
+use Rattle.std.specs.Prelude.{if◌then◌else◌}
 use Rattle.std.specs.Option.{option_map}
 use Rattle.ale_base.specs.Text.{is_text}
 use Rattle.ale_base.specs.declared.change.FieldValue.{FieldValue}

@@ -31,7 +31,8 @@ use Rattle.world_tables.proofs.InStepLemmas.{stands_up}
 use Rattle.kept_world.specs.Answers.{may_go_at, first_to_go, AreTablesNow, IsAnsweredBy}
 
 -- the claims of a direction at a system
-way_claims : (way : Way) (system : ℕ) (claims : List Held) → claims_of way (claim_at Out system claims) (claim_at In system claims) ≡ claim_at (kind_of way) system claims
+way_claims : (way : Way) (system : ℕ) (claims : List Held) → claims_of way (claim_at Out system claims) (claim_at In system claims)
+    ≡ claim_at (kind_of way) system claims
 way_claims Outgoing system claims = refl
 way_claims Incoming system claims = refl
 
@@ -40,18 +41,22 @@ module _ {R A : Type 0} (stands : A → List Record → Type 0) (rules : Meaning
   -- an id is seen exactly where the log received its unit and has not forgotten it
   pub known-at : (tid : TidOf) → is_listed tid its.seen ≡ is_known tid (log_of world system)
   known-at tid =
-      seen-tables stands (committed_by rules world system) (log_of world system) (claim_at Out system world.claims) (claim_at In system world.claims) its tid are
+      seen-tables stands (committed_by rules world system) (log_of world system) (claim_at Out system world.claims)
+      (claim_at In system world.claims) its tid are
 
   -- it is unconfirmed exactly where its unit is done and not ended
   pub unconfirmed-at : (tid : TidOf) → is_listed tid its.unconfirmed ≡ is_unconfirmed tid (log_of world system)
   unconfirmed-at tid =
-      unconfirmed-tables stands (committed_by rules world system) (log_of world system) (claim_at Out system world.claims) (claim_at In system world.claims) its tid are
+      unconfirmed-tables stands (committed_by rules world system) (log_of world system) (claim_at Out system world.claims)
+      (claim_at In system world.claims) its tid are
 
   -- a unit is in the queues exactly where it is there and not through
   pub outstanding-at : (way : Way) (tid : TidOf) → is_some (unit_of tid (queues_of way its))
-      ≡ option_map_or (is_outstanding (through way (log_of world system))) (unit_named tid (units_of way (committed_by rules world system) (log_of world system))) false
+      ≡ option_map_or (is_outstanding (through way (log_of world system)))
+      (unit_named tid (units_of way (committed_by rules world system) (log_of world system))) false
   outstanding-at way tid =
-      outstanding-tables stands way (committed_by rules world system) (log_of world system) (claim_at Out system world.claims) (claim_at In system world.claims) its tid are
+      outstanding-tables stands way (committed_by rules world system) (log_of world system) (claim_at Out system world.claims)
+      (claim_at In system world.claims) its tid are
 
   module _ (way : Way) (one : HaveOneSender way (units_of way (committed_by rules world system) (log_of world system))) where
     -- a unit is offered exactly where it may go by the log and the claims
@@ -96,6 +101,8 @@ module _ {R A : Type 0} (stands : A → List Record → Type 0) (rules : Meaning
       let place = system - 1 in
       let number : suc place ≡ system = let least = standing.least in omega arith in
       let known : (standing.state).log ≡ log_of world system = sym (ap log_or_none standing.known) in
-      subst (λ s. AreTablesOf stands (rules.committed s (log_of world system)) (log_of world system) (claim_at Out s world.claims) (claim_at In s world.claims) its) number
-      (subst (λ l. AreTablesOf stands (rules.committed (suc place) l) l (claim_at Out (suc place) world.claims) (claim_at In (suc place) world.claims) its) known
+      subst (λ s. AreTablesOf stands (rules.committed s (log_of world system)) (log_of world system) (claim_at Out s world.claims)
+      (claim_at In s world.claims) its) number
+      (subst (λ l. AreTablesOf stands (rules.committed (suc place) l) l (claim_at Out (suc place) world.claims) (claim_at In (suc place) world.claims) its)
+      known
       ((are.each place standing.state its standing.at at).up standing.up))

@@ -44,7 +44,8 @@ without_named-is : {R : Type 0} (world : World R) (claim : Option ℕ) → witho
 without_named-is world None = refl
 without_named-is world (Some number) = refl
 
-module _ {R A E Extra : Type 0} (meaning : R → Meaning) (stands : A → List Record → Type 0) (goes_with : A → List Record → Record → Extra → Type 0) (now : WorldTables R A E)
+module _ {R A E Extra : Type 0} (meaning : R → Meaning) (stands : A → List Record → Type 0) (goes_with : A → List Record → Record → Extra → Type 0)
+    (now : WorldTables R A E)
     (system : ℕ) (more : List AleUnit) (claim : Option ℕ) (extra : Extra) (is : IsBehind meaning stands goes_with now system more claim extra) where
   standing : StandsUp (is.world).systems system
   standing = stands_up (is.world).systems system is.up
@@ -62,9 +63,11 @@ module _ {R A E Extra : Type 0} (meaning : R → Meaning) (stands : A → List R
   is_state state at = sym (ap (λ (s : SystemState). s.up) (same_Some standing.state state (sym standing.at ∙ at))) ∙ standing.up
 
   commits : (state : SystemState) → slice_get (is.world).systems (system - 1) ≡ Some state
-      → (meaning (is.world).rules).committed (suc (system - 1)) (state.log ++ is.next ∷ []) ≡ (meaning (is.world).rules).committed (suc (system - 1)) state.log ++ more
+      → (meaning (is.world).rules).committed (suc (system - 1)) (state.log ++ is.next ∷ []) ≡ (meaning (is.world).rules).committed (suc (system - 1)) state.log
+      ++ more
   commits state at =
-      subst (λ log. (meaning (is.world).rules).committed (suc (system - 1)) (log ++ is.next ∷ []) ≡ (meaning (is.world).rules).committed (suc (system - 1)) log ++ more)
+      subst (λ log. (meaning (is.world).rules).committed (suc (system - 1)) (log ++ is.next ∷ []) ≡ (meaning (is.world).rules).committed (suc (system - 1)) log
+      ++ more)
       (known_log state at) joins_at.commits
 
   joins : (state : SystemState) → slice_get (is.world).systems (system - 1) ≡ Some state
@@ -116,8 +119,10 @@ module _ {R A E Extra : Type 0} (meaning : R → Meaning) (stands : A → List R
       (subst (λ rules. AreInStep stands (meaning rules) w.systems w.claims after.tables) (sym rules_stay)
       (in_step-noted stands (meaning (is.world).rules) (is.world).claims (system - 1) is.apart (is.world).systems is.tables is.in_step is.next more commits
       goes w.systems after.tables claim joins joins_at.ends (systems-changed is.world system (state_with is.next) is.up)
-      (ChangedAt-then (λ old after. after ≡ entered more old) (Noted stands goes is.next more) (λ old after. Noted stands goes is.next more (entered more old) after)
-      (system - 1) is.tables now.tables after.tables (λ x y z same noted. subst (λ (t : TablesOf A). Noted stands goes is.next more t z) same noted) is.entered noted)
+      (ChangedAt-then (λ old after. after ≡ entered more old) (Noted stands goes is.next more)
+      (λ old after. Noted stands goes is.next more (entered more old) after)
+      (system - 1) is.tables now.tables after.tables (λ x y z same noted. subst (λ (t : TablesOf A). Noted stands goes is.next more t z) same noted) is.entered
+      noted)
       made))
     where
       claims_stay : (with_record is.world system is.next).claims ≡ (is.world).claims
@@ -127,19 +132,23 @@ module _ {R A E Extra : Type 0} (meaning : R → Meaning) (stands : A → List R
       rules_stay = (kept-with_state is.world system (state_with is.next) standing.state standing.known).2
 
   -- or the system falls behind it
-  pub in_step-fell_behind : (after : WorldTables R A E) → after.world ≡ now.world → ChangedAt (λ before t. t.units ≡ before.units) (system - 1) now.tables after.tables
+  pub in_step-fell_behind : (after : WorldTables R A E) → after.world ≡ now.world →
+      ChangedAt (λ before t. t.units ≡ before.units) (system - 1) now.tables after.tables
       → AreInStep stands (meaning (after.world).rules) (with_state after.world system (state_down None)).systems (after.world).claims after.tables
   in_step-fell_behind after world units =
       let grown : World R = with_record is.world system is.next in
       let stays = kept-with_state is.world system (state_with is.next) standing.state standing.known in
       let up = up-written is.world system is.next is.up in
-      subst (λ (v : World R). AreInStep stands (meaning v.rules) (with_state v system (state_down None)).systems v.claims after.tables) (sym (world ∙ is.appended))
+      subst (λ (v : World R). AreInStep stands (meaning v.rules) (with_state v system (state_down None)).systems v.claims after.tables)
+      (sym (world ∙ is.appended))
       (subst (λ rules. AreInStep stands (meaning rules) (with_state grown system (state_down None)).systems grown.claims after.tables) (sym stays.2)
       (subst (λ claims. AreInStep stands (meaning (is.world).rules) (with_state grown system (state_down None)).systems claims after.tables) (sym stays.0)
       (in_step-fallen stands (meaning (is.world).rules) (is.world).claims (system - 1) is.apart (is.world).systems is.tables is.in_step is.next more commits
       (with_state grown system (state_down None)).systems after.tables None
-      (ChangedAt-then (λ old new. new ≡ state_with is.next old) (λ old new. new ≡ state_down None old) (λ old new. new ≡ state_down None (state_with is.next old))
-      (system - 1) (is.world).systems grown.systems (with_state grown system (state_down None)).systems (λ x y z first second. second ∙ ap (state_down None) first)
+      (ChangedAt-then (λ old new. new ≡ state_with is.next old) (λ old new. new ≡ state_down None old)
+      (λ old new. new ≡ state_down None (state_with is.next old))
+      (system - 1) (is.world).systems grown.systems (with_state grown system (state_down None)).systems
+      (λ x y z first second. second ∙ ap (state_down None) first)
       (systems-changed is.world system (state_with is.next) is.up) (systems-changed grown system (state_down None) up))
       (ChangedAt-then (λ old t. t ≡ entered more old) (λ before t. t.units ≡ before.units) (λ old t. t.units ≡ old.units ++ more)
       (system - 1) is.tables now.tables after.tables (λ x y z first second. second ∙ ap (λ (t : TablesOf A). t.units) first) is.entered units))))

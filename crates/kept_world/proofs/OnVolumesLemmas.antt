@@ -33,7 +33,8 @@ up-written world system next up =
 
 module _ {D : Type 0} (told : Type 0) (volume : D → ℕ → Volume) where
   -- of one system the state, the journal and the volume change, and of no other
-  on_volumes-changed : (old new : D) (systems after : List SystemState) (before journals : SystemJournals) (place : ℕ) (StateChange : SystemState → SystemState → Type 0)
+  on_volumes-changed : (old new : D) (systems after : List SystemState) (before journals : SystemJournals) (place : ℕ)
+      (StateChange : SystemState → SystemState → Type 0)
       → AreOnVolumes told volume old systems before → ChangedAt StateChange place systems after → OnlyAt place before journals
       → AreInOrder (moments_at journals place)
       → ((other : ℕ) → other ≢ place → told → volume new other ≡ volume old other)
@@ -114,7 +115,8 @@ module _ {D : Type 0} (told : Type 0) (volume : D → ℕ → Volume) where
     on_volumes-down : (rest : Option Record) → IsLeftOnDisk told volume new (system - 1) journals (log_of world system) rest
         → AreOnVolumes told volume new (with_state world system (state_down rest)).systems journals
     on_volumes-down rest left =
-        on_volumes-changed old new world.systems (with_state world system (state_down rest)).systems before journals (system - 1) (λ s now. now ≡ state_down rest s)
+        on_volumes-changed old new world.systems (with_state world system (state_down rest)).systems before journals (system - 1)
+        (λ s now. now ≡ state_down rest s)
         are (systems-changed world system (state_down rest) up) one order others
         (λ state now at change.
         let its = its_log state at in (
@@ -124,7 +126,8 @@ module _ {D : Type 0} (told : Type 0) (volume : D → ℕ → Volume) where
         ))
 
   -- a system that was up fell, with what its volume may have behind its log
-  pub on_volumes-fell : {R : Type 0} (old new : D) (world : World R) (before journals : SystemJournals) (system : ℕ) (rest : Option Record) → is_up world system ≡ true
+  pub on_volumes-fell : {R : Type 0} (old new : D) (world : World R) (before journals : SystemJournals) (system : ℕ) (rest : Option Record) →
+      is_up world system ≡ true
       → AreOnVolumes told volume old world.systems before → OnlyAt (system - 1) before journals → AreInOrder (moments_at journals (system - 1))
       → ((other : ℕ) → other ≢ system - 1 → told → volume new other ≡ volume old other)
       → IsLeftOnDisk told volume new (system - 1) journals (log_of world system) rest

@@ -1,6 +1,7 @@
 -- The unit of an id stands at the place that its number tells.
 use Rattle.std.specs.Prelude.{slice_get, slice_index_or, Contains, if◌then◌else◌}
-use Rattle.std.proofs.Common.{◌≡◌, false, cond, ℕ, suc, ◌+◌, ◌-◌, ◌<◌, ◌≤◌, ◌==◌, Option, Some, None, List, [], length, inl, inr, refl, sym, ap, subst, ◌∙◌, arith}
+use Rattle.std.proofs.Common.{◌≡◌, false, cond, ℕ, suc, ◌+◌, ◌-◌, ◌<◌, ◌≤◌, ◌==◌, Option, Some, None, List, [], length, inl, inr, refl, sym, ap, subst, ◌∙◌}
+use Rattle.std.proofs.Common.{arith}
 use Rattle.std.proofs.lemmas.Bool.{ne_eqb}
 use Rattle.std.proofs.lemmas.Option.{slice_get_within, get_or_from_slice_get, slice_get-get_or, none-some}
 use Rattle.ale_base.specs.Tid.{TidOf}
@@ -19,14 +20,16 @@ use Rattle.system_tables.specs.Tables.{TablesOf, unit_numbered}
 use Rattle.world_tables.specs.InStep.{AreInStep}
 
 module _ (rules : Meaning) (lawful : IsLawful rules) (system : ℕ) (log : List Record) (legal : IsLegal rules system log) where
-  at-place : (k : ℕ) (unit : AleUnit) → slice_get (rules.committed system log) k ≡ Some unit → IsUnitAt rules.systems system k unit × Contains (rules.committed system log) unit
+  at-place : (k : ℕ) (unit : AleUnit) → slice_get (rules.committed system log) k ≡ Some unit →
+      IsUnitAt rules.systems system k unit × Contains (rules.committed system log) unit
   at-place k unit got =
       let within = slice_get_within (rules.committed system log) k unit got in
       let is = get_or_from_slice_get (rules.committed system log) k unit unit got in
       (subst (IsUnitAt rules.systems system k) is (lawful.numbered system log legal k unit within), (k, within, is))
 
   -- the unit of an id of this system stands at the place that its number tells
-  pub named-at : (tid : TidOf) → tid.system ≡ system → 1 ≤ tid.unit → unit_named tid (rules.committed system log) ≡ slice_get (rules.committed system log) (tid.unit - 1)
+  pub named-at : (tid : TidOf) → tid.system ≡ system → 1 ≤ tid.unit →
+      unit_named tid (rules.committed system log) ≡ slice_get (rules.committed system log) (tid.unit - 1)
   named-at tid home least =
       elim (none_or_some (slice_get (rules.committed system log) (tid.unit - 1))) [
         | inr got ↦

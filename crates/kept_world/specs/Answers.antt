@@ -21,7 +21,8 @@ use Rattle.kept_world.specs.Kept.{KeptOf}
 -- whether the unit of an id waits in the queues of a direction at a system and may go, by its log and the claims
 abbrev pub may_go_at : {R : Type 0} → Meaning → World R → ℕ → Way → TidOf → Bool
 may_go_at rules world system way tid =
-    option_map_or (may_go way (units_of way (committed_by rules world system) (log_of world system)) (log_of world system) (claim_at (kind_of way) system world.claims))
+    option_map_or (may_go way (units_of way (committed_by rules world system) (log_of world system)) (log_of world system)
+    (claim_at (kind_of way) system world.claims))
     (unit_named tid (units_of way (committed_by rules world system) (log_of world system))) false
 
 -- tables are those of the log of a system, and of the claims at it

@@ -73,7 +73,8 @@ pub record IsToWrite {R : Type 0} (world : World R) (system : ℕ) (next : Recor
 
 -- what is known of a record that is appended: beside that, it joins the log, which commits these units behind those before, it ends
 -- this claim, and this was made of it for the application
-pub record IsToAppend {R A E V : Type 0} (meaning : R → Meaning) (goes_with : A → List Record → Record → E → Type 0) (kept : KeptOf R A V) (system : ℕ) (next : Record)
+pub record IsToAppend {R A E V : Type 0} (meaning : R → Meaning) (goes_with : A → List Record → Record → E → Type 0) (kept : KeptOf R A V) (system : ℕ)
+    (next : Record)
     (more : List AleUnit) (claim : Option ℕ) (extra : E) : Type 0 where
   pub writes : IsToWrite kept.world system next
   pub joins : JoinsAt (meaning kept.world.rules) kept.world system next more claim
@@ -87,7 +88,8 @@ pub record IsWritten {R A V : Type 0} (told : Type 0) (volume : V → ℕ → On
   pub on_volumes : AreOnVolumes told volume after.vols after.world.systems after.journals
 
 -- a world and its tables are those behind a record that was entered, and is not noted yet
-pub record IsBehind {R A E Extra : Type 0} (meaning : R → Meaning) (stands : A → List Record → Type 0) (goes_with : A → List Record → Record → Extra → Type 0) (now : WorldTables R A E)
+pub record IsBehind {R A E Extra : Type 0} (meaning : R → Meaning) (stands : A → List Record → Type 0) (goes_with : A → List Record → Record → Extra → Type 0)
+    (now : WorldTables R A E)
     (system : ℕ) (more : List AleUnit) (claim : Option ℕ) (extra : Extra) : Type 0 where
   pub world : World R
   pub tables : List (TablesOf A)

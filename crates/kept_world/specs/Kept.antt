@@ -22,7 +22,8 @@ pub record KeptOf (R A V : Type 0) : Type 0 where
   pub overruns : List (Option ℕ)
 
 -- the tables are in step with the world, the volumes hold its logs, and no length is kept of a system that is up
-pub record IsKept {R A V : Type 0} (meaning : R → Meaning) (stands : A → List Record → Type 0) (told : Type 0) (volume : V → ℕ → Volume) (kept : KeptOf R A V) : Type 0 where
+pub record IsKept {R A V : Type 0} (meaning : R → Meaning) (stands : A → List Record → Type 0) (told : Type 0) (volume : V → ℕ → Volume)
+    (kept : KeptOf R A V) : Type 0 where
   pub in_step : AreInStepWith stands meaning kept.world kept.tables
   pub on_volumes : AreOnVolumes told volume kept.vols kept.world.systems kept.journals
   pub overruns : AreOverrunsOf kept.world.systems kept.overruns

@@ -7,7 +7,8 @@ use Rattle.system_journals.specs.OnDisk.{count_of, HaveMoments, moments_at, AreI
 
 -- the log of each system that is up is on the disk for good; of one that is down, a crash leaves the log, perhaps with the record that
 -- it was writing as it fell; of both the moments of the log are in order
-pub record AreOnVolumes {D : Type 0} (told : Type 0) (volume : D → ℕ → Volume) (vols : D) (systems : List SystemState) (journals : SystemJournals) : Type 0 where
+pub record AreOnVolumes {D : Type 0} (told : Type 0) (volume : D → ℕ → Volume) (vols : D) (systems : List SystemState)
+    (journals : SystemJournals) : Type 0 where
   pub count : count_of journals ≡ length systems
   pub moments : HaveMoments journals
   pub order : (place : ℕ) → AreInOrder (moments_at journals place)

@@ -1,7 +1,8 @@
 -- The first record of each system: that it can be appended and fits, and what the landscape is that begins so.
 use Rattle.std.specs.Prelude.{slice_get, slice_index_or, map, take, Contains, All, Result, Err}
 use Rattle.std.specs.Int.{w32, to_be_bytes}
-use Rattle.std.proofs.Common.{◌≡◌, ◌≢◌, ℕ, zero, suc, ◌+◌, ◌-◌, ◌<◌, ◌≤◌, Option, Some, None, List, [], ◌∷◌, ◌++◌, length, inl, inr, ◌⊎◌, refl, sym, ap, subst, ◌∙◌, arith, length-append}
+use Rattle.std.proofs.Common.{◌≡◌, ◌≢◌, ℕ, zero, suc, ◌+◌, ◌-◌, ◌<◌, ◌≤◌, Option, Some, None, List, [], ◌∷◌, ◌++◌, length, inl, inr, ◌⊎◌, refl, sym, ap, subst}
+use Rattle.std.proofs.Common.{◌∙◌, arith, length-append}
 use Rattle.std.proofs.lemmas.Bool.{eq-eqb}
 use Rattle.std.proofs.lemmas.List.{append-nil}
 use Rattle.std.proofs.lemmas.List.Elements.{All-nil}
@@ -52,7 +53,13 @@ moment-short (Some moment) = omega arith
 genesis-short : (moment : Option ℕ) (system : ℕ) (text : List ℕ) → length (entry_spelling (entry_with moment (Genesis system text))) ≤ length text + 15
 unfolding an_entry a_record genesis text_kind number sized
 genesis-short moment system text =
-    omega (arith, moment-short moment, length-append (moment_spelling moment) (a_record.spell (Genesis system text)), length-append (to_be_bytes w32 (length text)) text)
+    omega (
+      arith,
+      moment-short moment,
+      length-append (moment_spelling moment) (a_record.spell (Genesis system text)),
+      length-append
+          (to_be_bytes w32 (length text)) text,
+    )
 
 -- ---- a system that is to begin
 
@@ -72,7 +79,8 @@ later-none None = refl
 later-none (Some moment) = refl
 
 module _ {R A E V : Type 0} (meaning : R → Meaning) (lawful : (rules : R) → IsLawful (meaning rules)) (stands : A → List Record → Type 0)
-    (goes_with : A → List Record → Record → E → Type 0) (told : Type 0) (volume : V → ℕ → OneVolume) (kept : KeptOf R A V) (system : ℕ) (text : List ℕ) (extra : E)
+    (goes_with : A → List Record → Record → E → Type 0) (told : Type 0) (volume : V → ℕ → OneVolume) (kept : KeptOf R A V) (system : ℕ) (text : List ℕ)
+    (extra : E)
     (least : 1 ≤ system) (known : IsKept meaning stands told volume kept) (is : IsToBegin stands goes_with kept system text extra) where
   its_state : state_of kept.world.systems system ≡ Some (first_state [])
   its_state = state-at kept.world.systems system least ∙ is.empty
@@ -124,13 +132,15 @@ module _ {R A E V : Type 0} (meaning : R → Meaning) (lawful : (rules : R) → 
   -- a crash leaves the empty log, or the Genesis alone
   pub first-any_moment : (moment : V → ℕ) (images_since : V → ℕ → ℕ → List ℕ → Type 0) (new : V) (same : ℕ) → same ≡ system
       → LeavesOnly moment images_since kept.vols new (system - 1)
-      (IsBeforeOrAfter (entries_at kept.journals (system - 1) (log_of kept.world system)) (entry_with (next_moment kept.journals (system - 1)) (Genesis same text)))
+      (IsBeforeOrAfter (entries_at kept.journals (system - 1) (log_of kept.world system))
+      (entry_with (next_moment kept.journals (system - 1)) (Genesis same text)))
       → LeavesOnly moment images_since kept.vols new (system - 1) (IsBeforeOrAfter [] (entry_with (moment_of kept.journals) (Genesis system text)))
   first-any_moment moment images_since new same number leaves =
       let only : List Entry → Entry → Type 0 = λ entries entry. LeavesOnly moment images_since kept.vols new (system - 1) (IsBeforeOrAfter entries entry) in
       subst (λ entries. only entries (entry_with (moment_of kept.journals) (Genesis system text))) first-entries
       (subst (λ m. only (entries_at kept.journals (system - 1) (log_of kept.world system)) (entry_with m (Genesis system text))) first-moment
-      (subst (λ n. only (entries_at kept.journals (system - 1) (log_of kept.world system)) (entry_with (next_moment kept.journals (system - 1)) (Genesis n text))) number
+      (subst (λ n. only (entries_at kept.journals (system - 1) (log_of kept.world system))
+      (entry_with (next_moment kept.journals (system - 1)) (Genesis n text))) number
       leaves))
 
   -- its volume is large enough
@@ -179,7 +189,8 @@ begun_known : (texts : List (List ℕ)) (system : ℕ) → 1 ≤ system → syst
 begun_known texts zero least most none = omega arith
 begun_known texts (suc k) least most none = begun_within texts 1 k (omega arith) none
 
-none_taken : (text : List ℕ) (n system : ℕ) → All (λ tid. Contains (tids_of (received (take n (genesis_log text system)))) tid) (executed (take n (genesis_log text system)))
+none_taken : (text : List ℕ) (n system : ℕ) →
+    All (λ tid. Contains (tids_of (received (take n (genesis_log text system)))) tid) (executed (take n (genesis_log text system)))
 none_taken text zero system = All-nil _
 none_taken text (suc zero) system = All-nil _
 none_taken text (suc (suc n)) system = All-nil _
@@ -233,4 +244,5 @@ length-begun (text ∷ texts) system = ap suc (length-begun texts (suc system))
 -- the world in which each system has begun is safe
 pub IsSafe-begun : {R : Type 0} (meaning : R → Meaning) (world : World R) → HasBegun (meaning world.rules) world → IsSafe meaning world
 IsSafe-begun meaning world is =
-    Safe-of_logs meaning world.rules (begun_logs 1 is.texts 0) world is.begun (length-begun is.texts 1 ∙ is.all) (Sound-begun is.texts (meaning world.rules) is.all)
+    Safe-of_logs meaning world.rules (begun_logs 1 is.texts 0) world is.begun (length-begun is.texts 1 ∙ is.all)
+    (Sound-begun is.texts (meaning world.rules) is.all)

@@ -34,7 +34,8 @@ module _ {R : Type 0} (rules : R) (texts : List (List ℕ)) (more : ℕ) (world 
 
   -- the next system is up with an empty log
   pub begun-empty : slice_get world.systems (system - 1) ≡ Some (first_state [])
-  begun-empty = ap (λ (w : World R). slice_get w.systems (system - 1)) is ∙ ap (slice_get (begun_world rules texts (suc more)).systems) place ∙ next_state texts 1 more
+  begun-empty = ap (λ (w : World R). slice_get w.systems (system - 1)) is ∙ ap (slice_get (begun_world rules texts (suc more)).systems) place
+      ∙ next_state texts 1 more
 
   -- no unit is claimed
   pub begun-no_claims : world.claims ≡ []

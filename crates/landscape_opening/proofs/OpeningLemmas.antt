@@ -1,6 +1,7 @@
 -- Volumes that are opened one after the other: what is opened stays kept, and the world is one that begins.
 use Rattle.std.specs.Prelude.{slice_get, map, IsErrOf}
-use Rattle.std.proofs.Common.{◌≡◌, ◌≢◌, ℕ, zero, suc, ◌+◌, ◌<◌, Option, Some, List, [], ◌∷◌, ◌++◌, length, inl, inr, Err, refl, sym, ap, subst, ◌∙◌, arith, length-append}
+use Rattle.std.proofs.Common.{◌≡◌, ◌≢◌, ℕ, zero, suc, ◌+◌, ◌<◌, Option, Some, List, [], ◌∷◌, ◌++◌, length, inl, inr, Err, refl, sym, ap, subst, ◌∙◌, arith}
+use Rattle.std.proofs.Common.{length-append}
 use Rattle.std.proofs.lemmas.Bool.{cases_eq, cases_lt, both_ways}
 use Rattle.std.proofs.lemmas.Option.{same_Some, slice_get_within}
 use Rattle.ale_base.proofs.ListLemmas.{slice_get-front}
@@ -151,7 +152,8 @@ begins-opened world begins =
     ap with_opened begins ∙ begun_world-opened world.rules (length world.systems) ∙ ap (begun_world world.rules []) long
 
 -- one system more that is opened leaves all kept
-pub IsOpening-opened : {R A V : Type 0} (meaning : R → Meaning) (lawful : (rules : R) → IsLawful (meaning rules)) (stands : A → List Record → Type 0) (told : Type 0)
+pub IsOpening-opened : {R A V : Type 0} (meaning : R → Meaning) (lawful : (rules : R) → IsLawful (meaning rules)) (stands : A → List Record → Type 0)
+    (told : Type 0)
     (volume : V → ℕ → OneVolume) (before after : KeptOf R A V) (application : A) → IsOpening meaning stands told volume before
     → length before.world.systems < (meaning before.world.rules).systems → stands application []
     → after.world ≡ with_opened before.world → after.tables ≡ before.tables ++ no_tables application ∷ []
@@ -165,10 +167,12 @@ IsOpening-opened {R} {A} meaning lawful stands told volume before after applicat
       kept = record {
         in_step = subst (λ (w : World R). AreInStepWith stands meaning w after.tables) (sym world)
             (subst (λ (t : List (TablesOf A)). AreInStepWith stands meaning (with_opened before.world) t) (sym tables)
-            (in_step-opened stands (meaning before.world.rules) (lawful before.world.rules) before.world.systems before.world.claims before.tables application begins
+            (in_step-opened stands (meaning before.world.rules) (lawful before.world.rules) before.world.systems before.world.claims before.tables application
+            begins
             opening.kept.in_step));
         on_volumes = subst (λ (w : World R). AreOnVolumes told volume after.vols w.systems after.journals) (sym world)
-            (on_volumes-opened told volume before.vols after.vols before.world.systems before.journals after.journals opening.kept.on_volumes (omega (arith, room, most))
+            (on_volumes-opened told volume before.vols after.vols before.world.systems before.journals after.journals opening.kept.on_volumes
+            (omega (arith, room, most))
             next others disk);
         overruns = subst (AreOverrunsOf after.world.systems) (sym none) (overruns-none after.world.systems);
       };
@@ -208,7 +212,8 @@ faults-told {T} why before after n counts = record {
   others = counts.others;
 }
 
-pub sync-told : {D T : Type 0} (volume : D → ℕ → OneVolume) (moment : D → ℕ) (images_since : D → ℕ → ℕ → List ℕ → Type 0) (old new : D) (n : ℕ) (P : List ℕ → Type 0)
+pub sync-told : {D T : Type 0} (volume : D → ℕ → OneVolume) (moment : D → ℕ) (images_since : D → ℕ → ℕ → List ℕ → Type 0) (old new : D) (n : ℕ)
+    (P : List ℕ → Type 0)
     (why : OpenFault) → LeavesOnlyFromSync volume moment images_since old new n (IsErrOf {T = T} (Err why) Volume) P
     → LeavesOnlyFromSync volume moment images_since old new n (why ≡ Volume) P
 sync-told {T = T} volume moment images_since old new n P why (inl failed) = inl (fault-told {T = T} why failed.0, failed.1)

@@ -17,12 +17,14 @@ use Rattle.landscape_opening.specs.declared.beginning.BeginEnd.TheVariants.{Volu
 use Rattle.landscape_opening.specs.Opening.{begun_world}
 
 -- a system is up with an empty log, no unit is claimed, and its Genesis has this text; this was made of it for the application
-pub record IsToBegin {R A E V : Type 0} (stands : A → List Record → Type 0) (goes_with : A → List Record → Record → E → Type 0) (kept : KeptOf R A V) (system : ℕ)
+pub record IsToBegin {R A E V : Type 0} (stands : A → List Record → Type 0) (goes_with : A → List Record → Record → E → Type 0) (kept : KeptOf R A V)
+    (system : ℕ)
     (text : List ℕ) (extra : E) : Type 0 where
   pub empty : slice_get kept.world.systems (system - 1) ≡ Some (first_state [])
   pub no_claims : kept.world.claims ≡ []
   pub text_most : length text ≤ MOST_TEXT
-  pub goes : (its : TablesOf A) → slice_get kept.tables (system - 1) ≡ Some its → stands its.application [] → goes_with its.application [] (Genesis system text) extra
+  pub goes : (its : TablesOf A) → slice_get kept.tables (system - 1) ≡ Some its → stands its.application [] →
+      goes_with its.application [] (Genesis system text) extra
 
 -- the log at a place has one moment, the one that was set, and all other journals are as before
 pub record HasFirst (place : ℕ) (before after : SystemJournals) : Type 0 where

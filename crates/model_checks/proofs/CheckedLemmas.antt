@@ -10,13 +10,15 @@ use Rattle.model_keys.proofs.KeepsLemmas.{from_bind, within-ok}
 use Rattle.model_checks.specs.Checked.{checked}
 
 module _ {A : Type 0} (key : List ℕ) (test : A → Result Bool Finding) where
-  goes : (place : ℕ) (a : A) (rest : List A) (total : Result Bool Finding) → test a ≡ Ok true → checked key test place (a ∷ rest) ≡ total → checked key test (suc place) rest ≡ total
+  goes : (place : ℕ) (a : A) (rest : List A) (total : Result Bool Finding) → test a ≡ Ok true → checked key test place (a ∷ rest) ≡ total →
+      checked key test (suc place) rest ≡ total
   unfolding checked
   goes place a rest total is so_far =
       let one : checked key test place (a ∷ rest) ≡ checked key test (suc place) rest = rw is in
       sym one ∙ so_far
 
-  fails : (e out : ReadError) (place : ℕ) (a : A) (rest : List A) (total : Result Bool Finding) → Fails e (test a) → Deepens key place e out → checked key test place (a ∷ rest) ≡ total → Fails out total
+  fails : (e out : ReadError) (place : ℕ) (a : A) (rest : List A) (total : Result Bool Finding) → Fails e (test a) → Deepens key place e out →
+      checked key test place (a ∷ rest) ≡ total → Fails out total
   unfolding checked
   fails errors.Memory out place a rest total is deep so_far = rw deep tt
   fails (errors.Found f) errors.Memory place a rest total is deep so_far = tt

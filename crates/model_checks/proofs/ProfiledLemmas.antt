@@ -15,7 +15,8 @@ use Rattle.model_checks.specs.Profiled.{all_profiled, profiled}
 use Rattle.model_checks.proofs.CheckedLemmas.{checked-keeps}
 
 -- a row has one of some ways as it has one of others that are found as these are
-pub profiled-same : (ways others : List Way) → ((way : Way) → list_any (same_triple way) ways ≡ list_any (same_triple way) others) → (row : Row) → profiled ways row ≡ profiled others row
+pub profiled-same : (ways others : List Way) → ((way : Way) → list_any (same_triple way) ways ≡ list_any (same_triple way) others) → (row : Row) →
+    profiled ways row ≡ profiled others row
 unfolding profiled
 profiled-same ways others same row = ap (check Missing []) (same (row_way row))
 

@@ -1,7 +1,8 @@
 -- Tables of what was added to them.
 use Rattle.std.specs.Prelude.{is_some}
 use Rattle.std.specs.List.{list_any}
-use Rattle.std.proofs.Common.{◌≡◌, ℕ, suc, ◌||◌, ◌&&◌, not, nat_eq, Bool, true, false, List, [], ◌∷◌, ◌++◌, position, Option, Some, None, refl, sym, ap, ◌∙◌, inl, inr, arith}
+use Rattle.std.proofs.Common.{◌≡◌, ℕ, suc, ◌||◌, ◌&&◌, not, nat_eq, Bool, true, false, List, [], ◌∷◌, ◌++◌, position, Option, Some, None, refl, sym, ap, ◌∙◌}
+use Rattle.std.proofs.Common.{inl, inr, arith}
 use Rattle.std.specs.Option.{option_map}
 use Rattle.std.proofs.lemmas.Bool.{cases_Bool, and_parts}
 use Rattle.std.proofs.lemmas.Bool.Decides.{nat_tests}
@@ -55,9 +56,11 @@ pub any-added : {K : Type 0} (same : K → K → Bool) → Decides same → (tab
     → ((k : K) → list_any (same k) table ≡ list_any (same k) keys) → new ≡ not (list_any (same key) table)
     → (new ≡ true → out ≡ table ++ key ∷ []) → (new ≡ false → out ≡ table) → (k : K) → list_any (same k) out ≡ list_any (same k) (keys ++ key ∷ [])
 any-added same decides table out keys key true so_far told added known k =
-    ap (list_any (same k)) (added refl) ∙ list_any-append (same k) table (key ∷ []) ∙ ap (λ b. b || list_any (same k) (key ∷ [])) (so_far k) ∙ sym (list_any-append (same k) keys (key ∷ []))
+    ap (list_any (same k)) (added refl) ∙ list_any-append (same k) table (key ∷ []) ∙ ap (λ b. b || list_any (same k) (key ∷ [])) (so_far k)
+    ∙ sym (list_any-append (same k) keys (key ∷ []))
 any-added same decides table out keys key false so_far told added known k =
-    ap (list_any (same k)) (known refl) ∙ so_far k ∙ sym (list_any-append (same k) keys (key ∷ []) ∙ or_true (list_any (same k) keys) (list_any (same k) (key ∷ [])) covered)
+    ap (list_any (same k)) (known refl) ∙ so_far k
+    ∙ sym (list_any-append (same k) keys (key ∷ []) ∙ or_true (list_any (same k) keys) (list_any (same k) (key ∷ [])) covered)
   where
     there : (b : Bool) → false ≡ not b → b ≡ true
     there true e = refl

@@ -16,10 +16,12 @@ use Rattle.dist_model.specs.declared.message.PostingMode.TheVariants.{Upsert, In
 use Rattle.dist_model.specs.declared.message.Reduced.{Reduced}
 use Rattle.dist_model.specs.declared.system.System.{System}
 use Rattle.model_growth.specs.Named.{idoc_type_name, kind_name, message_name, named_entry, named_field, type_name}
-use Rattle.model_growth.specs.Tests.{keeps_entry, keeps_field, keeps_idoc_type, keeps_kind, keeps_message, keeps_reduced, keeps_system, keeps_type, same_field, same_posting, same_version}
+use Rattle.model_growth.specs.Tests.{keeps_entry, keeps_field, keeps_idoc_type, keeps_kind, keeps_message, keeps_reduced, keeps_system, keeps_type, same_field}
+use Rattle.model_growth.specs.Tests.{same_posting, same_version}
 use Rattle.model_growth.specs.Kept.{IdocTypeKept, KindKept, MessageKept, ReducedKept, TypeKept}
 use Rattle.model_growth.specs.Growth.{name_and_client}
-use Rattle.model_growth.proofs.DecidedLemmas.{IsDecided, bool_decided, both_decided, decided_as, list_decided, map_decided, number_decided, option_decided, prefix_decided, text_decided}
+use Rattle.model_growth.proofs.DecidedLemmas.{IsDecided, bool_decided, both_decided, decided_as, list_decided, map_decided, number_decided, option_decided}
+use Rattle.model_growth.proofs.DecidedLemmas.{prefix_decided, text_decided}
 
 pub system_decided : (system other : System) → IsDecided (keeps_system system other) (name_and_client system ≡ name_and_client other)
 system_decided system other =

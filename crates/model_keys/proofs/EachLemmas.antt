@@ -36,11 +36,13 @@ module _ {A : Type 0} (key : List ℕ) (read : List A → Data → Result A Find
 module _ {A : Type 0} (key : List ℕ) (read : List A → Data → Result A Finding) (values : List Value) (place : ℕ) (total : Result (List A) Finding) where
   at_item : (done : List A) (v : Value) → v ≡ get_or values place v → place < length values
       → each key read place done (items_view (drop place values)) ≡ each key read place done (item (view v) (items_view (drop (place + 1) values)))
-  at_item done v there more = ap (each key read place done) (items_view-drop values place v more ∙ ap (λ w. item (view w) (items_view (drop (place + 1) values))) (sym there))
+  at_item done v there more = ap (each key read place done)
+      (items_view-drop values place v more ∙ ap (λ w. item (view w) (items_view (drop (place + 1) values))) (sym there))
 
   -- one more element of the list was read
   pub loop-goes : (done : List A) (v : Value) (a : A) → v ≡ get_or values place v → place < length values → read done (view v) ≡ Ok a
-      → each key read place done (items_view (drop place values)) ≡ total → each key read (place + 1) (done ++ a ∷ []) (items_view (drop (place + 1) values)) ≡ total
+      → each key read place done (items_view (drop place values)) ≡ total → each key read (place + 1) (done ++ a ∷ []) (items_view (drop (place + 1) values))
+      ≡ total
   loop-goes done v a there more is so_far =
       let next : place + 1 ≡ suc place = omega arith in
       ap (λ k. each key read k (done ++ a ∷ []) (items_view (drop (place + 1) values))) next
@@ -54,4 +56,5 @@ module _ {A : Type 0} (key : List ℕ) (read : List A → Data → Result A Find
 
   -- all were read
   pub loop-ends : (done : List A) → length values ≤ place → each key read place done (items_view (drop place values)) ≡ total → total ≡ Ok done
-  loop-ends done all so_far = each-ends key read place done total (ap (λ vs. each key read place done (items_view vs)) (sym (drop_all place values all)) ∙ so_far)
+  loop-ends done all so_far = each-ends key read place done total (ap (λ vs. each key read place done (items_view vs)) (sym (drop_all place values all))
+      ∙ so_far)

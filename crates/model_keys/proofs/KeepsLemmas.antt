@@ -1,7 +1,8 @@
 -- What is known of a value that a reading gave.
 use Rattle.std.specs.Prelude.{IsTrue}
 use Rattle.std.specs.List.{list_any}
-use Rattle.std.proofs.Common.{◌≡◌, ℕ, ℤ, pos, negsuc, suc, ◌+◌, ◌≤◌, ◌&&◌, nat_le, Bool, true, false, cond, Option, Some, None, Result, Ok, Err, List, [], ◌∷◌, ◌++◌, length, position, refl, sym, ap, subst, ◌∙◌, arith}
+use Rattle.std.proofs.Common.{◌≡◌, ℕ, ℤ, pos, negsuc, suc, ◌+◌, ◌≤◌, ◌&&◌, nat_le, Bool, true, false, cond, Option, Some, None, Result, Ok, Err, List, [], ◌∷◌}
+use Rattle.std.proofs.Common.{◌++◌, length, position, refl, sym, ap, subst, ◌∙◌, arith}
 use Rattle.std.proofs.lemmas.Bool.{and_parts}
 use Rattle.std.proofs.lemmas.Bool.Decides.{nat_tests}
 use Rattle.std.proofs.lemmas.List.{length-append}
@@ -15,7 +16,8 @@ use Rattle.model_keys.specs.declared.finding.Finding.{Finding}
 use Rattle.model_keys.specs.Finding.{◌>>=◌, at, check, required, within}
 use Rattle.model_keys.specs.Each.{each}
 use Rattle.model_keys.specs.Says.{HasList, HasText, SaysPlace}
-use Rattle.model_keys.specs.Keys.{items_len, list_of, list_or_none_at, name_at, name_of, new_name, new_name_at, new_name_of, new_segment_name_at, number_in, number_of, or_else, reference_at, segment_name_at, segment_name_of, segment_type_at, some_list_at, some_list_of, value_at}
+use Rattle.model_keys.specs.Keys.{items_len, list_of, list_or_none_at, name_at, name_of, new_name, new_name_at, new_name_of, new_segment_name_at, number_in}
+use Rattle.model_keys.specs.Keys.{number_of, or_else, reference_at, segment_name_at, segment_name_of, segment_type_at, some_list_at, some_list_of, value_at}
 
 -- a reading that went on gave a value
 pub from_bind : {A B : Type 0} (r : Result A Finding) (f : A → Result B Finding) (y : B) → (r >>= f) ≡ Ok y → (x : A) × (r ≡ Ok x) × (f x ≡ Ok y)
@@ -62,14 +64,16 @@ module _ {A : Type 0} (key : List ℕ) (read : List A → Data → Result A Find
       each-length (suc place) (done ++ a ∷ []) ds all rest ∙ omega (arith, length-append done (a ∷ []))
 
 -- names of a form
-pub name_of-keeps : (longest : ℕ) (path : List ℕ) (d : Data) (name : List ℕ) → name_of longest path d ≡ Ok name → (as_str d ≡ Some name) × IsTrue (is_name_within longest name)
+pub name_of-keeps : (longest : ℕ) (path : List ℕ) (d : Data) (name : List ℕ) → name_of longest path d ≡ Ok name →
+    (as_str d ≡ Some name) × IsTrue (is_name_within longest name)
 unfolding name_of
 name_of-keeps longest path d name h =
     let (text, t, g) = from_bind (required Wrong path (as_str d)) (λ text. cond (is_name_within longest text) (Ok text) (Err (at Wrong path))) name h in
     let (passes, e) = tested (is_name_within longest text) text name (at Wrong path) g in
     (required-ok Wrong path (as_str d) text t ∙ ap Some e, subst (λ n. IsTrue (is_name_within longest n)) e passes)
 
-pub segment_name_of-keeps : (path : List ℕ) (d : Data) (name : List ℕ) → segment_name_of path d ≡ Ok name → (as_str d ≡ Some name) × IsTrue (is_segment_name name)
+pub segment_name_of-keeps : (path : List ℕ) (d : Data) (name : List ℕ) → segment_name_of path d ≡ Ok name →
+    (as_str d ≡ Some name) × IsTrue (is_segment_name name)
 unfolding segment_name_of
 segment_name_of-keeps path d name h =
     let (text, t, g) = from_bind (required Wrong path (as_str d)) (λ text. cond (is_segment_name text) (Ok text) (Err (at Wrong path))) name h in
@@ -80,14 +84,16 @@ pub value_at-keeps : (key : List ℕ) (table : Members) (d : Data) → value_at 
 unfolding value_at
 value_at-keeps key table d h = required-ok Missing key (get_member key table) d h
 
-pub name_at-keeps : (longest : ℕ) (key : List ℕ) (table : Members) (name : List ℕ) → name_at longest key table ≡ Ok name → HasText key table name × IsTrue (is_name_within longest name)
+pub name_at-keeps : (longest : ℕ) (key : List ℕ) (table : Members) (name : List ℕ) → name_at longest key table ≡ Ok name →
+    HasText key table name × IsTrue (is_name_within longest name)
 unfolding name_at
 name_at-keeps longest key table name h =
     let (d, t, g) = from_bind (value_at key table) (λ d. name_of longest key d) name h in
     let (is, named) = name_of-keeps longest key d name g in
     ((d, value_at-keeps key table d t, is), named)
 
-pub segment_name_at-keeps : (key : List ℕ) (table : Members) (name : List ℕ) → segment_name_at key table ≡ Ok name → HasText key table name × IsTrue (is_segment_name name)
+pub segment_name_at-keeps : (key : List ℕ) (table : Members) (name : List ℕ) → segment_name_at key table ≡ Ok name →
+    HasText key table name × IsTrue (is_segment_name name)
 unfolding segment_name_at
 segment_name_at-keeps key table name h =
     let (d, t, g) = from_bind (value_at key table) (λ d. segment_name_of key d) name h in
@@ -95,7 +101,8 @@ segment_name_at-keeps key table name h =
     ((d, value_at-keeps key table d t, is), named)
 
 -- a new name
-pub new_name-keeps : (path : List ℕ) (names : List (List ℕ)) (text name : List ℕ) → new_name path names text ≡ Ok name → (text ≡ name) × (list_any (is_text name) names ≡ false)
+pub new_name-keeps : (path : List ℕ) (names : List (List ℕ)) (text name : List ℕ) → new_name path names text ≡ Ok name →
+    (text ≡ name) × (list_any (is_text name) names ≡ false)
 unfolding new_name
 new_name-keeps path names text name h =
     let (new, e) = untested (list_any (is_text text) names) text name (at Twice path) h in
@@ -157,7 +164,8 @@ list_of-keeps most key d ds h =
     least : (a b : ℕ) → nat_le a b ≡ true → a ≤ b
     least a b is = grind (arith, nat_tests)
 
-pub some_list_at-keeps : (most : ℕ) (key : List ℕ) (table : Members) (ds : Items) → some_list_at most key table ≡ Ok ds → HasList key table ds × (1 ≤ items_len ds) × (items_len ds ≤ most)
+pub some_list_at-keeps : (most : ℕ) (key : List ℕ) (table : Members) (ds : Items) → some_list_at most key table ≡ Ok ds →
+    HasList key table ds × (1 ≤ items_len ds) × (items_len ds ≤ most)
 unfolding some_list_at some_list_of
 some_list_at-keeps most key table ds h =
     let (d, t, g) = from_bind (value_at key table) (λ d. list_of most key d >>= (λ es. cond (nat_le 1 (items_len es)) (Ok es) (Err (at Wrong key)))) ds h in
@@ -188,7 +196,8 @@ number_in-keeps least most path (pos k) n h =
     under a b is = grind (arith, nat_tests)
 number_in-keeps least most path (negsuc k) n h = absurd (cc)
 
-pub number_of-keeps : (least most : ℕ) (path : List ℕ) (d : Data) (n : ℕ) → number_of least most path d ≡ Ok n → (as_integer d ≡ Some (pos n)) × (least ≤ n) × (n ≤ most)
+pub number_of-keeps : (least most : ℕ) (path : List ℕ) (d : Data) (n : ℕ) → number_of least most path d ≡ Ok n →
+    (as_integer d ≡ Some (pos n)) × (least ≤ n) × (n ≤ most)
 unfolding number_of
 number_of-keeps least most path d n h =
     let (z, t, g) = from_bind (required Wrong path (as_integer d)) (λ z. number_in least most path z) n h in

@@ -25,14 +25,17 @@ items_len_view (v ∷ vs) = ap suc (items_len_view vs)
 not-leb : (a b : ℕ) → b < a → nat_le a b ≡ false
 not-leb a b h = grind (arith, nat_tests)
 
-pub list_of-long : (most : ℕ) (key : List ℕ) (v : Value) (array : Vec Value Global) → v ≡ ArrayCase array → most < length array.items → list_of most key (view v) ≡ Err (at Limit key)
+pub list_of-long : (most : ℕ) (key : List ℕ) (v : Value) (array : Vec Value Global) → v ≡ ArrayCase array → most < length array.items →
+    list_of most key (view v) ≡ Err (at Limit key)
 unfolding list_of
 list_of-long most key v array is long = rw (is, view-Array array, items_len_view array.items, not-leb (length array.items) most long)
 
-pub list_of-short : (most : ℕ) (key : List ℕ) (v : Value) (array : Vec Value Global) → v ≡ ArrayCase array → length array.items ≤ most → list_of most key (view v) ≡ Ok (items_view array.items)
+pub list_of-short : (most : ℕ) (key : List ℕ) (v : Value) (array : Vec Value Global) → v ≡ ArrayCase array → length array.items ≤ most →
+    list_of most key (view v) ≡ Ok (items_view array.items)
 unfolding list_of
 list_of-short most key v array is short = rw (is, view-Array array, items_len_view array.items, le-leb (length array.items) most short)
 
-pub some_list_of-some : (most : ℕ) (key : List ℕ) (d : Data) (vs : List Value) → list_of most key d ≡ Ok (items_view vs) → 1 ≤ length vs → some_list_of most key d ≡ Ok (items_view vs)
+pub some_list_of-some : (most : ℕ) (key : List ℕ) (d : Data) (vs : List Value) → list_of most key d ≡ Ok (items_view vs) → 1 ≤ length vs →
+    some_list_of most key d ≡ Ok (items_view vs)
 unfolding some_list_of
 some_list_of-some most key d vs is some = rw (is, items_len_view vs, le-leb 1 (length vs) some)

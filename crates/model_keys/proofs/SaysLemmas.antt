@@ -1,7 +1,8 @@
 -- What a text says of values that were read.
 use Rattle.std.specs.Prelude.{codes, slice_get, MatchOption}
 use Rattle.std.specs.Option.{option_and_then}
-use Rattle.std.proofs.Common.{◌≡◌, ℕ, suc, nat_eq, Bool, true, false, Option, Some, None, Result, Ok, List, [], ◌∷◌, ◌++◌, position, get_or, refl, sym, ap, subst, ◌∙◌, append_assoc, append-nil, arith}
+use Rattle.std.proofs.Common.{◌≡◌, ℕ, suc, nat_eq, Bool, true, false, Option, Some, None, Result, Ok, List, [], ◌∷◌, ◌++◌, position, get_or, refl, sym, ap}
+use Rattle.std.proofs.Common.{subst, ◌∙◌, append_assoc, append-nil, arith}
 use Rattle.std.proofs.lemmas.Bool.Decides.{nat_tests}
 use Rattle.std.proofs.lemmas.List.Quantifiers.{position-Some}
 use Rattle.std.proofs.lemmas.Option.{slice_get-get_or}
@@ -15,8 +16,10 @@ use Rattle.model_keys.specs.Says.{HasList, HasListOrNone, OneForOne}
 use Rattle.model_keys.proofs.KeepsLemmas.{from_bind, list_of-keeps, required-ok, value_at-keeps, within-ok}
 
 -- the elements of a list that was read say its values one for one
-module _ {A : Type 0} (key : List ℕ) (read : List A → Data → Result A Finding) (says : List A → Data → A → Type 0) (one : (done : List A) (d : Data) (a : A) → read done d ≡ Ok a → says done d a) where
-  pub each-says : (place : ℕ) (done : List A) (ds : Items) (all : List A) → each key read place done ds ≡ Ok all → (more : List A) × (all ≡ done ++ more) × OneForOne says done ds more
+module _ {A : Type 0} (key : List ℕ) (read : List A → Data → Result A Finding) (says : List A → Data → A → Type 0)
+    (one : (done : List A) (d : Data) (a : A) → read done d ≡ Ok a → says done d a) where
+  pub each-says : (place : ℕ) (done : List A) (ds : Items) (all : List A) → each key read place done ds ≡ Ok all →
+      (more : List A) × (all ≡ done ++ more) × OneForOne says done ds more
   unfolding each
   each-says place done no_items all h = let e : done ≡ all = cc in ([], sym e ∙ sym (append-nil done), tt)
   each-says place done (item d ds) all h =
@@ -58,13 +61,15 @@ and_then-found f (Some x) y h = (x, refl, h)
 and_then-found f None y h = absurd (cc)
 
 -- a truth value, or none
-pub bool_found-says : (key : List ℕ) (found : Option Data) (is : Bool) → or_else false (bool_of key) found ≡ Ok is → MatchOption found (is ≡ false) (λ d. as_bool d ≡ Some is)
+pub bool_found-says : (key : List ℕ) (found : Option Data) (is : Bool) → or_else false (bool_of key) found ≡ Ok is →
+    MatchOption found (is ≡ false) (λ d. as_bool d ≡ Some is)
 unfolding bool_of
 bool_found-says key None is h = cc
 bool_found-says key (Some d) is h = required-ok Wrong key (as_bool d) is h
 
 -- a list, or none
-pub list_or_none-says : (most : ℕ) (key : List ℕ) (found : Option Data) (ds : Items) → or_else no_items (list_of most key) found ≡ Ok ds → MatchOption found (ds ≡ no_items) (λ d. as_array d ≡ Some ds)
+pub list_or_none-says : (most : ℕ) (key : List ℕ) (found : Option Data) (ds : Items) → or_else no_items (list_of most key) found ≡ Ok ds →
+    MatchOption found (ds ≡ no_items) (λ d. as_array d ≡ Some ds)
 list_or_none-says most key None ds h = cc
 list_or_none-says most key (Some d) ds h = (list_of-keeps most key d ds h).0
 

@@ -9,7 +9,8 @@ use Rattle.segment_defs.proofs.NameLemmas.{position-map, position-name}
 use Rattle.model_messages.specs.Fields.{field_named, field_names}
 
 -- the field of a name
-pub field_named-keeps : (fields : List Field) (name : List ℕ) (place : ℕ) → field_named fields name ≡ Some place → slice_get (field_names fields) place ≡ Some name
+pub field_named-keeps : (fields : List Field) (name : List ℕ) (place : ℕ) → field_named fields name ≡ Some place →
+    slice_get (field_names fields) place ≡ Some name
 field_named-keeps fields name place found =
     position-name name (field_names fields) place (sym (position-map (λ (field : Field). field.name) (is_text name) fields) ∙ found)
 

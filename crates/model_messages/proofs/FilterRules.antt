@@ -26,7 +26,8 @@ use Rattle.model_keys.specs.Finding.{at, required}
 use Rattle.model_keys.specs.Each.{each}
 use Rattle.model_keys.specs.Keys.{entry_of, list_or_none_at, name_at, segment_type_at}
 use Rattle.model_keys.specs.Says.{HasText, SaysListOrNone, SaysPlace}
-use Rattle.model_keys.proofs.KeepsLemmas.{each-invariant, each-length, from_bind, list_or_none_at-keeps, name_at-keeps, required-ok, segment_type_at-keeps, tested, untested}
+use Rattle.model_keys.proofs.KeepsLemmas.{each-invariant, each-length, from_bind, list_or_none_at-keeps, name_at-keeps, required-ok, segment_type_at-keeps}
+use Rattle.model_keys.proofs.KeepsLemmas.{tested, untested}
 use Rattle.model_keys.proofs.SaysLemmas.{all-says, entry_of-table, list_or_none-says}
 use Rattle.model_messages.specs.declared.keys.TheConstants.{FIELD, FILTER, FILTER_KEYS, MESSAGE, NAME, SEGMENT}
 use Rattle.model_messages.specs.Fields.{field_named, field_names}
@@ -53,14 +54,17 @@ head_at-keeps messages filters table head h =
     let (new, e) = untested (list_any (is_filter message.0 name) filters) (name, message) head (at Twice NAME.now) h2 in
     let named = name_at-keeps LONGEST_NAME NAME.now table name n in
     let (says, here) = thing_at-keeps MESSAGE.now (message_names messages) messages table message m in
-    subst (λ (head : List ℕ × (ℕ × Message)). IsHead messages filters table head.0 head.1.0 head.1.1) e (record { text = named.0; named = named.1; says = says; here = here; new = new })
+    subst (λ (head : List ℕ × (ℕ × Message)). IsHead messages filters table head.0 head.1.0 head.1.1) e
+    (record { text = named.0; named = named.1; says = says; here = here; new = new })
 
-type_among_at-keeps : (definitions : Definitions) (entries : List TypePlace) (table : Members) (segment : ℕ) → type_among_at definitions entries table ≡ Ok segment
+type_among_at-keeps : (definitions : Definitions) (entries : List TypePlace) (table : Members) (segment : ℕ) →
+    type_among_at definitions entries table ≡ Ok segment
     → SaysPlace (type_names definitions.types) SEGMENT.now table segment × HasEntry entries segment
 unfolding type_among_at
 type_among_at-keeps definitions entries table segment h =
     let names = type_names definitions.types in
-    let (number, s, g) = from_bind (segment_type_at SEGMENT.now names table) (λ number. cond (is_some (entry_of_type entries number)) (Ok number) (Err (at Wrong SEGMENT.now))) segment h in
+    let (number, s, g) = from_bind (segment_type_at SEGMENT.now names table)
+    (λ number. cond (is_some (entry_of_type entries number)) (Ok number) (Err (at Wrong SEGMENT.now))) segment h in
     let (is, e) = tested (is_some (entry_of_type entries number)) number segment (at Wrong SEGMENT.now) g in
     subst (λ k. SaysPlace names SEGMENT.now table k × HasEntry entries k) e (segment_type_at-keeps SEGMENT.now names table number s, is)
 
@@ -69,11 +73,16 @@ field_at-keeps : (definitions : Definitions) (segment : ℕ) (table : Members) (
 unfolding field_at
 field_at-keeps definitions segment table field h =
     let fields = all_fields definitions segment in
-    let (name, n, g) = from_bind (name_at LONGEST_NAME FIELD.now table) (λ name. required Unknown FIELD.now (field_named fields name)) field h in
-    (name, (name_at-keeps LONGEST_NAME FIELD.now table name n).0, field_named-keeps fields name field (required-ok Unknown FIELD.now (field_named fields name) field g))
+    let (name, n, g) = from_bind (name_at LONGEST_NAME FIELD.now table) (λ name. required Unknown FIELD.now (field_named fields name)) field h in (
+      name,
+      (name_at-keeps LONGEST_NAME FIELD.now table name n).0,
+      field_named-keeps fields name field
+          (required-ok Unknown FIELD.now (field_named fields name) field g),
+    )
 
 -- one more filter behind others
-record IsNextFilter (definitions : Definitions) (types : List IdocType) (messages : List Message) (before : List Filter) (d : Data) (filter : Filter) : Type 0 where
+record IsNextFilter (definitions : Definitions) (types : List IdocType) (messages : List Message) (before : List Filter) (d : Data)
+    (filter : Filter) : Type 0 where
   is : IsFilter definitions types messages filter
   new : list_any (same_filter filter) before ≡ false
   says : SaysFilter definitions messages before d filter
@@ -101,7 +110,14 @@ filter_of-keeps definitions types messages before d filter h =
         };
       };
       new = is.new;
-      says = record { table = table; is = entry_of-table (map (λ key. key.now) FILTER_KEYS) d table t; name = is.text; message = is.says; segment = typed.0; field = named };
+      says = record {
+        table = table;
+        is = entry_of-table (map (λ key. key.now) FILTER_KEYS) d table t;
+        name = is.text;
+        message = is.says;
+        segment = typed.0;
+        field = named;
+      };
     })
 
 both_false : (a b c d : Bool) → (a ≡ false → c ≡ false) → (b ≡ false → d ≡ false) → (a && b) ≡ false → (c && d) ≡ false
@@ -115,14 +131,16 @@ both_false false b c d first second h = rw (first refl) refl
 
 same_filter-symmetric : Symmetric same_filter
 same_filter-symmetric a b differs =
-    both_false (nat_eq a.message b.message) (is_text a.name b.name) (nat_eq b.message a.message) (is_text b.name a.name) (nat_eq-symmetric a.message b.message) (is_text-symmetric a.name b.name) differs
+    both_false (nat_eq a.message b.message) (is_text a.name b.name) (nat_eq b.message a.message) (is_text b.name a.name) (nat_eq-symmetric a.message b.message)
+    (is_text-symmetric a.name b.name) differs
 
 -- what filters are, so far
 record AreFiltersSoFar (definitions : Definitions) (types : List IdocType) (messages : List Message) (filters : List Filter) : Type 0 where
   each : AllByRecursion (IsFilter definitions types messages) filters
   apart : IsDistinct same_filter filters
 
-filters-push : (definitions : Definitions) (types : List IdocType) (messages : List Message) (before : List Filter) (d : Data) (filter : Filter) → AreFiltersSoFar definitions types messages before
+filters-push : (definitions : Definitions) (types : List IdocType) (messages : List Message) (before : List Filter) (d : Data) (filter : Filter) →
+    AreFiltersSoFar definitions types messages before
     → IsNextFilter definitions types messages before d filter → AreFiltersSoFar definitions types messages (before ++ filter ∷ [])
 filters-push definitions types messages before d filter are next = record {
   each = AllByRecursion-snoc (IsFilter definitions types messages) before filter are.each next.is;
@@ -130,7 +148,8 @@ filters-push definitions types messages before d filter are next = record {
 }
 
 -- filters that were read keep the rules of filters
-pub filters_at-keeps : (definitions : Definitions) (types : List IdocType) (messages : List Message) (table : Members) (filters : List Filter) → filters_at definitions types messages table ≡ Ok filters
+pub filters_at-keeps : (definitions : Definitions) (types : List IdocType) (messages : List Message) (table : Members) (filters : List Filter) →
+    filters_at definitions types messages table ≡ Ok filters
     → AreFilters definitions types messages filters
 unfolding filters_at IsDistinct
 filters_at-keeps definitions types messages table filters h =
@@ -144,7 +163,8 @@ filters_at-keeps definitions types messages table filters h =
     record { few = omega (arith, long, few); each = are.each; apart = are.apart }
 
 -- and are what the text says
-pub filters_at-says : (definitions : Definitions) (types : List IdocType) (messages : List Message) (table : Members) (filters : List Filter) → filters_at definitions types messages table ≡ Ok filters
+pub filters_at-says : (definitions : Definitions) (types : List IdocType) (messages : List Message) (table : Members) (filters : List Filter) →
+    filters_at definitions types messages table ≡ Ok filters
     → SaysListOrNone (SaysFilter definitions messages) FILTER.now table filters
 unfolding filters_at list_or_none_at
 filters_at-says definitions types messages table filters h =
@@ -152,10 +172,12 @@ filters_at-says definitions types messages table filters h =
     let (ds, l, g) = from_bind (list_or_none_at MOST_FILTERS FILTER.now table) (λ ds. each FILTER.now read 0 [] ds) filters h in (
       ds,
       list_or_none-says MOST_FILTERS FILTER.now (get_member FILTER.now table) ds l,
-      all-says FILTER.now read (SaysFilter definitions messages) (λ done d filter is. (filter_of-keeps definitions types messages done d filter is).says) ds filters g,
+      all-says FILTER.now read (SaysFilter definitions messages) (λ done d filter is. (filter_of-keeps definitions types messages done d filter is).says) ds
+          filters g,
     )
 
 -- the list at the key is the one that is read
-pub filters_at-list : (definitions : Definitions) (types : List IdocType) (messages : List Message) (table : Members) (ds : Items) → list_or_none_at MOST_FILTERS FILTER.now table ≡ Ok ds → filters_at definitions types messages table ≡ filters_of definitions types messages ds
+pub filters_at-list : (definitions : Definitions) (types : List IdocType) (messages : List Message) (table : Members) (ds : Items) →
+    list_or_none_at MOST_FILTERS FILTER.now table ≡ Ok ds → filters_at definitions types messages table ≡ filters_of definitions types messages ds
 unfolding filters_at
 filters_at-list definitions types messages table ds is = rw is refl

@@ -22,7 +22,8 @@ use Rattle.model_keys.specs.Finding.{required}
 use Rattle.model_keys.specs.Each.{each}
 use Rattle.model_keys.specs.Keys.{entry_of, list_or_none_at, name_at, new_name_at, segment_type_at}
 use Rattle.model_keys.specs.Says.{SaysListOrNone, SaysPlace}
-use Rattle.model_keys.proofs.KeepsLemmas.{each-invariant, each-length, from_bind, list_or_none_at-keeps, name_at-keeps, new_name_at-keeps, required-ok, segment_type_at-keeps}
+use Rattle.model_keys.proofs.KeepsLemmas.{each-invariant, each-length, from_bind, list_or_none_at-keeps, name_at-keeps, new_name_at-keeps, required-ok}
+use Rattle.model_keys.proofs.KeepsLemmas.{segment_type_at-keeps}
 use Rattle.model_keys.proofs.SaysLemmas.{all-says, entry_of-table, list_or_none-says}
 use Rattle.model_messages.specs.declared.keys.TheConstants.{KEY, KIND, KIND_KEYS, NAME, SEGMENT}
 use Rattle.model_messages.specs.Fields.{field_named, field_names}
@@ -44,7 +45,8 @@ record IsNextKind (definitions : Definitions) (before : List Kind) (d : Data) (k
   new : list_any (is_text kind.name) (kind_names before) ≡ false
   says : SaysKind definitions before d kind
 
-kind_of-keeps : (definitions : Definitions) (before : List Kind) (d : Data) (kind : Kind) → kind_of definitions (kind_names before) d ≡ Ok kind → IsNextKind definitions before d kind
+kind_of-keeps : (definitions : Definitions) (before : List Kind) (d : Data) (kind : Kind) → kind_of definitions (kind_names before) d ≡ Ok kind →
+    IsNextKind definitions before d kind
 unfolding kind_of
 kind_of-keeps definitions before d kind h =
     let (table, t, h1) = from_bind (entry_of (map (λ key. key.now) KIND_KEYS) d) _ kind h in
@@ -58,7 +60,8 @@ kind_of-keeps definitions before d kind h =
     subst (IsNextKind definitions before d) e (record {
       is = record {
         named = (IsName_decided name).0 new.1;
-        known = subst (λ many. segment < many) (length-map definitions.types (λ (type : SegmentType). type.name)) (slice_get_within (type_names definitions.types) segment typed.0 typed.2);
+        known = subst (λ many. segment < many) (length-map definitions.types (λ (type : SegmentType). type.name))
+            (slice_get_within (type_names definitions.types) segment typed.0 typed.2);
         key = field_there (first_fields (versions_of definitions segment)) keyed.0 key keyed.2;
       };
       new = new.0.new;
@@ -74,7 +77,8 @@ kinds-push : (definitions : Definitions) (before : List Kind) (d : Data) (kind :
     → AreKindsSoFar definitions (before ++ kind ∷ [])
 kinds-push definitions before d kind are next = record {
   each = AllByRecursion-snoc (IsKind definitions) before kind are.each next.is;
-  apart = subst (IsDistinct is_text) (sym (map_push (λ (k : Kind). k.name) before kind)) (IsDistinct-push is_text is_text-symmetric (kind_names before) kind.name are.apart next.new);
+  apart = subst (IsDistinct is_text) (sym (map_push (λ (k : Kind). k.name) before kind))
+      (IsDistinct-push is_text is_text-symmetric (kind_names before) kind.name are.apart next.new);
 }
 
 -- kinds that were read keep the rules of kinds
@@ -85,12 +89,14 @@ kinds_at-keeps definitions table kinds h =
     let (ds, l, g) = from_bind (list_or_none_at MOST_KINDS KIND.now table) (λ ds. each KIND.now read 0 [] ds) kinds h in
     let long = each-length KIND.now read 0 [] ds kinds g in
     let few = list_or_none_at-keeps MOST_KINDS KIND.now table ds l in
-    let are = each-invariant KIND.now read (AreKindsSoFar definitions) (λ done d kind so_far is. kinds-push definitions done d kind so_far (kind_of-keeps definitions done d kind is))
+    let are = each-invariant KIND.now read (AreKindsSoFar definitions)
+    (λ done d kind so_far is. kinds-push definitions done d kind so_far (kind_of-keeps definitions done d kind is))
     0 [] ds kinds (record { each = tt; apart = tt }) g in
     record { few = omega (arith, long, few); each = are.each; apart = are.apart }
 
 -- and are what the text says
-pub kinds_at-says : (definitions : Definitions) (table : Members) (kinds : List Kind) → kinds_at definitions table ≡ Ok kinds → SaysListOrNone (SaysKind definitions) KIND.now table kinds
+pub kinds_at-says : (definitions : Definitions) (table : Members) (kinds : List Kind) → kinds_at definitions table ≡ Ok kinds →
+    SaysListOrNone (SaysKind definitions) KIND.now table kinds
 unfolding kinds_at list_or_none_at
 kinds_at-says definitions table kinds h =
     let read = λ (done : List Kind) (d : Data). kind_of definitions (kind_names done) d in
@@ -101,6 +107,7 @@ kinds_at-says definitions table kinds h =
     )
 
 -- the list at the key is the one that is read
-pub kinds_at-list : (definitions : Definitions) (table : Members) (ds : Items) → list_or_none_at MOST_KINDS KIND.now table ≡ Ok ds → kinds_at definitions table ≡ kinds_of definitions ds
+pub kinds_at-list : (definitions : Definitions) (table : Members) (ds : Items) → list_or_none_at MOST_KINDS KIND.now table ≡ Ok ds →
+    kinds_at definitions table ≡ kinds_of definitions ds
 unfolding kinds_at
 kinds_at-list definitions table ds is = rw is refl

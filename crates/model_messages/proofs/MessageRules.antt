@@ -2,7 +2,8 @@
 use Rattle.std.specs.Prelude.{IsTrue, MatchOption, slice_get}
 use Rattle.std.specs.List.{AllByRecursion, IsDistinct, list_any}
 use Rattle.std.specs.Option.{option_map_or}
-use Rattle.std.proofs.Common.{◌≡◌, ℕ, ◌≤◌, ◌==◌, Bool, true, false, cond, Option, Some, None, Ok, Err, List, [], ◌∷◌, ◌++◌, map, length, refl, sym, ap, subst, ◌∙◌, arith}
+use Rattle.std.proofs.Common.{◌≡◌, ℕ, ◌≤◌, ◌==◌, Bool, true, false, cond, Option, Some, None, Ok, Err, List, [], ◌∷◌, ◌++◌, map, length, refl, sym, ap, subst}
+use Rattle.std.proofs.Common.{◌∙◌, arith}
 use Rattle.std.proofs.lemmas.Bool.Decides.{nat_tests}
 use Rattle.std.proofs.lemmas.List.{map_push}
 use Rattle.std.specs.Cmp.Lexicographic.{bytes_decides}
@@ -29,11 +30,13 @@ use Rattle.model_keys.specs.Finding.{at, check, required}
 use Rattle.model_keys.specs.Each.{each}
 use Rattle.model_keys.specs.Keys.{any_list_or_none_at, entry_of, list_or_none_at, name_of, new_name_at, or_else}
 use Rattle.model_keys.specs.Says.{IsPlaceNamed, OneForOne, SaysListOrNone, SaysPlace}
-use Rattle.model_keys.proofs.KeepsLemmas.{check-ok, each-invariant, each-length, from_bind, list_or_none_at-keeps, name_of-keeps, new_name_at-keeps, required-ok, tested}
+use Rattle.model_keys.proofs.KeepsLemmas.{check-ok, each-invariant, each-length, from_bind, list_or_none_at-keeps, name_of-keeps, new_name_at-keeps}
+use Rattle.model_keys.proofs.KeepsLemmas.{required-ok, tested}
 use Rattle.model_keys.proofs.SaysLemmas.{all-says, any_list_or_none_at-says, and_then-found, entry_of-table, list_or_none-says}
 use Rattle.model_messages.specs.declared.keys.TheConstants.{IDOCTYPE, INSERT, KIND, MESSAGE, MESSAGE_KEYS, NAME, POINTERS, POSTING, REQUIRED, UPSERT}
 use Rattle.model_messages.specs.Fields.{field_named, field_names}
-use Rattle.model_messages.specs.Messages.{beside, has_root, kind_at, message_of, messages_at, own_field, own_field_of, own_fields_of, pointers_at, pointers_of, posting_at, posting_named, posting_of, required_at, messages_of}
+use Rattle.model_messages.specs.Messages.{beside, has_root, kind_at, message_of, messages_at, own_field, own_field_of, own_fields_of, pointers_at, pointers_of}
+use Rattle.model_messages.specs.Messages.{posting_at, posting_named, posting_of, required_at, messages_of}
 use Rattle.model_messages.specs.Says.{word_of, SaysField, SaysMessage}
 use Rattle.model_messages.specs.Things.{thing_at}
 use Rattle.model_messages.proofs.FieldLemmas.{field_named-keeps, field_there}
@@ -53,10 +56,12 @@ record IsKindFound (entries : List TypePlace) (kinds : List Kind) (table : Membe
   here : slice_get kinds found.0 ≡ Some found.1
   root : root_segment entries ≡ Some found.1.segment
 
-kind_at-keeps : (entries : List TypePlace) (kinds : List Kind) (table : Members) (found : ℕ × Kind) → kind_at entries kinds table ≡ Ok found → IsKindFound entries kinds table found
+kind_at-keeps : (entries : List TypePlace) (kinds : List Kind) (table : Members) (found : ℕ × Kind) → kind_at entries kinds table ≡ Ok found →
+    IsKindFound entries kinds table found
 unfolding kind_at
 kind_at-keeps entries kinds table found h =
-    let (thing, t, g) = from_bind (thing_at KIND.now (kind_names kinds) kinds table) (λ (f : ℕ × Kind). cond (has_root entries f.1.segment) (Ok f) (Err (at Wrong KIND.now))) found h in
+    let (thing, t, g) = from_bind (thing_at KIND.now (kind_names kinds) kinds table)
+    (λ (f : ℕ × Kind). cond (has_root entries f.1.segment) (Ok f) (Err (at Wrong KIND.now))) found h in
     let (is, e) = tested (has_root entries thing.1.segment) thing found (at Wrong KIND.now) g in
     let (says, here) = thing_at-keeps KIND.now (kind_names kinds) kinds table thing t in
     subst (IsKindFound entries kinds table) e (record { says = says; here = here; root = has_root-keeps (root_segment entries) thing.1.segment is })
@@ -65,12 +70,14 @@ kind_at-keeps entries kinds table found h =
 posting_named-word : (text : List ℕ) (posting : PostingMode) → posting_named text ≡ Some posting → text ≡ word_of posting
 posting_named-word text posting h = first (is_text text UPSERT.now) (is_text text INSERT.now) refl refl h
   where
-    first : (a b : Bool) → is_text text UPSERT.now ≡ a → is_text text INSERT.now ≡ b → cond a (Some Upsert) (cond b (Some Insert) None) ≡ Some posting → text ≡ word_of posting
+    first : (a b : Bool) → is_text text UPSERT.now ≡ a → is_text text INSERT.now ≡ b → cond a (Some Upsert) (cond b (Some Insert) None) ≡ Some posting →
+        text ≡ word_of posting
     first true b upsert insert h = let e : Upsert ≡ posting = cc in (bytes_decides text UPSERT.now).0 upsert ∙ ap word_of e
     first false true upsert insert h = let e : Insert ≡ posting = cc in (bytes_decides text INSERT.now).0 insert ∙ ap word_of e
     first false false upsert insert h = absurd (cc)
 
-posting_found-says : (found : Option Data) (posting : PostingMode) → or_else Upsert posting_of found ≡ Ok posting → MatchOption found (posting ≡ Upsert) (λ d. as_str d ≡ Some (word_of posting))
+posting_found-says : (found : Option Data) (posting : PostingMode) → or_else Upsert posting_of found ≡ Ok posting →
+    MatchOption found (posting ≡ Upsert) (λ d. as_str d ≡ Some (word_of posting))
 unfolding posting_of
 posting_found-says None posting h = cc
 posting_found-says (Some d) posting h =
@@ -97,18 +104,22 @@ own_field_of-keeps definitions kind d field h =
     let (name, n, g) = from_bind (name_of LONGEST_NAME [] d) (λ name. required Wrong [] (own_field definitions kind name)) field h in
     let (place, p, b) = and_then-found (beside kind.key) (field_named fields name) field (required-ok Wrong [] (own_field definitions kind name) field g) in
     let (same, other) = beside-keeps kind.key place field b in
-    let here : slice_get (field_names fields) field ≡ Some name = subst (λ k. slice_get (field_names fields) k ≡ Some name) same (field_named-keeps fields name place p) in
+    let here : slice_get (field_names fields) field ≡ Some name = subst (λ k. slice_get (field_names fields) k ≡ Some name) same
+    (field_named-keeps fields name place p) in
     (record { field = field_there fields name field here; other = other }, (name, (name_of-keeps LONGEST_NAME [] d name n).0, here))
 
 -- the fields of a list at a key, which may be absent
 abbrev SaysFound : Definitions → Kind → Option Data → List ℕ → Type 0
-SaysFound definitions kind found fields = (ds : Items) × MatchOption found (ds ≡ no_items) (λ d. as_array d ≡ Some ds) × OneForOne (SaysField definitions kind) [] ds fields
+SaysFound definitions kind found fields = (ds : Items) × MatchOption found (ds ≡ no_items) (λ d. as_array d ≡ Some ds) × OneForOne
+    (SaysField definitions kind) [] ds fields
 
-own_fields_of-keeps : (definitions : Definitions) (kind : Kind) (key : List ℕ) (ds : Items) (fields : List ℕ) → own_fields_of definitions kind key ds ≡ Ok fields
+own_fields_of-keeps : (definitions : Definitions) (kind : Kind) (key : List ℕ) (ds : Items) (fields : List ℕ) →
+    own_fields_of definitions kind key ds ≡ Ok fields
     → AllByRecursion (IsOwnField definitions kind) fields × OneForOne (SaysField definitions kind) [] ds fields
 own_fields_of-keeps definitions kind key ds fields h = let read = λ (done : List ℕ) (d : Data). own_field_of definitions kind d in (
   each-invariant key read (AllByRecursion (IsOwnField definitions kind))
-      (λ done d field so_far is. AllByRecursion-snoc (IsOwnField definitions kind) done field so_far (own_field_of-keeps definitions kind d field is).0) 0 [] ds fields tt h,
+      (λ done d field so_far is. AllByRecursion-snoc (IsOwnField definitions kind) done field so_far (own_field_of-keeps definitions kind d field is).0) 0 [] ds
+      fields tt h,
   all-says key read (SaysField definitions kind) (λ done d field is. (own_field_of-keeps definitions kind d field is).1) ds fields h,
 )
 
@@ -126,19 +137,27 @@ record ArePointers (definitions : Definitions) (entries : List TypePlace) (kind 
   alone : 1 ≤ length fields → IsTrue (is_root_enough entries)
   says : SaysFound definitions kind found fields
 
-pointers_found-keeps : (definitions : Definitions) (entries : List TypePlace) (kind : Kind) (found : Option Data) (fields : List ℕ) → or_else [] (pointers_of definitions entries kind) found ≡ Ok fields
+pointers_found-keeps : (definitions : Definitions) (entries : List TypePlace) (kind : Kind) (found : Option Data) (fields : List ℕ) →
+    or_else [] (pointers_of definitions entries kind) found ≡ Ok fields
     → ArePointers definitions entries kind found fields
 unfolding pointers_of
 pointers_found-keeps definitions entries kind None fields h =
-    let e : [] ≡ fields = cc in subst (ArePointers definitions entries kind None) e (record { are = tt; alone = λ some. absurd (omega (arith, some)); says = (no_items, refl, tt) })
+    let e : [] ≡ fields = cc in subst (ArePointers definitions entries kind None) e
+    (record { are = tt; alone = λ some. absurd (omega (arith, some)); says = (no_items, refl, tt) })
 pointers_found-keeps definitions entries kind (Some d) fields h =
     let (ds, l, h1) = from_bind (required Wrong POINTERS.now (as_array d)) _ fields h in
     let (alone, a, h2) = from_bind (check Wrong POINTERS.now (is_root_enough entries)) _ fields h1 in
     let (are, says) = own_fields_of-keeps definitions kind POINTERS.now ds fields h2 in
-    record { are = are; alone = λ some. check-ok Wrong POINTERS.now (is_root_enough entries) alone a; says = (ds, required-ok Wrong POINTERS.now (as_array d) ds l, says) }
+    record {
+      are = are;
+      alone = λ some. check-ok Wrong POINTERS.now
+          (is_root_enough entries) alone a;
+      says = (ds, required-ok Wrong POINTERS.now (as_array d) ds l, says);
+    }
 
 -- one more message type behind others
-record IsNextMessage (definitions : Definitions) (types : List IdocType) (kinds : List Kind) (before : List Message) (d : Data) (message : Message) : Type 0 where
+record IsNextMessage (definitions : Definitions) (types : List IdocType) (kinds : List Kind) (before : List Message) (d : Data)
+    (message : Message) : Type 0 where
   is : IsMessage definitions types kinds message
   new : list_any (is_text message.name) (message_names before) ≡ false
   says : SaysMessage definitions types kinds before d message
@@ -154,7 +173,8 @@ message_of-keeps definitions types kinds before d message h =
     let (posting, p, h5) = from_bind (or_else Upsert posting_of (get_member POSTING.now table)) _ message h4 in
     let (fields, f, h6) = from_bind (required_at definitions kind.1 table) _ message h5 in
     let (pointers, q, h7) = from_bind (or_else [] (pointers_of definitions type.1.segments kind.1) (get_member POINTERS.now table)) _ message h6 in
-    let e : ◌≡◌ {A = Message} (record { name = name; idoctype = type.0; kind = kind.0; posting = posting; required = fields; pointers = pointers }) message = read_same _ message h7 in
+    let e : ◌≡◌ {A = Message} (record { name = name; idoctype = type.0; kind = kind.0; posting = posting; required = fields; pointers = pointers })
+    message = read_same _ message h7 in
     let new = new_name_at-keeps LONGEST_NAME NAME.now (message_names before) table name n in
     let typed = thing_at-keeps IDOCTYPE.now (idoc_type_names types) types table type y in
     let found = kind_at-keeps type.1.segments kinds table kind k in
@@ -192,15 +212,18 @@ record AreMessagesSoFar (definitions : Definitions) (types : List IdocType) (kin
   each : AllByRecursion (IsMessage definitions types kinds) messages
   apart : IsDistinct is_text (message_names messages)
 
-messages-push : (definitions : Definitions) (types : List IdocType) (kinds : List Kind) (before : List Message) (d : Data) (message : Message) → AreMessagesSoFar definitions types kinds before
+messages-push : (definitions : Definitions) (types : List IdocType) (kinds : List Kind) (before : List Message) (d : Data) (message : Message) →
+    AreMessagesSoFar definitions types kinds before
     → IsNextMessage definitions types kinds before d message → AreMessagesSoFar definitions types kinds (before ++ message ∷ [])
 messages-push definitions types kinds before d message are next = record {
   each = AllByRecursion-snoc (IsMessage definitions types kinds) before message are.each next.is;
-  apart = subst (IsDistinct is_text) (sym (map_push (λ (m : Message). m.name) before message)) (IsDistinct-push is_text is_text-symmetric (message_names before) message.name are.apart next.new);
+  apart = subst (IsDistinct is_text) (sym (map_push (λ (m : Message). m.name) before message))
+      (IsDistinct-push is_text is_text-symmetric (message_names before) message.name are.apart next.new);
 }
 
 -- message types that were read keep the rules of message types
-pub messages_at-keeps : (definitions : Definitions) (types : List IdocType) (kinds : List Kind) (table : Members) (messages : List Message) → messages_at definitions types kinds table ≡ Ok messages
+pub messages_at-keeps : (definitions : Definitions) (types : List IdocType) (kinds : List Kind) (table : Members) (messages : List Message) →
+    messages_at definitions types kinds table ≡ Ok messages
     → AreMessages definitions types kinds messages
 unfolding messages_at IsDistinct
 messages_at-keeps definitions types kinds table messages h =
@@ -214,7 +237,8 @@ messages_at-keeps definitions types kinds table messages h =
     record { few = omega (arith, long, few); each = are.each; apart = are.apart }
 
 -- and are what the text says
-pub messages_at-says : (definitions : Definitions) (types : List IdocType) (kinds : List Kind) (table : Members) (messages : List Message) → messages_at definitions types kinds table ≡ Ok messages
+pub messages_at-says : (definitions : Definitions) (types : List IdocType) (kinds : List Kind) (table : Members) (messages : List Message) →
+    messages_at definitions types kinds table ≡ Ok messages
     → SaysListOrNone (SaysMessage definitions types kinds) MESSAGE.now table messages
 unfolding messages_at list_or_none_at
 messages_at-says definitions types kinds table messages h =
@@ -222,10 +246,12 @@ messages_at-says definitions types kinds table messages h =
     let (ds, l, g) = from_bind (list_or_none_at MOST_MESSAGES MESSAGE.now table) (λ ds. each MESSAGE.now read 0 [] ds) messages h in (
       ds,
       list_or_none-says MOST_MESSAGES MESSAGE.now (get_member MESSAGE.now table) ds l,
-      all-says MESSAGE.now read (SaysMessage definitions types kinds) (λ done d message is. (message_of-keeps definitions types kinds done d message is).says) ds messages g,
+      all-says MESSAGE.now read (SaysMessage definitions types kinds) (λ done d message is. (message_of-keeps definitions types kinds done d message is).says)
+          ds messages g,
     )
 
 -- the list at the key is the one that is read
-pub messages_at-list : (definitions : Definitions) (types : List IdocType) (kinds : List Kind) (table : Members) (ds : Items) → list_or_none_at MOST_MESSAGES MESSAGE.now table ≡ Ok ds → messages_at definitions types kinds table ≡ messages_of definitions types kinds ds
+pub messages_at-list : (definitions : Definitions) (types : List IdocType) (kinds : List Kind) (table : Members) (ds : Items) →
+    list_or_none_at MOST_MESSAGES MESSAGE.now table ≡ Ok ds → messages_at definitions types kinds table ≡ messages_of definitions types kinds ds
 unfolding messages_at
 messages_at-list definitions types kinds table ds is = rw is refl

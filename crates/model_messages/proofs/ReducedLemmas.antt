@@ -30,15 +30,19 @@ position-is_some test (x ∷ xs) = elim (cases_Bool (test x)) [
     further (Some place) = refl
 
 -- one more name behind the others
-pub names_with-push : (messages : List Message) (reduced : List Reduced) (one : Reduced) → names_with messages (reduced ++ one ∷ []) ≡ names_with messages reduced ++ one.name ∷ []
+pub names_with-push : (messages : List Message) (reduced : List Reduced) (one : Reduced) →
+    names_with messages (reduced ++ one ∷ []) ≡ names_with messages reduced ++ one.name ∷ []
 names_with-push messages reduced one =
-    ap (λ names. message_names messages ++ names) (map_push (λ (r : Reduced). r.name) reduced one) ∙ sym (append_assoc (message_names messages) (reduced_names reduced) (one.name ∷ []))
+    ap (λ names. message_names messages ++ names) (map_push (λ (r : Reduced). r.name) reduced one)
+    ∙ sym (append_assoc (message_names messages) (reduced_names reduced) (one.name ∷ []))
 
 -- the entries of an IDoc type have different segment types
-pub entries-apart : (definitions : Definitions) (types : List IdocType) (place : ℕ) → AreIdocTypes definitions types → IsDistinct nat_eq (map (λ (entry : TypePlace). entry.segment) (entries_at types place))
+pub entries-apart : (definitions : Definitions) (types : List IdocType) (place : ℕ) → AreIdocTypes definitions types →
+    IsDistinct nat_eq (map (λ (entry : TypePlace). entry.segment) (entries_at types place))
 unfolding IsDistinct
 entries-apart definitions types place are = found (slice_get types place) refl
   where
-    found : (o : Option IdocType) → slice_get types place ≡ o → IsDistinct nat_eq (map (λ (entry : TypePlace). entry.segment) (option_map_or (λ (type : IdocType). type.segments) o []))
+    found : (o : Option IdocType) → slice_get types place ≡ o →
+        IsDistinct nat_eq (map (λ (entry : TypePlace). entry.segment) (option_map_or (λ (type : IdocType). type.segments) o []))
     found None here = tt
     found (Some type) here = (AllByRecursion-at (IsIdocType definitions) types place type are.each here).apart

@@ -1,7 +1,8 @@
 -- Reduced message types that were read keep their rules, and are what the text says.
 use Rattle.std.specs.Prelude.{slice_get}
 use Rattle.std.specs.List.{AllByRecursion, IsDistinct, list_any}
-use Rattle.std.proofs.Common.{◌≡◌, ℕ, ◌+◌, ◌≤◌, ◌==◌, nat_eq, Bool, true, false, cond, Some, None, Ok, List, [], ◌∷◌, ◌++◌, map, take, drop, length, position, refl, sym, ap, subst, ◌∙◌, append-nil, arith}
+use Rattle.std.proofs.Common.{◌≡◌, ℕ, ◌+◌, ◌≤◌, ◌==◌, nat_eq, Bool, true, false, cond, Some, None, Ok, List, [], ◌∷◌, ◌++◌, map, take, drop, length, position}
+use Rattle.std.proofs.Common.{refl, sym, ap, subst, ◌∙◌, append-nil, arith}
 use Rattle.std.proofs.lemmas.Bool.Decides.{nat_tests}
 use Rattle.std.proofs.lemmas.Option.{slice_get_within}
 use Rattle.toml.specs.Data.{Data, Items, Members, get_member, as_str}
@@ -28,11 +29,13 @@ use Rattle.model_keys.specs.Finding.{required}
 use Rattle.model_keys.specs.Each.{each}
 use Rattle.model_keys.specs.Keys.{entry_of, items_len, list_at, list_of, list_or_none_at, new_name_at, value_at}
 use Rattle.model_keys.specs.Says.{HasList, OneForOne, SaysList, SaysListOrNone}
-use Rattle.model_keys.proofs.KeepsLemmas.{each-invariant, each-length, from_bind, list_of-keeps, list_or_none_at-keeps, new_name_at-keeps, required-ok, value_at-keeps}
+use Rattle.model_keys.proofs.KeepsLemmas.{each-invariant, each-length, from_bind, list_of-keeps, list_or_none_at-keeps, new_name_at-keeps, required-ok}
+use Rattle.model_keys.proofs.KeepsLemmas.{value_at-keeps}
 use Rattle.model_keys.proofs.SaysLemmas.{all-says, and_then-found, entry_of-table, list_or_none-says}
 use Rattle.model_messages.specs.declared.keys.TheConstants.{KEEP, MESSAGE, NAME, REDUCED, REDUCED_KEYS}
 use Rattle.model_messages.specs.Fields.{field_named, field_names}
-use Rattle.model_messages.specs.Reduced.{among, field_in, keep_at, keep_of, kept_of, names_with, place_in_text, place_named, place_split, reduced_at, reduced_of, type_among, all_reduced_of}
+use Rattle.model_messages.specs.Reduced.{among, field_in, keep_at, keep_of, kept_of, names_with, place_in_text, place_named, place_split, reduced_at}
+use Rattle.model_messages.specs.Reduced.{reduced_of, type_among, all_reduced_of}
 use Rattle.model_messages.specs.Says.{SaysKept, SaysReduced}
 use Rattle.model_messages.specs.Things.{thing_at}
 use Rattle.model_messages.proofs.FieldLemmas.{field_named-keeps, field_there}
@@ -44,10 +47,12 @@ list_any-agree p q same [] = refl
 list_any-agree p q same (x ∷ xs) = rw (same x, list_any-agree p q same xs) refl
 
 -- a segment type among some entries
-among-keeps : (entries : List TypePlace) (segment found : ℕ) → among (map (λ (entry : TypePlace). entry.segment) entries) segment ≡ Some found → HasEntry entries segment × (segment ≡ found)
+among-keeps : (entries : List TypePlace) (segment found : ℕ) → among (map (λ (entry : TypePlace). entry.segment) entries) segment ≡ Some found →
+    HasEntry entries segment × (segment ≡ found)
 among-keeps entries segment found h =
     let (is, same) = tell (list_any (nat_eq segment) (map (λ (entry : TypePlace). entry.segment) entries)) h in (
-      sym (entry_of_any entries segment) ∙ list_any-agree (λ (entry : TypePlace). entry.segment == segment) (λ (entry : TypePlace). nat_eq segment entry.segment) (λ entry. turned entry.segment segment) entries
+      sym (entry_of_any entries segment) ∙ list_any-agree (λ (entry : TypePlace). entry.segment == segment)
+          (λ (entry : TypePlace). nat_eq segment entry.segment) (λ entry. turned entry.segment segment) entries
           ∙ list_any-map (λ (entry : TypePlace). entry.segment) (nat_eq segment) entries ∙ is,
       same,
     )
@@ -65,13 +70,17 @@ record IsNamedPlace (definitions : Definitions) (entries : List TypePlace) (type
   typed : slice_get (type_names definitions.types) kept.segment ≡ Some type
   named : slice_get (field_names (all_fields definitions kept.segment)) kept.field ≡ Some name
 
-place_named-keeps : (definitions : Definitions) (entries : List TypePlace) (type name : List ℕ) (kept : FieldPlace) → place_named definitions (map (λ (entry : TypePlace). entry.segment) entries) type name ≡ Some kept
+place_named-keeps : (definitions : Definitions) (entries : List TypePlace) (type name : List ℕ) (kept : FieldPlace) →
+    place_named definitions (map (λ (entry : TypePlace). entry.segment) entries) type name ≡ Some kept
     → IsNamedPlace definitions entries type name kept
 place_named-keeps definitions entries type name kept h =
-    let (segment, s, f) = and_then-found (field_in definitions name) (type_among definitions (map (λ (entry : TypePlace). entry.segment) entries) type) kept h in
-    let (number, p, a) = and_then-found (among (map (λ (entry : TypePlace). entry.segment) entries)) (position (is_text type) (type_names definitions.types)) segment s in
+    let (segment, s, f) = and_then-found (field_in definitions name) (type_among definitions (map (λ (entry : TypePlace). entry.segment) entries) type) kept
+    h in
+    let (number, p, a) = and_then-found (among (map (λ (entry : TypePlace). entry.segment) entries)) (position (is_text type) (type_names definitions.types))
+    segment s in
     let (there, same) = among-keeps entries number segment a in
-    let (field, g, e) = option_map-Some (λ (field : ℕ). record { segment = segment; field = field }) (field_named (all_fields definitions segment) name) kept f in
+    let (field, g, e) = option_map-Some (λ (field : ℕ). record { segment = segment; field = field }) (field_named (all_fields definitions segment) name) kept
+    f in
     let here = field_named-keeps (all_fields definitions segment) name field g in
     subst (IsNamedPlace definitions entries type name) e (record {
       is = record {
@@ -83,7 +92,8 @@ place_named-keeps definitions entries type name kept h =
     })
 
 -- a field that is kept is one of the message type
-kept_of-keeps : (definitions : Definitions) (entries : List TypePlace) (before : List FieldPlace) (d : Data) (kept : FieldPlace) → kept_of definitions (map (λ (entry : TypePlace). entry.segment) entries) d ≡ Ok kept
+kept_of-keeps : (definitions : Definitions) (entries : List TypePlace) (before : List FieldPlace) (d : Data) (kept : FieldPlace) →
+    kept_of definitions (map (λ (entry : TypePlace). entry.segment) entries) d ≡ Ok kept
     → IsFieldAmong definitions entries kept.segment kept.field × SaysKept definitions before d kept
 unfolding kept_of
 kept_of-keeps definitions entries before d kept h =
@@ -102,12 +112,14 @@ kept_of-keeps definitions entries before d kept h =
       },
     )
 
-keep_of-keeps : (definitions : Definitions) (entries : List TypePlace) (ds : Items) (keep : List FieldPlace) → keep_of definitions (map (λ (entry : TypePlace). entry.segment) entries) ds ≡ Ok keep
+keep_of-keeps : (definitions : Definitions) (entries : List TypePlace) (ds : Items) (keep : List FieldPlace) →
+    keep_of definitions (map (λ (entry : TypePlace). entry.segment) entries) ds ≡ Ok keep
     → AllByRecursion (λ (kept : FieldPlace). IsFieldAmong definitions entries kept.segment kept.field) keep × OneForOne (SaysKept definitions) [] ds keep
 keep_of-keeps definitions entries ds keep h =
     let read = λ (done : List FieldPlace) (d : Data). kept_of definitions (map (λ (entry : TypePlace). entry.segment) entries) d in
     let Is = λ (kept : FieldPlace). IsFieldAmong definitions entries kept.segment kept.field in (
-      each-invariant KEEP.now read (AllByRecursion Is) (λ done d kept so_far is. AllByRecursion-snoc Is done kept so_far (kept_of-keeps definitions entries done d kept is).0) 0 [] ds keep tt h,
+      each-invariant KEEP.now read (AllByRecursion Is)
+          (λ done d kept so_far is. AllByRecursion-snoc Is done kept so_far (kept_of-keeps definitions entries done d kept is).0) 0 [] ds keep tt h,
       all-says KEEP.now read (SaysKept definitions) (λ done d kept is. (kept_of-keeps definitions entries done d kept is).1) ds keep h,
     )
 
@@ -125,7 +137,8 @@ record AreKept (definitions : Definitions) (entries : List TypePlace) (table : M
   are : AllByRecursion (λ (kept : FieldPlace). IsFieldAmong definitions entries kept.segment kept.field) keep
   says : SaysList (SaysKept definitions) KEEP.now table keep
 
-keep_at-keeps : (definitions : Definitions) (entries : List TypePlace) (table : Members) (keep : List FieldPlace) → keep_at definitions entries table ≡ Ok keep → AreKept definitions entries table keep
+keep_at-keeps : (definitions : Definitions) (entries : List TypePlace) (table : Members) (keep : List FieldPlace) →
+    keep_at definitions entries table ≡ Ok keep → AreKept definitions entries table keep
 unfolding keep_at
 keep_at-keeps definitions entries table keep h =
     let types = map (λ (entry : TypePlace). entry.segment) entries in
@@ -136,7 +149,8 @@ keep_at-keeps definitions entries table keep h =
     record { few = omega (arith, list.1, long); are = kept.0; says = (ds, list.0, kept.1) }
 
 -- one more reduced message type behind others
-record IsNextReduced (definitions : Definitions) (types : List IdocType) (messages : List Message) (before : List Reduced) (d : Data) (one : Reduced) : Type 0 where
+record IsNextReduced (definitions : Definitions) (types : List IdocType) (messages : List Message) (before : List Reduced) (d : Data)
+    (one : Reduced) : Type 0 where
   is : IsReduced definitions types messages one
   new : list_any (is_text one.name) (names_with messages before) ≡ false
   says : SaysReduced definitions messages before d one
@@ -170,15 +184,18 @@ record AreReducedSoFar (definitions : Definitions) (types : List IdocType) (mess
   each : AllByRecursion (IsReduced definitions types messages) reduced
   apart : IsDistinct is_text (names_with messages reduced)
 
-reduced-push : (definitions : Definitions) (types : List IdocType) (messages : List Message) (before : List Reduced) (d : Data) (one : Reduced) → AreReducedSoFar definitions types messages before
+reduced-push : (definitions : Definitions) (types : List IdocType) (messages : List Message) (before : List Reduced) (d : Data) (one : Reduced) →
+    AreReducedSoFar definitions types messages before
     → IsNextReduced definitions types messages before d one → AreReducedSoFar definitions types messages (before ++ one ∷ [])
 reduced-push definitions types messages before d one are next = record {
   each = AllByRecursion-snoc (IsReduced definitions types messages) before one are.each next.is;
-  apart = subst (IsDistinct is_text) (sym (names_with-push messages before one)) (IsDistinct-push is_text is_text-symmetric (names_with messages before) one.name are.apart next.new);
+  apart = subst (IsDistinct is_text) (sym (names_with-push messages before one))
+      (IsDistinct-push is_text is_text-symmetric (names_with messages before) one.name are.apart next.new);
 }
 
 -- reduced message types that were read keep the rules of reduced message types
-pub reduced_at-keeps : (definitions : Definitions) (types : List IdocType) (messages : List Message) (table : Members) (reduced : List Reduced) → IsDistinct is_text (message_names messages)
+pub reduced_at-keeps : (definitions : Definitions) (types : List IdocType) (messages : List Message) (table : Members) (reduced : List Reduced) →
+    IsDistinct is_text (message_names messages)
     → reduced_at definitions types messages table ≡ Ok reduced → AreReduced definitions types messages reduced
 unfolding reduced_at
 reduced_at-keeps definitions types messages table reduced apart h =
@@ -192,7 +209,8 @@ reduced_at-keeps definitions types messages table reduced apart h =
     record { few = omega (arith, long, few); each = are.each; apart = are.apart }
 
 -- and are what the text says
-pub reduced_at-says : (definitions : Definitions) (types : List IdocType) (messages : List Message) (table : Members) (reduced : List Reduced) → reduced_at definitions types messages table ≡ Ok reduced
+pub reduced_at-says : (definitions : Definitions) (types : List IdocType) (messages : List Message) (table : Members) (reduced : List Reduced) →
+    reduced_at definitions types messages table ≡ Ok reduced
     → SaysListOrNone (SaysReduced definitions messages) REDUCED.now table reduced
 unfolding reduced_at list_or_none_at
 reduced_at-says definitions types messages table reduced h =
@@ -200,10 +218,12 @@ reduced_at-says definitions types messages table reduced h =
     let (ds, l, g) = from_bind (list_or_none_at MOST_REDUCED REDUCED.now table) (λ ds. each REDUCED.now read 0 [] ds) reduced h in (
       ds,
       list_or_none-says MOST_REDUCED REDUCED.now (get_member REDUCED.now table) ds l,
-      all-says REDUCED.now read (SaysReduced definitions messages) (λ done d one is. (reduced_of-keeps definitions types messages done d one is).says) ds reduced g,
+      all-says REDUCED.now read (SaysReduced definitions messages) (λ done d one is. (reduced_of-keeps definitions types messages done d one is).says) ds
+          reduced g,
     )
 
 -- the list at the key is the one that is read
-pub reduced_at-list : (definitions : Definitions) (types : List IdocType) (messages : List Message) (table : Members) (ds : Items) → list_or_none_at MOST_REDUCED REDUCED.now table ≡ Ok ds → reduced_at definitions types messages table ≡ all_reduced_of definitions types messages ds
+pub reduced_at-list : (definitions : Definitions) (types : List IdocType) (messages : List Message) (table : Members) (ds : Items) →
+    list_or_none_at MOST_REDUCED REDUCED.now table ≡ Ok ds → reduced_at definitions types messages table ≡ all_reduced_of definitions types messages ds
 unfolding reduced_at
 reduced_at-list definitions types messages table ds is = rw is refl

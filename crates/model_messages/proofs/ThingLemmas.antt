@@ -1,6 +1,7 @@
 -- What names refer to, and the parts of a text.
 use Rattle.std.specs.Prelude.{slice_get, IfOk}
-use Rattle.std.proofs.Common.{◌≡◌, ℕ, suc, ◌+◌, ◌==◌, true, Result, Ok, Err, Some, List, ◌∷◌, ◌++◌, take, drop, get_or, position, sym, ap, subst, ◌∙◌, drop-cons, arith}
+use Rattle.std.proofs.Common.{◌≡◌, ℕ, suc, ◌+◌, ◌==◌, true, Result, Ok, Err, Some, List, ◌∷◌, ◌++◌, take, drop, get_or, position, sym, ap, subst, ◌∙◌}
+use Rattle.std.proofs.Common.{drop-cons, arith}
 use Rattle.std.proofs.lemmas.Bool.Decides.{nat_tests}
 use Rattle.std.proofs.lemmas.List.{take-append-drop}
 use Rattle.std.proofs.lemmas.List.Quantifiers.{position-Some}
@@ -20,12 +21,14 @@ pub read_same : {A : Type 0} (x y : A) → ◌≡◌ {A = Result A Finding} (Ok 
 read_same x y h = cc
 
 -- a value that a function returned is what its reading gave
-pub given-holds : {A : Type 0} (reading : Result A Finding) (P : A → Type 0) → ((a : A) → reading ≡ Ok a → P a) → (r : Result A ReadError) → Gives (λ a. a) r reading → IfOk r P
+pub given-holds : {A : Type 0} (reading : Result A Finding) (P : A → Type 0) → ((a : A) → reading ≡ Ok a → P a) → (r : Result A ReadError) →
+    Gives (λ a. a) r reading → IfOk r P
 given-holds reading P holds (Ok a) is = holds a is
 given-holds reading P holds (Err error) is = tt
 
 -- a thing that was found is the one at its place, whose name stands at the key
-pub thing_at-keeps : {A : Type 0} (key : List ℕ) (names : List (List ℕ)) (things : List A) (table : Members) (found : ℕ × A) → thing_at key names things table ≡ Ok found
+pub thing_at-keeps : {A : Type 0} (key : List ℕ) (names : List (List ℕ)) (things : List A) (table : Members) (found : ℕ × A) →
+    thing_at key names things table ≡ Ok found
     → SaysPlace names key table found.0 × (slice_get things found.0 ≡ Some found.1)
 unfolding thing_at
 thing_at-keeps {A} key names things table found h =
@@ -41,7 +44,8 @@ split_at byte text place found =
     let at = position-Some (λ b. b == byte) text place 0 found in
     let here : get_or text place 0 ≡ byte = is_byte (get_or text place 0) at.1 in
     let next : place + 1 ≡ suc place = omega arith in
-    let rest : drop place text ≡ byte ∷ drop (place + 1) text = drop-cons text place 0 at.0 ∙ ap (λ b. b ∷ drop (suc place) text) here ∙ ap (λ k. byte ∷ drop k text) (sym next) in
+    let rest : drop place text ≡ byte ∷ drop (place + 1) text = drop-cons text place 0 at.0 ∙ ap (λ b. b ∷ drop (suc place) text) here
+    ∙ ap (λ k. byte ∷ drop k text) (sym next) in
     sym (take-append-drop place text) ∙ ap (λ bytes. take place text ++ bytes) rest
   where
     is_byte : (b : ℕ) → b == byte ≡ true → b ≡ byte

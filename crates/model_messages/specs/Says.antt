@@ -17,7 +17,8 @@ use Rattle.dist_model.specs.Kind.{kind_names}
 use Rattle.dist_model.specs.Message.{message_names}
 use Rattle.dist_model.specs.Model.{idoc_type_names, type_names}
 use Rattle.model_keys.specs.Says.{HasText, IsPlaceNamed, SaysList, SaysListOrNone, SaysPlace}
-use Rattle.model_messages.specs.declared.keys.TheConstants.{FIELD, IDOCTYPE, INSERT, KEEP, KEY, KIND, MESSAGE, NAME, POINTERS, POSTING, REQUIRED, SEGMENT, UPSERT}
+use Rattle.model_messages.specs.declared.keys.TheConstants.{FIELD, IDOCTYPE, INSERT, KEEP, KEY, KIND, MESSAGE, NAME, POINTERS, POSTING, REQUIRED, SEGMENT}
+use Rattle.model_messages.specs.declared.keys.TheConstants.{UPSERT}
 use Rattle.model_messages.specs.Fields.{field_names}
 
 -- a kind: its key is named among the fields of the first definition of its segment type
@@ -38,7 +39,8 @@ abbrev pub SaysField : Definitions → Kind → List ℕ → Data → ℕ → Ty
 SaysField definitions kind before d field = IsPlaceNamed (field_names (all_fields definitions kind.segment)) d field
 
 -- a message type: a posting makes the object or changes it where the entry says nothing of that
-pub record SaysMessage (definitions : Definitions) (types : List IdocType) (kinds : List Kind) (before : List Message) (d : Data) (message : Message) : Type 0 where
+pub record SaysMessage (definitions : Definitions) (types : List IdocType) (kinds : List Kind) (before : List Message) (d : Data)
+    (message : Message) : Type 0 where
   pub table : Members
   pub is : as_table d ≡ Some table
   pub name : HasText NAME.now table message.name

@@ -15,7 +15,8 @@ use Rattle.model_keys.specs.Finding.{required}
 use Rattle.model_keys.specs.Each.{each}
 use Rattle.model_keys.specs.Keys.{any_list_or_none_at, entry_of, list_of, list_or_none_at, or_else, segment_name_of, segment_type_at}
 use Rattle.model_keys.specs.Says.{IsPlaceNamed, SaysListOrNone}
-use Rattle.model_keys.proofs.KeepsLemmas.{each-invariant, each-length, from_bind, list_or_none_at-keeps, required-ok, segment_name_of-keeps, segment_type_at-keeps}
+use Rattle.model_keys.proofs.KeepsLemmas.{each-invariant, each-length, from_bind, list_or_none_at-keeps, required-ok, segment_name_of-keeps}
+use Rattle.model_keys.proofs.KeepsLemmas.{segment_type_at-keeps}
 use Rattle.model_keys.proofs.SaysLemmas.{all-says, any_list_or_none_at-says, entry_of-table, list_or_none-says}
 use Rattle.model_profiles.specs.declared.keys.TheConstants.{CONVERT, CONVERT_KEYS, FROM, REMOVE, SEGMENT, TO}
 use Rattle.model_profiles.specs.Changes.{convert_of, converts_at, removed_of, removes_at}
@@ -39,10 +40,16 @@ removes_at-keeps types table segments h =
           (λ done d segment so_far is. let (name, text, here) = removed_of-says types d segment is in
           AllByRecursion-snoc (λ segment. segment < length types) done segment so_far (slice_get_within types segment name here))
           0 [] ds segments tt g,
-      (ds, any_list_or_none_at-says REMOVE.now table ds l, all-says REMOVE.now read (SaysType types) (λ done d segment is. removed_of-says types d segment is) ds segments g),
+      (
+        ds,
+        any_list_or_none_at-says REMOVE.now table ds l,
+        all-says REMOVE.now read (SaysType types) (λ done d segment is. removed_of-says types d segment is)
+            ds segments g,
+      ),
     )
 
-convert_of-keeps : (types : List (List ℕ)) (definitions : Definitions) (before : List Convert) (d : Data) (convert : Convert) → convert_of types definitions d ≡ Ok convert
+convert_of-keeps : (types : List (List ℕ)) (definitions : Definitions) (before : List Convert) (d : Data) (convert : Convert) →
+    convert_of types definitions d ≡ Ok convert
     → IsConvert definitions convert × SaysConvert types definitions before d convert
 unfolding convert_of
 convert_of-keeps types definitions before d convert h =
@@ -56,7 +63,11 @@ convert_of-keeps types definitions before d convert h =
     let (says_from, fits_from, bare_from) = field_value_at-keeps (field_length definitions segment field) FROM.now table from v in
     let (says_to, fits_to, bare_to) = field_value_at-keeps (field_length definitions segment field) TO.now table to w in
     subst (λ (c : Convert). IsConvert definitions c × SaysConvert types definitions before d c) e (
-      record { from = IsValueOf-read definitions segment field from has fits_from bare_from; to = IsValueOf-read definitions segment field to has fits_to bare_to },
+      record {
+        from = IsValueOf-read definitions segment field from has fits_from bare_from;
+        to = IsValueOf-read definitions segment field to has fits_to
+            bare_to;
+      },
       record {
         table = table;
         is = entry_of-table (map (λ key. key.now) CONVERT_KEYS) d table t;
@@ -73,11 +84,13 @@ pub record AreReadConverts (types : List (List ℕ)) (definitions : Definitions)
   pub each_is : AllByRecursion (IsConvert definitions) converts
   pub says : SaysListOrNone (SaysConvert types definitions) CONVERT.now table converts
 
-pub converts_at-keeps : (types : List (List ℕ)) (definitions : Definitions) (table : Members) (converts : List Convert) → converts_at types definitions table ≡ Ok converts → AreReadConverts types definitions table converts
+pub converts_at-keeps : (types : List (List ℕ)) (definitions : Definitions) (table : Members) (converts : List Convert) →
+    converts_at types definitions table ≡ Ok converts → AreReadConverts types definitions table converts
 unfolding converts_at list_or_none_at
 converts_at-keeps types definitions table converts h =
     let read = λ (done : List Convert) (d : Data). convert_of types definitions d in
-    let (ds, l, g) = from_bind (or_else no_items (list_of MOST_CONVERSIONS CONVERT.now) (get_member CONVERT.now table)) (λ ds. each CONVERT.now read 0 [] ds) converts h in
+    let (ds, l, g) = from_bind (or_else no_items (list_of MOST_CONVERSIONS CONVERT.now) (get_member CONVERT.now table))
+    (λ ds. each CONVERT.now read 0 [] ds) converts h in
     let long = each-length CONVERT.now read 0 [] ds converts g in
     let most = list_or_none_at-keeps MOST_CONVERSIONS CONVERT.now table ds l in record {
       few = omega (arith, long, most);

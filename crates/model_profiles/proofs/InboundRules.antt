@@ -2,7 +2,8 @@
 use Rattle.std.specs.Prelude.{slice_get, Contains, MatchOption}
 use Rattle.std.specs.List.{AllByRecursion, IsDistinct, list_any}
 use Rattle.std.specs.Option.{option_map_or}
-use Rattle.std.proofs.Common.{◌≡◌, ℕ, ◌&&◌, ◌||◌, nat_eq, Bool, true, false, List, [], ◌∷◌, length, map, position, Option, Some, None, Ok, refl, sym, ap, subst, ◌∙◌, inl, inr, arith}
+use Rattle.std.proofs.Common.{◌≡◌, ℕ, ◌&&◌, ◌||◌, nat_eq, Bool, true, false, List, [], ◌∷◌, length, map, position, Option, Some, None, Ok, refl, sym, ap, subst}
+use Rattle.std.proofs.Common.{◌∙◌, inl, inr, arith}
 use Rattle.std.specs.Cmp.Lexicographic.{bytes_decides}
 use Rattle.std.proofs.lemmas.Bool.{and_parts, cases_Bool, false≢true}
 use Rattle.std.proofs.lemmas.Bool.Decides.{nat_tests}
@@ -64,15 +65,18 @@ told_apart names p q differs = elim (cases_Bool (same_inbound p q)) [
   | inl same ↦
       let (a, b, c) = same_inbound-parts p q same in
       let keys : same_triple (inbound_triple names p) (inbound_triple names q) ≡ true =
-      rw (same_number p.receiver q.receiver a, same_number p.sender q.sender b) (same_number (name_place names p.message) (name_place names q.message) (ap (name_place names) c)) in
+      rw (same_number p.receiver q.receiver a, same_number p.sender q.sender b)
+      (same_number (name_place names p.message) (name_place names q.message) (ap (name_place names) c)) in
       absurd (false≢true (sym differs ∙ keys))
   | inr other ↦ other
 ]
 
-all_apart : (names : List (List ℕ)) (p : Inbound) (qs : List Inbound) → list_any (same_triple (inbound_triple names p)) (inbound_triples names qs) ≡ false → list_any (same_inbound p) qs ≡ false
+all_apart : (names : List (List ℕ)) (p : Inbound) (qs : List Inbound) → list_any (same_triple (inbound_triple names p)) (inbound_triples names qs) ≡ false →
+    list_any (same_inbound p) qs ≡ false
 all_apart names p [] none = refl
 all_apart names p (q ∷ qs) none =
-    let parts = or_false (same_triple (inbound_triple names p) (inbound_triple names q)) (list_any (same_triple (inbound_triple names p)) (inbound_triples names qs)) none in
+    let parts = or_false (same_triple (inbound_triple names p) (inbound_triple names q))
+    (list_any (same_triple (inbound_triple names p)) (inbound_triples names qs)) none in
     rw (told_apart names p q parts.0) (all_apart names p qs parts.1)
   where
     or_false : (a b : Bool) → (a || b) ≡ false → (a ≡ false) × (b ≡ false)
@@ -103,7 +107,8 @@ record AreEnds (systems names : List (List ℕ)) (others : List (ℕ × ℕ × �
   among : Contains names ends.2
   new : list_any (same_triple (ends.0, ends.1, name_place names ends.2)) others ≡ false
 
-new_ends_at-keeps : (systems names : List (List ℕ)) (others : List (ℕ × ℕ × ℕ)) (table : Members) (ends : ℕ × ℕ × List ℕ) → new_ends_at systems names others table ≡ Ok ends
+new_ends_at-keeps : (systems names : List (List ℕ)) (others : List (ℕ × ℕ × ℕ)) (table : Members) (ends : ℕ × ℕ × List ℕ) →
+    new_ends_at systems names others table ≡ Ok ends
     → AreEnds systems names others table ends
 unfolding new_ends_at
 new_ends_at-keeps systems names others table ends h =
@@ -121,20 +126,24 @@ new_ends_at-keeps systems names others table ends h =
       differ = differ;
       text = text;
       among = Contains-at names named.1 named.0 here;
-      new = subst (λ (k : ℕ). list_any (same_triple (receiver, sender, k)) others ≡ false) place (subst (λ (t : ℕ × ℕ × ℕ). list_any (same_triple t) others ≡ false) (sym same) new);
+      new = subst (λ (k : ℕ). list_any (same_triple (receiver, sender, k)) others ≡ false) place
+          (subst (λ (t : ℕ × ℕ × ℕ). list_any (same_triple t) others ≡ false) (sym same) new);
     })
 
 -- a mode is that of its word
 mode_in-word : (text : List ℕ) (mode : InboundMode) → mode_in text ≡ Some mode → text ≡ mode_word mode
 mode_in-word text mode h = elim (cases_Bool (is_text text IMMEDIATE.now)) [
-  | inl is ↦ let first : mode_in text ≡ Some Immediate = rw is refl in let e : Immediate ≡ mode = cc in subst (λ m. text ≡ mode_word m) e ((bytes_decides text IMMEDIATE.now).0 is)
+  | inl is ↦ let first : mode_in text ≡ Some Immediate = rw is refl in let e : Immediate ≡ mode = cc in subst (λ m. text ≡ mode_word m) e
+      ((bytes_decides text IMMEDIATE.now).0 is)
   | inr not_it ↦ elim (cases_Bool (is_text text BACKGROUND.now)) [
-    | inl is ↦ let second : mode_in text ≡ Some Background = rw (not_it, is) refl in let e : Background ≡ mode = cc in subst (λ m. text ≡ mode_word m) e ((bytes_decides text BACKGROUND.now).0 is)
+    | inl is ↦ let second : mode_in text ≡ Some Background = rw (not_it, is) refl in let e : Background ≡ mode = cc in subst (λ m. text ≡ mode_word m) e
+        ((bytes_decides text BACKGROUND.now).0 is)
     | inr other ↦ let none : mode_in text ≡ None = rw (not_it, other) refl in absurd (cc)
   ]
 ]
 
-mode_found-says : (found : Option Data) (mode : InboundMode) → or_else Immediate mode_of found ≡ Ok mode → MatchOption found (mode ≡ Immediate) (λ d. as_str d ≡ Some (mode_word mode))
+mode_found-says : (found : Option Data) (mode : InboundMode) → or_else Immediate mode_of found ≡ Ok mode →
+    MatchOption found (mode ≡ Immediate) (λ d. as_str d ≡ Some (mode_word mode))
 unfolding mode_of
 mode_found-says None mode h = cc
 mode_found-says (Some d) mode h =
@@ -147,7 +156,8 @@ record IsNextInbound (systems names : List (List ℕ)) (before : List Inbound) (
   new : list_any (same_triple (inbound_triple names profile)) others ≡ false
   says : SaysInbound systems before d profile
 
-inbound_of-keeps : (systems names : List (List ℕ)) (before : List Inbound) (others : List (ℕ × ℕ × ℕ)) (d : Data) (profile : Inbound) → inbound_of systems names others d ≡ Ok profile
+inbound_of-keeps : (systems names : List (List ℕ)) (before : List Inbound) (others : List (ℕ × ℕ × ℕ)) (d : Data) (profile : Inbound) →
+    inbound_of systems names others d ≡ Ok profile
     → IsNextInbound systems names before others d profile
 unfolding inbound_of mode_at
 inbound_of-keeps systems names before others d profile h =
@@ -157,7 +167,11 @@ inbound_of-keeps systems names before others d profile h =
     let e : ◌≡◌ {A = Inbound} (record { receiver = ends.0; sender = ends.1; message = ends.2; mode = mode }) profile = cc in
     let are = new_ends_at-keeps systems names others table ends n in
     subst (IsNextInbound systems names before others d) e (record {
-      is = record { ends = two_systems systems SENDER.now RECEIVER.now table ends.1 ends.0 are.sender are.receiver (λ same. are.differ (sym same)); named = are.among };
+      is = record {
+        ends = two_systems systems SENDER.now RECEIVER.now table ends.1 ends.0 are.sender are.receiver
+            (λ same. are.differ (sym same));
+        named = are.among;
+      };
       new = are.new;
       says = record {
         table = table;
@@ -174,11 +188,13 @@ module _ (systems names : List (List ℕ)) where
   abbrev AreSoFar : List Inbound → Type 0
   AreSoFar profiles = AllByRecursion (IsInbound (length systems) names) profiles × IsDistinct same_inbound profiles
 
-  inbound_at-kept : (table : Members) (profiles : List Inbound) → inbound_at systems names table ≡ Ok profiles → AreInbound (length systems) names profiles × SaysListOrNone (SaysInbound systems) INBOUND.now table profiles
+  inbound_at-kept : (table : Members) (profiles : List Inbound) → inbound_at systems names table ≡ Ok profiles →
+      AreInbound (length systems) names profiles × SaysListOrNone (SaysInbound systems) INBOUND.now table profiles
   unfolding inbound_at list_or_none_at IsDistinct
   inbound_at-kept table profiles h =
       let read = λ (done : List Inbound) (d : Data). inbound_of systems names (inbound_triples names done) d in
-      let (ds, l, g) = from_bind (or_else no_items (list_of MOST_INBOUND INBOUND.now) (get_member INBOUND.now table)) (λ ds. each INBOUND.now read 0 [] ds) profiles h in
+      let (ds, l, g) = from_bind (or_else no_items (list_of MOST_INBOUND INBOUND.now) (get_member INBOUND.now table))
+      (λ ds. each INBOUND.now read 0 [] ds) profiles h in
       let long = each-length INBOUND.now read 0 [] ds profiles g in
       let most = list_or_none_at-keeps MOST_INBOUND INBOUND.now table ds l in
       let kept = each-invariant INBOUND.now read AreSoFar
@@ -191,15 +207,18 @@ module _ (systems names : List (List ℕ)) where
         (
           ds,
           list_or_none-says MOST_INBOUND INBOUND.now (get_member INBOUND.now table) ds l,
-          all-says INBOUND.now read (SaysInbound systems) (λ done d profile is. (inbound_of-keeps systems names done (inbound_triples names done) d profile is).says) ds profiles g,
+          all-says INBOUND.now read (SaysInbound systems)
+              (λ done d profile is. (inbound_of-keeps systems names done (inbound_triples names done) d profile is).says) ds profiles g,
         ),
       )
 
 -- profiles that were read keep their rules
-pub inbound_at-keeps : (systems : List System) (names : List (List ℕ)) (table : Members) (profiles : List Inbound) → inbound_at (system_names systems) names table ≡ Ok profiles → AreInbound (length systems) names profiles
+pub inbound_at-keeps : (systems : List System) (names : List (List ℕ)) (table : Members) (profiles : List Inbound) →
+    inbound_at (system_names systems) names table ≡ Ok profiles → AreInbound (length systems) names profiles
 inbound_at-keeps systems names table profiles h =
     subst (λ n. AreInbound n names profiles) (length-map systems (λ (s : System). s.name)) (inbound_at-kept (system_names systems) names table profiles h).0
 
 -- and are what the text says
-pub inbound_at-says : (systems names : List (List ℕ)) (table : Members) (profiles : List Inbound) → inbound_at systems names table ≡ Ok profiles → SaysListOrNone (SaysInbound systems) INBOUND.now table profiles
+pub inbound_at-says : (systems names : List (List ℕ)) (table : Members) (profiles : List Inbound) → inbound_at systems names table ≡ Ok profiles →
+    SaysListOrNone (SaysInbound systems) INBOUND.now table profiles
 inbound_at-says systems names table profiles h = (inbound_at-kept systems names table profiles h).1

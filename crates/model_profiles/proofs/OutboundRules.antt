@@ -42,7 +42,8 @@ record AreChanges (types : List (List ℕ)) (definitions : Definitions) (table :
   says_remove : SaysListOrNone (SaysType types) REMOVE.now table changes.0
   converts : AreReadConverts types definitions table changes.1
 
-changes_at-keeps : (types : List (List ℕ)) (definitions : Definitions) (table : Members) (changes : List ℕ × List Convert) → changes_at types definitions table ≡ Ok changes → AreChanges types definitions table changes
+changes_at-keeps : (types : List (List ℕ)) (definitions : Definitions) (table : Members) (changes : List ℕ × List Convert) →
+    changes_at types definitions table ≡ Ok changes → AreChanges types definitions table changes
 unfolding changes_at
 changes_at-keeps types definitions table changes h =
     let (remove, r, h1) = from_bind (removes_at types table) _ changes h in
@@ -54,7 +55,8 @@ changes_at-keeps types definitions table changes h =
 same_value : {A : Type 0} (x y : A) → ◌≡◌ {A = Result A Finding} (Ok x) (Ok y) → x ≡ y
 same_value x y h = cc
 
-module _ (releases systems types : List (List ℕ)) (definitions : Definitions) (idoc_types : List IdocType) (messages : List Message) (reduced : List Reduced) where
+module _ (releases systems types : List (List ℕ)) (definitions : Definitions) (idoc_types : List IdocType) (messages : List Message)
+    (reduced : List Reduced) where
   -- the rules of both sides
   record AreQueues (message outmod : ℕ) (table : Members) (queues : List QueueRule × List QueueRule) : Type 0 where
     outq : AreQueueRules definitions idoc_types messages message outmod queues.0
@@ -62,7 +64,8 @@ module _ (releases systems types : List (List ℕ)) (definitions : Definitions) 
     says_outq : SaysListOrNone (SaysRule types definitions) OUTQ.now table queues.0
     says_inq : SaysListOrNone (SaysRule types definitions) INQ.now table queues.1
 
-  queues_at-keeps : (message outmod : ℕ) (table : Members) (queues : List QueueRule × List QueueRule) → queues_at types definitions (message_entries idoc_types messages message) outmod table ≡ Ok queues
+  queues_at-keeps : (message outmod : ℕ) (table : Members) (queues : List QueueRule × List QueueRule) →
+      queues_at types definitions (message_entries idoc_types messages message) outmod table ≡ Ok queues
       → AreQueues message outmod table queues
   unfolding queues_at
   queues_at-keeps message outmod table queues h =
@@ -81,7 +84,8 @@ module _ (releases systems types : List (List ℕ)) (definitions : Definitions) 
     says : SaysOutbound releases systems types definitions messages reduced before d profile
 
   module _ (some : 1 ≤ length releases) (same : length types ≡ length definitions.types) where
-    outbound_of-keeps : (before : List Outbound) (ways : List Way) (d : Data) (profile : Outbound) → outbound_of releases systems types definitions idoc_types messages reduced ways d ≡ Ok profile
+    outbound_of-keeps : (before : List Outbound) (ways : List Way) (d : Data) (profile : Outbound) →
+        outbound_of releases systems types definitions idoc_types messages reduced ways d ≡ Ok profile
         → IsNextOutbound before ways d profile
     unfolding outbound_of
     outbound_of-keeps before ways d profile h =
@@ -149,42 +153,52 @@ module _ (releases systems types : List (List ℕ)) (definitions : Definitions) 
 
     -- what the profiles so far are
     abbrev AreSoFar : List Outbound → Type 0
-    AreSoFar profiles = AllByRecursion (IsOutbound (length releases) (length systems) definitions idoc_types messages reduced) profiles × IsDistinct same_way (outbound_ways profiles)
+    AreSoFar profiles = AllByRecursion (IsOutbound (length releases) (length systems) definitions idoc_types messages reduced) profiles × IsDistinct same_way
+        (outbound_ways profiles)
 
-    outbound_at-kept : (table : Members) (profiles : List Outbound) → outbound_at releases systems types definitions idoc_types messages reduced table ≡ Ok profiles
+    outbound_at-kept : (table : Members) (profiles : List Outbound) → outbound_at releases systems types definitions idoc_types messages reduced table
+        ≡ Ok profiles
         → AreOutbound (length releases) (length systems) definitions idoc_types messages reduced profiles
         × SaysListOrNone (SaysOutbound releases systems types definitions messages reduced) OUTBOUND.now table profiles
     unfolding outbound_at list_or_none_at IsDistinct
     outbound_at-kept table profiles h =
         let read = λ (done : List Outbound) (d : Data). outbound_of releases systems types definitions idoc_types messages reduced (outbound_ways done) d in
-        let (ds, l, g) = from_bind (or_else no_items (list_of MOST_OUTBOUND OUTBOUND.now) (get_member OUTBOUND.now table)) (λ ds. each OUTBOUND.now read 0 [] ds) profiles h in
+        let (ds, l, g) = from_bind (or_else no_items (list_of MOST_OUTBOUND OUTBOUND.now) (get_member OUTBOUND.now table))
+        (λ ds. each OUTBOUND.now read 0 [] ds) profiles h in
         let long = each-length OUTBOUND.now read 0 [] ds profiles g in
         let most = list_or_none_at-keeps MOST_OUTBOUND OUTBOUND.now table ds l in
         let kept = each-invariant OUTBOUND.now read AreSoFar
         (λ done d profile so_far is. let next = outbound_of-keeps done (outbound_ways done) d profile is in (
           AllByRecursion-snoc (IsOutbound (length releases) (length systems) definitions idoc_types messages reduced) done profile so_far.0 next.is,
-          subst (IsDistinct same_way) (sym (map_push (λ (p : Outbound). outbound_way p) done profile)) (IsDistinct-push same_way same_triple-symmetric (outbound_ways done) (outbound_way profile) so_far.1 next.new),
+          subst (IsDistinct same_way) (sym (map_push (λ (p : Outbound). outbound_way p) done profile))
+              (IsDistinct-push same_way same_triple-symmetric (outbound_ways done) (outbound_way profile) so_far.1 next.new),
         ))
         0 [] ds profiles (tt, tt) g in (
           record { few = omega (arith, long, most); each = kept.0; apart = kept.1 },
           (
             ds,
             list_or_none-says MOST_OUTBOUND OUTBOUND.now (get_member OUTBOUND.now table) ds l,
-            all-says OUTBOUND.now read (SaysOutbound releases systems types definitions messages reduced) (λ done d profile is. (outbound_of-keeps done (outbound_ways done) d profile is).says) ds profiles g,
+            all-says OUTBOUND.now read (SaysOutbound releases systems types definitions messages reduced)
+                (λ done d profile is. (outbound_of-keeps done (outbound_ways done) d profile is).says) ds profiles g,
           ),
         )
 
 -- profiles that were read keep their rules
-pub outbound_at-keeps : (releases : List (List ℕ)) (systems : List System) (definitions : Definitions) (idoc_types : List IdocType) (messages : List Message) (reduced : List Reduced) (table : Members) (profiles : List Outbound)
-    → 1 ≤ length releases → outbound_at releases (system_names systems) (type_names definitions.types) definitions idoc_types messages reduced table ≡ Ok profiles
+pub outbound_at-keeps : (releases : List (List ℕ)) (systems : List System) (definitions : Definitions) (idoc_types : List IdocType) (messages : List Message)
+    (reduced : List Reduced) (table : Members) (profiles : List Outbound)
+    → 1 ≤ length releases → outbound_at releases (system_names systems) (type_names definitions.types) definitions idoc_types messages reduced table
+    ≡ Ok profiles
     → AreOutbound (length releases) (length systems) definitions idoc_types messages reduced profiles
 outbound_at-keeps releases systems definitions idoc_types messages reduced table profiles some h =
     subst (λ n. AreOutbound (length releases) n definitions idoc_types messages reduced profiles) (length-map systems (λ (s : System). s.name))
-    (outbound_at-kept releases (system_names systems) (type_names definitions.types) definitions idoc_types messages reduced some (length-map definitions.types (λ (t : SegmentType). t.name)) table profiles h).0
+    (outbound_at-kept releases (system_names systems) (type_names definitions.types) definitions idoc_types messages reduced some
+    (length-map definitions.types (λ (t : SegmentType). t.name)) table profiles h).0
 
 -- and are what the text says
-pub outbound_at-says : (releases systems : List (List ℕ)) (definitions : Definitions) (idoc_types : List IdocType) (messages : List Message) (reduced : List Reduced) (table : Members) (profiles : List Outbound)
+pub outbound_at-says : (releases systems : List (List ℕ)) (definitions : Definitions) (idoc_types : List IdocType) (messages : List Message)
+    (reduced : List Reduced) (table : Members) (profiles : List Outbound)
     → 1 ≤ length releases → outbound_at releases systems (type_names definitions.types) definitions idoc_types messages reduced table ≡ Ok profiles
     → SaysListOrNone (SaysOutbound releases systems (type_names definitions.types) definitions messages reduced) OUTBOUND.now table profiles
 outbound_at-says releases systems definitions idoc_types messages reduced table profiles some h =
-    (outbound_at-kept releases systems (type_names definitions.types) definitions idoc_types messages reduced some (length-map definitions.types (λ (t : SegmentType). t.name)) table profiles h).1
+    (outbound_at-kept releases systems (type_names definitions.types) definitions idoc_types messages reduced some
+    (length-map definitions.types (λ (t : SegmentType). t.name)) table profiles h).1

@@ -2,7 +2,8 @@
 use Rattle.std.specs.Prelude.{◌⊎◌, is_some, All, MatchOption}
 use Rattle.std.specs.List.{AllByRecursion, list_all}
 use Rattle.std.specs.Option.{ForSome}
-use Rattle.std.proofs.Common.{◌≡◌, ℕ, ◌≤◌, nat_eq, nat_le, not, cond, true, List, [], ◌∷◌, length, map, position, get_or, Option, Some, None, Ok, Err, refl, sym, ap, subst, ◌∙◌, inl, inr, arith}
+use Rattle.std.proofs.Common.{◌≡◌, ℕ, ◌≤◌, nat_eq, nat_le, not, cond, true, List, [], ◌∷◌, length, map, position, get_or, Option, Some, None, Ok, Err, refl}
+use Rattle.std.proofs.Common.{sym, ap, subst, ◌∙◌, inl, inr, arith}
 use Rattle.std.proofs.lemmas.Bool.{and_parts}
 use Rattle.std.proofs.lemmas.Bool.Decides.{nat_tests}
 use Rattle.std.proofs.lemmas.Option.{slice_get_within, slice_get-get_or}
@@ -32,7 +33,8 @@ use Rattle.model_keys.specs.Says.{SaysListOrNone, SaysPlace}
 use Rattle.model_keys.proofs.KeepsLemmas.{each-invariant, each-length, from_bind, list_or_none_at-keeps, required-ok, tested}
 use Rattle.model_keys.proofs.SaysLemmas.{all-says, and_then-found, entry_of-table, list_or_none-says}
 use Rattle.model_profiles.specs.declared.keys.TheConstants.{FIELD, RULE_KEYS, SEGMENT, TEXT}
-use Rattle.model_profiles.specs.QueueRules.{is_queue_byte, is_rule_text, may_name, place_at, rule_field_at, rule_field_of, rule_of, rule_segment_at, rule_segment_of, rules_at, text_at, text_of, type_named}
+use Rattle.model_profiles.specs.QueueRules.{is_queue_byte, is_rule_text, may_name, place_at, rule_field_at, rule_field_of, rule_of, rule_segment_at}
+use Rattle.model_profiles.specs.QueueRules.{rule_segment_of, rules_at, text_at, text_of, type_named}
 use Rattle.model_profiles.specs.Says.{SaysRule, SaysRulePlace}
 use Rattle.model_profiles.specs.Values.{field_place}
 use Rattle.model_profiles.proofs.ValueRules.{field_place-keeps}
@@ -40,10 +42,12 @@ use Rattle.model_profiles.proofs.ValueRules.{field_place-keeps}
 -- a text of a rule is empty, or a name of a queue
 queue_bytes : (text : List ℕ) → list_all is_queue_byte text ≡ true → All IsNameByte text
 queue_bytes text all k d within =
-    is_byte (get_or text k d) (list_all-Contains is_queue_byte text (get_or text k d) all (Contains-at text k (get_or text k d) (slice_get-get_or text k d within)))
+    is_byte (get_or text k d) (list_all-Contains is_queue_byte text (get_or text k d) all
+    (Contains-at text k (get_or text k d) (slice_get-get_or text k d within)))
   where
     is_byte : (b : ℕ) → is_queue_byte b ≡ true → IsNameByte b
-    is_byte b is = let parts = and_parts (nat_le 33 b) (nat_le b 126) is in let low = parts.0 in let high = parts.1 in (grind (arith, nat_tests, low), grind (arith, nat_tests, high))
+    is_byte b is = let parts = and_parts (nat_le 33 b)
+        (nat_le b 126) is in let low = parts.0 in let high = parts.1 in (grind (arith, nat_tests, low), grind (arith, nat_tests, high))
 
 IsRuleText : (text : List ℕ) → is_rule_text text ≡ true → (text ≡ []) ⊎ IsQueueName text
 IsRuleText [] is = inl refl
@@ -54,7 +58,8 @@ IsRuleText (byte ∷ bytes) is =
     short : (n : ℕ) → nat_le n 24 ≡ true → n ≤ 24
     short n is = grind (arith, nat_tests)
 
-text_found-keeps : (found : Option Data) (text : List ℕ) → or_else [] text_of found ≡ Ok text → ((text ≡ []) ⊎ IsQueueName text) × MatchOption found (text ≡ []) (λ d. as_str d ≡ Some text)
+text_found-keeps : (found : Option Data) (text : List ℕ) → or_else [] text_of found ≡ Ok text →
+    ((text ≡ []) ⊎ IsQueueName text) × MatchOption found (text ≡ []) (λ d. as_str d ≡ Some text)
 unfolding text_of
 text_found-keeps None text h = let e : [] ≡ text = cc in (inl (sym e), sym e)
 text_found-keeps (Some d) text h =
@@ -73,9 +78,11 @@ module _ (types : List (List ℕ)) (definitions : Definitions) (entries : List T
       → (segment : ℕ) × (found ≡ Some segment) × IsRuleSegment segment
   unfolding rule_segment_of
   rule_segment_of-keeps d found here h =
-      let (segment, s, g) = from_bind (required Wrong SEGMENT.now (type_named types d)) (λ segment. cond (may_name entries outmod segment) (Ok (Some segment)) (Err (at Wrong SEGMENT.now))) found h in
+      let (segment, s, g) = from_bind (required Wrong SEGMENT.now (type_named types d))
+      (λ segment. cond (may_name entries outmod segment) (Ok (Some segment)) (Err (at Wrong SEGMENT.now))) found h in
       let (may, e) = tested (may_name entries outmod segment) (Some segment) found (at Wrong SEGMENT.now) g in
-      let (name, text, place) = and_then-found (λ name. position (is_text name) types) (as_str d) segment (required-ok Wrong SEGMENT.now (type_named types d) segment s) in
+      let (name, text, place) = and_then-found (λ name. position (is_text name) types) (as_str d) segment
+      (required-ok Wrong SEGMENT.now (type_named types d) segment s) in
       let parts = and_parts (not (nat_eq outmod 4)) (is_some (entry_of_type entries segment)) may in
       (segment, sym e, record { entry = parts.1; single = apart outmod parts.0; says = (name, (d, here, text), position-name name types segment place) })
     where
@@ -88,7 +95,8 @@ module _ (types : List (List ℕ)) (definitions : Definitions) (entries : List T
     collected : outmod ≡ 4 → place ≡ None
     says : SaysRulePlace types definitions table place
 
-  rule_field_of-keeps : (segment : ℕ) (found : Option FieldPlace) → IsRuleSegment segment → rule_field_of definitions segment table ≡ Ok found → IsRulePlace found
+  rule_field_of-keeps : (segment : ℕ) (found : Option FieldPlace) → IsRuleSegment segment → rule_field_of definitions segment table ≡ Ok found →
+      IsRulePlace found
   unfolding rule_field_of
   rule_field_of-keeps segment found is h =
       let (d, g, h1) = from_bind (required Wrong FIELD.now (get_member FIELD.now table)) _ found h in
@@ -96,7 +104,8 @@ module _ (types : List (List ℕ)) (definitions : Definitions) (entries : List T
       let (place, p, h3) = from_bind (required Wrong FIELD.now (field_place definitions segment name)) _ found h2 in
       let whole : FieldPlace = record { segment = segment; field = place } in
       let e : Some whole ≡ found = cc in
-      let (field, here, named) = field_place-keeps definitions segment name place (required-ok Wrong FIELD.now (field_place definitions segment name) place p) in
+      let (field, here, named) = field_place-keeps definitions segment name place
+      (required-ok Wrong FIELD.now (field_place definitions segment name) place p) in
       subst IsRulePlace e (record {
         is = λ other same. let e : whole ≡ other = cc in subst (λ (p : FieldPlace). IsFieldAmong definitions entries p.segment p.field) e
             (record { entry = is.entry; field = slice_get_within (all_fields definitions segment) place field here });
@@ -106,7 +115,12 @@ module _ (types : List (List ℕ)) (definitions : Definitions) (entries : List T
           record {
             field = field;
             here = here;
-            named = (d, required-ok Wrong FIELD.now (get_member FIELD.now table) d g, subst (λ text. as_str d ≡ Some text) (sym named) (required-ok Wrong FIELD.now (as_str d) name n));
+            named = (
+              d,
+              required-ok Wrong FIELD.now (get_member FIELD.now table) d g,
+              subst (λ text. as_str d ≡ Some text) (sym named)
+                  (required-ok Wrong FIELD.now (as_str d) name n),
+            );
           },
         );
       })
@@ -127,7 +141,8 @@ module _ (types : List (List ℕ)) (definitions : Definitions) (entries : List T
   place_at-keeps place h = place_found (get_member SEGMENT.now table) (get_member FIELD.now table) place refl refl h
 
 module _ (types : List (List ℕ)) (definitions : Definitions) (idoc_types : List IdocType) (messages : List Message) (message outmod : ℕ) where
-  rule_of-keeps : (before : List QueueRule) (d : Data) (rule : QueueRule) → rule_of types definitions (message_entries idoc_types messages message) outmod d ≡ Ok rule
+  rule_of-keeps : (before : List QueueRule) (d : Data) (rule : QueueRule) → rule_of types definitions (message_entries idoc_types messages message) outmod d
+      ≡ Ok rule
       → IsQueueRule definitions idoc_types messages message outmod rule × SaysRule types definitions before d rule
   unfolding rule_of text_at
   rule_of-keeps before d rule h =
@@ -143,7 +158,8 @@ module _ (types : List (List ℕ)) (definitions : Definitions) (idoc_types : Lis
         record { table = table; is = entry_of-table (map (λ key. key.now) RULE_KEYS) d table t; text = says_text; place = is.says },
       )
 
-  pub rules_at-keeps : (key : List ℕ) (table : Members) (rules : List QueueRule) → rules_at types definitions (message_entries idoc_types messages message) outmod key table ≡ Ok rules
+  pub rules_at-keeps : (key : List ℕ) (table : Members) (rules : List QueueRule) →
+      rules_at types definitions (message_entries idoc_types messages message) outmod key table ≡ Ok rules
       → AreQueueRules definitions idoc_types messages message outmod rules × SaysListOrNone (SaysRule types definitions) key table rules
   unfolding rules_at list_or_none_at
   rules_at-keeps key table rules h =
@@ -154,8 +170,14 @@ module _ (types : List (List ℕ)) (definitions : Definitions) (idoc_types : Lis
         record {
           few = omega (arith, long, most);
           each = each-invariant key read (AllByRecursion (IsQueueRule definitions idoc_types messages message outmod))
-              (λ done d rule so_far is. AllByRecursion-snoc (IsQueueRule definitions idoc_types messages message outmod) done rule so_far (rule_of-keeps done d rule is).0)
+              (λ done d rule so_far is. AllByRecursion-snoc (IsQueueRule definitions idoc_types messages message outmod) done rule so_far
+              (rule_of-keeps done d rule is).0)
               0 [] ds rules tt g;
         },
-        (ds, list_or_none-says MOST_RULES key (get_member key table) ds l, all-says key read (SaysRule types definitions) (λ done d rule is. (rule_of-keeps done d rule is).1) ds rules g),
+        (
+          ds,
+          list_or_none-says MOST_RULES key (get_member key table) ds l,
+          all-says key read (SaysRule types definitions)
+              (λ done d rule is. (rule_of-keeps done d rule is).1) ds rules g,
+        ),
       )

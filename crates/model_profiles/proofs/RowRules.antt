@@ -1,7 +1,8 @@
 -- Rows that were read keep their rules, and are what their text says.
 use Rattle.std.specs.Prelude.{codes, slice_get}
 use Rattle.std.specs.List.{AllByRecursion, IsDistinct, list_any}
-use Rattle.std.proofs.Common.{◌≡◌, ℕ, ◌≤◌, nat_eq, true, false, List, [], ◌∷◌, ◌++◌, length, map, position, Option, Some, Ok, sym, ap, subst, ◌∙◌, append_assoc, append-nil, arith}
+use Rattle.std.proofs.Common.{◌≡◌, ℕ, ◌≤◌, nat_eq, true, false, List, [], ◌∷◌, ◌++◌, length, map, position, Option, Some, Ok, sym, ap, subst, ◌∙◌, append_assoc}
+use Rattle.std.proofs.Common.{append-nil, arith}
 use Rattle.std.specs.Cmp.Lexicographic.{bytes_decides}
 use Rattle.std.specs.Option.{option_map_or}
 use Rattle.std.proofs.lemmas.Bool.{and_parts}
@@ -49,10 +50,12 @@ record IsNamedFilter (filters : List Filter) (message : ℕ) (key : List ℕ) (p
   own : filter.message ≡ message
   named : filter.name ≡ key
 
-filter_named-keeps : (filters : List Filter) (message : ℕ) (key : List ℕ) (place : ℕ) → filter_named filters message key ≡ Ok place → IsNamedFilter filters message key place
+filter_named-keeps : (filters : List Filter) (message : ℕ) (key : List ℕ) (place : ℕ) → filter_named filters message key ≡ Ok place →
+    IsNamedFilter filters message key place
 unfolding filter_named
 filter_named-keeps filters message key place h =
-    let (filter, here, is) = position-found (is_filter message key) filters place (required-ok Unknown (codes "." ++ key) (position (is_filter message key) filters) place h) in
+    let (filter, here, is) = position-found (is_filter message key) filters place
+    (required-ok Unknown (codes "." ++ key) (position (is_filter message key) filters) place h) in
     let parts = and_parts (nat_eq message filter.message) (is_text key filter.name) is in
     record { filter = filter; here = here; own = same message filter.message parts.0; named = sym ((bytes_decides key filter.name).0 parts.1) }
   where
@@ -62,9 +65,11 @@ filter_named-keeps filters message key place h =
 -- values that were read, of a field
 values_of-says : (width : ℕ) (key : List ℕ) (ds : Items) (values : List (List ℕ)) → values_of width key ds ≡ Ok values → OneForOne SaysValue [] ds values
 values_of-says width key ds values h =
-    all-says key (λ (done : List (List ℕ)) (d : Data). field_value_of width [] d) SaysValue (λ done d value is. (field_value_of-keeps width [] d value is).0) ds values h
+    all-says key (λ (done : List (List ℕ)) (d : Data). field_value_of width [] d) SaysValue (λ done d value is. (field_value_of-keeps width [] d value is).0) ds
+    values h
 
-module _ (definitions : Definitions) (types : List IdocType) (messages : List Message) (filters : List Filter) (are : AllByRecursion (IsFilter definitions types messages) filters) (message : ℕ) where
+module _ (definitions : Definitions) (types : List IdocType) (messages : List Message) (filters : List Filter)
+    (are : AllByRecursion (IsFilter definitions types messages) filters) (message : ℕ) where
   -- a condition that was read
   record IsReadChoice (key : List ℕ) (d : Data) (choice : Choice) : Type 0 where
     is : IsChoice definitions filters message choice
@@ -96,7 +101,16 @@ module _ (definitions : Definitions) (types : List IdocType) (messages : List Me
               (IsValueOf-read definitions filter.segment filter.field value place_is.field (subst (λ n. length value ≤ n) width fits) bare))
               0 [] ds values tt v;
         };
-        says = record { filter = filter; here = named.here; own = named.own; named = named.named; list = ds; is = list.0; values = values_of-says (filter_width definitions filters place) key ds values v };
+        says = record {
+          filter = filter;
+          here = named.here;
+          own = named.own;
+          named = named.named;
+          list = ds;
+          is = list.0;
+          values = values_of-says
+              (filter_width definitions filters place) key ds values v;
+        };
       })
     where
       filter_length : Filter → ℕ
@@ -117,7 +131,8 @@ module _ (definitions : Definitions) (types : List IdocType) (messages : List Me
       let (are_all, (more, e, says)) = choices_of-keeps (done ++ choice ∷ []) rest all pushed g in
       (are_all, (choice ∷ more, e ∙ append_assoc done (choice ∷ []) more, (next.says, says)))
 
-  group_of-keeps : (before : List Group) (d : Data) (group : Group) → group_of definitions filters message d ≡ Ok group → IsGroup definitions filters message group × SaysGroup filters message before d group
+  group_of-keeps : (before : List Group) (d : Data) (group : Group) → group_of definitions filters message d ≡ Ok group →
+      IsGroup definitions filters message group × SaysGroup filters message before d group
   unfolding group_of table_of
   group_of-keeps before d group h =
       let (table, t, h1) = from_bind (required Wrong [] (as_table d)) _ group h in
@@ -153,14 +168,16 @@ module _ (definitions : Definitions) (types : List IdocType) (messages : List Me
         );
       }
 
-module _ (systems messages_named : List (List ℕ)) (definitions : Definitions) (types : List IdocType) (messages : List Message) (filters : List Filter) (are : AllByRecursion (IsFilter definitions types messages) filters) where
+module _ (systems messages_named : List (List ℕ)) (definitions : Definitions) (types : List IdocType) (messages : List Message) (filters : List Filter)
+    (are : AllByRecursion (IsFilter definitions types messages) filters) where
   -- one more row
   record IsNextRow (before : List Row) (ways : List Way) (d : Data) (row : Row) : Type 0 where
     is : IsRow (length systems) (length messages_named) definitions filters row
     new : list_any (same_way (row_way row)) ways ≡ false
     says : SaysRow systems messages_named filters before d row
 
-  row_of-keeps : (before : List Row) (ways : List Way) (d : Data) (row : Row) → row_of systems definitions messages_named filters ways d ≡ Ok row → IsNextRow before ways d row
+  row_of-keeps : (before : List Row) (ways : List Way) (d : Data) (row : Row) → row_of systems definitions messages_named filters ways d ≡ Ok row →
+      IsNextRow before ways d row
   unfolding row_of
   row_of-keeps before ways d row h =
       let (table, t, h1) = from_bind (entry_of (map (λ key. key.now) ROW_KEYS) d) _ row h in
@@ -190,7 +207,8 @@ module _ (systems messages_named : List (List ℕ)) (definitions : Definitions) 
       let kept = each-invariant ROW.now read AreRowsSoFar
       (λ done d row so_far is. let next = row_of-keeps done (row_ways done) d row is in (
         AllByRecursion-snoc (IsRow (length systems) (length messages_named) definitions filters) done row so_far.0 next.is,
-        subst (IsDistinct same_way) (sym (map_push (λ (r : Row). row_way r) done row)) (IsDistinct-push same_way same_triple-symmetric (row_ways done) (row_way row) so_far.1 next.new),
+        subst (IsDistinct same_way) (sym (map_push (λ (r : Row). row_way r) done row))
+            (IsDistinct-push same_way same_triple-symmetric (row_ways done) (row_way row) so_far.1 next.new),
       ))
       0 [] ds rows (tt, tt) g in (
         record { few = omega (arith, long, most); each = kept.0; apart = kept.1 },
@@ -202,7 +220,8 @@ module _ (systems messages_named : List (List ℕ)) (definitions : Definitions) 
       )
 
 -- rows that were read keep their rules
-pub rows_at-keeps : (systems : List System) (definitions : Definitions) (types : List IdocType) (messages : List Message) (filters : List Filter) (table : Members) (rows : List Row)
+pub rows_at-keeps : (systems : List System) (definitions : Definitions) (types : List IdocType) (messages : List Message) (filters : List Filter)
+    (table : Members) (rows : List Row)
     → AreFilters definitions types messages filters → rows_at (system_names systems) definitions (message_names messages) filters table ≡ Ok rows
     → AreRows (length systems) (length messages) definitions filters rows
 rows_at-keeps systems definitions types messages filters table rows are h =
@@ -211,7 +230,8 @@ rows_at-keeps systems definitions types messages filters table rows are h =
     (rows_at-kept (system_names systems) (message_names messages) definitions types messages filters are.each table rows h).0)
 
 -- and are what the text says
-pub rows_at-says : (systems messages_named : List (List ℕ)) (definitions : Definitions) (types : List IdocType) (messages : List Message) (filters : List Filter) (table : Members) (rows : List Row)
+pub rows_at-says : (systems messages_named : List (List ℕ)) (definitions : Definitions) (types : List IdocType) (messages : List Message)
+    (filters : List Filter) (table : Members) (rows : List Row)
     → AreFilters definitions types messages filters → rows_at systems definitions messages_named filters table ≡ Ok rows
     → SaysListOrNone (SaysRow systems messages_named filters) ROW.now table rows
 rows_at-says systems messages_named definitions types messages filters table rows are h =

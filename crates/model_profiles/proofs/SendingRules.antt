@@ -2,7 +2,8 @@
 -- rules, and is what its text says.
 use Rattle.std.specs.Prelude.{◌⊎◌, slice_get, IsTrue, MatchOption}
 use Rattle.std.specs.Option.{ForSome, option_map_or}
-use Rattle.std.proofs.Common.{◌≡◌, ℕ, pos, zero, suc, ◌-◌, ◌<◌, ◌≤◌, nat_eq, nat_lt, cond, Bool, true, false, List, [], ◌∷◌, ◌++◌, length, position, Option, Some, None, Ok, Err, refl, sym, ap, subst, ◌∙◌, inl, inr, arith}
+use Rattle.std.proofs.Common.{◌≡◌, ℕ, pos, zero, suc, ◌-◌, ◌<◌, ◌≤◌, nat_eq, nat_lt, cond, Bool, true, false, List, [], ◌∷◌, ◌++◌, length, position, Option}
+use Rattle.std.proofs.Common.{Some, None, Ok, Err, refl, sym, ap, subst, ◌∙◌, inl, inr, arith}
 use Rattle.std.proofs.lemmas.Bool.{cases_Bool}
 use Rattle.std.proofs.lemmas.Bool.Decides.{nat_tests}
 use Rattle.std.proofs.lemmas.List.{length-map}
@@ -24,7 +25,8 @@ use Rattle.model_keys.specs.Says.{IsPlaceNamed}
 use Rattle.model_keys.proofs.KeepsLemmas.{from_bind, name_of-keeps, number_of-keeps, required-ok, tested, untested}
 use Rattle.model_keys.proofs.SaysLemmas.{and_then-found}
 use Rattle.model_profiles.specs.declared.keys.TheConstants.{FUNCTION, OUTMOD, PACKET, PORT, REDUCED, RELEASE, STANDARD_FUNCTION}
-use Rattle.model_profiles.specs.Outbound.{function_at, is_reduction, outmod_at, outmod_of, packet_at, packet_of, port_at, reduced_at, reduced_named, reduced_of, reduced_place, release_at, release_of, sending_at, target_at}
+use Rattle.model_profiles.specs.Outbound.{function_at, is_reduction, outmod_at, outmod_of, packet_at, packet_of, port_at, reduced_at, reduced_named, reduced_of}
+use Rattle.model_profiles.specs.Outbound.{reduced_place, release_at, release_of, sending_at, target_at}
 use Rattle.model_profiles.specs.Says.{SaysReduced}
 
 -- 2 or 4
@@ -61,7 +63,8 @@ packet_found-keeps outmod (Some d) packet h =
     not_both : (k : ℕ) → nat_eq k 4 ≡ true → k ≡ 2 → ⊥
     not_both k four two = grind (arith, nat_tests)
 
-release_found-keeps : (releases : List (List ℕ)) (found : Option Data) (release : ℕ) → 1 ≤ length releases → or_else (length releases - 1) (release_of releases) found ≡ Ok release
+release_found-keeps : (releases : List (List ℕ)) (found : Option Data) (release : ℕ) → 1 ≤ length releases →
+    or_else (length releases - 1) (release_of releases) found ≡ Ok release
     → (release < length releases) × MatchOption found (release ≡ length releases - 1) (λ d. IsPlaceNamed releases d release)
 unfolding release_of
 release_found-keeps releases None release some h = let e : length releases - 1 ≡ release = cc in (omega (arith, e, some), sym e)
@@ -71,7 +74,8 @@ release_found-keeps releases (Some d) release some h =
     (slice_get_within releases release name here, (name, (name_of-keeps LONGEST_RELEASE RELEASE.now d name n).0, here))
 
 -- what stands behind a list
-get_behind : {A : Type 0} (xs ys : List A) (place : ℕ) (y : A) → length xs ≤ place → slice_get (xs ++ ys) place ≡ Some y → slice_get ys (place - length xs) ≡ Some y
+get_behind : {A : Type 0} (xs ys : List A) (place : ℕ) (y : A) → length xs ≤ place → slice_get (xs ++ ys) place ≡ Some y →
+    slice_get ys (place - length xs) ≡ Some y
 get_behind [] ys place y past here = subst (λ k. slice_get ys k ≡ Some y) (sym e) here
   where
     e : place - 0 ≡ place
@@ -91,7 +95,8 @@ reduced_named-keeps messages reduced name place h =
     let here = get_behind (message_names messages) (reduced_names reduced) found name (omega (arith, long, past)) (position-name name names found f) in
     subst (λ k. slice_get (reduced_names reduced) k ≡ Some name) (ap (λ n. found - n) long ∙ e) here
   where
-    behind : (found : ℕ) (b : Bool) → b ≡ nat_lt found (length messages) → cond b None (Some (found - length messages)) ≡ Some place → (length messages ≤ found) × (found - length messages ≡ place)
+    behind : (found : ℕ) (b : Bool) → b ≡ nat_lt found (length messages) → cond b None (Some (found - length messages)) ≡ Some place →
+        (length messages ≤ found) × (found - length messages ≡ place)
     behind found true is h = absurd (cc)
     behind found false is h = (past found (length messages) (sym is), cc)
       where
@@ -102,24 +107,28 @@ reduced_named-keeps messages reduced name place h =
 is_reduction-keeps : (reduced : List Reduced) (message place : ℕ) → is_reduction reduced message place ≡ true → IsReductionOf reduced message place
 is_reduction-keeps reduced message place is = found (slice_get reduced place) refl is
   where
-    found : (o : Option Reduced) → slice_get reduced place ≡ o → option_map_or (λ (one : Reduced). nat_eq message one.message) o false ≡ true → IsReductionOf reduced message place
+    found : (o : Option Reduced) → slice_get reduced place ≡ o → option_map_or (λ (one : Reduced). nat_eq message one.message) o false ≡ true →
+        IsReductionOf reduced message place
     found None here is = absurd (cc)
     found (Some one) here is = record { one = one; here = here; own = same message one.message is }
       where
         same : (a b : ℕ) → nat_eq a b ≡ true → b ≡ a
         same a b is = grind (arith, nat_tests)
 
-reduced_found-keeps : (messages : List Message) (reduced : List Reduced) (message : ℕ) (found : Option Data) (reduction : Option ℕ) → or_else None (reduced_of messages reduced message) found ≡ Ok reduction
+reduced_found-keeps : (messages : List Message) (reduced : List Reduced) (message : ℕ) (found : Option Data) (reduction : Option ℕ) →
+    or_else None (reduced_of messages reduced message) found ≡ Ok reduction
     → ForSome reduction (IsReductionOf reduced message) × MatchOption found (reduction ≡ None) (SaysReduced reduced reduction)
 unfolding reduced_of
 reduced_found-keeps messages reduced message None reduction h =
     let e : ◌≡◌ {A = Option ℕ} None reduction = cc in (subst (λ o. ForSome o (IsReductionOf reduced message)) e (λ place same. absurd (cc)), sym e)
 reduced_found-keeps messages reduced message (Some d) reduction h =
     let (name, n, h1) = from_bind (name_of LONGEST_NAME REDUCED.now d) _ reduction h in
-    let (place, p, g) = from_bind (required Unknown REDUCED.now (reduced_named messages reduced name)) (λ place. cond (is_reduction reduced message place) (Ok (Some place)) (Err (at Wrong REDUCED.now))) reduction h1 in
+    let (place, p, g) = from_bind (required Unknown REDUCED.now (reduced_named messages reduced name))
+    (λ place. cond (is_reduction reduced message place) (Ok (Some place)) (Err (at Wrong REDUCED.now))) reduction h1 in
     let (is, e) = tested (is_reduction reduced message place) (Some place) reduction (at Wrong REDUCED.now) g in
     let here = reduced_named-keeps messages reduced name place (required-ok Unknown REDUCED.now (reduced_named messages reduced name) place p) in (
-      subst (λ o. ForSome o (IsReductionOf reduced message)) e (λ other same. let same_place : place ≡ other = cc in subst (IsReductionOf reduced message) same_place (is_reduction-keeps reduced message place is)),
+      subst (λ o. ForSome o (IsReductionOf reduced message)) e
+          (λ other same. let same_place : place ≡ other = cc in subst (IsReductionOf reduced message) same_place (is_reduction-keeps reduced message place is)),
       (place, sym e, (name, (name_of-keeps LONGEST_NAME REDUCED.now d name n).0, here)),
     )
 
@@ -137,7 +146,8 @@ module _ (releases : List (List ℕ)) (messages : List Message) (reduced : List 
     pub says_release : MatchOption (get_member RELEASE.now table) (sending.2 ≡ length releases - 1) (λ d. IsPlaceNamed releases d sending.2)
     pub says_reduction : MatchOption (get_member REDUCED.now table) (sending.3 ≡ None) (SaysReduced reduced sending.3)
 
-  pub sending_at-keeps : (sending : ℕ × ℕ × ℕ × Option ℕ) → 1 ≤ length releases → sending_at releases messages reduced message table ≡ Ok sending → IsSending sending
+  pub sending_at-keeps : (sending : ℕ × ℕ × ℕ × Option ℕ) → 1 ≤ length releases → sending_at releases messages reduced message table ≡ Ok sending →
+      IsSending sending
   unfolding sending_at outmod_at packet_at release_at reduced_at
   sending_at-keeps sending some h =
       let (outmod, o, h1) = from_bind (or_else 2 outmod_of (get_member OUTMOD.now table)) _ sending h in

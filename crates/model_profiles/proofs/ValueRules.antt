@@ -1,7 +1,8 @@
 -- Values of fields that were read.
 use Rattle.std.specs.Prelude.{slice_get}
 use Rattle.std.specs.Option.{option_map_or}
-use Rattle.std.proofs.Common.{◌≡◌, ℕ, suc, ◌≤◌, nat_le, cond, Bool, true, List, [], ◌∷◌, length, position, Option, Some, Ok, Err, refl, sym, ap, subst, ◌∙◌, inl, inr, arith}
+use Rattle.std.proofs.Common.{◌≡◌, ℕ, suc, ◌≤◌, nat_le, cond, Bool, true, List, [], ◌∷◌, length, position, Option, Some, Ok, Err, refl, sym, ap, subst, ◌∙◌}
+use Rattle.std.proofs.Common.{inl, inr, arith}
 use Rattle.std.proofs.lemmas.Bool.{cases_Bool}
 use Rattle.std.proofs.lemmas.Bool.Decides.{nat_tests}
 use Rattle.std.proofs.lemmas.Option.{slice_get_within}
@@ -27,10 +28,12 @@ use Rattle.model_profiles.specs.declared.keys.TheConstants.{FIELD}
 use Rattle.model_keys.specs.Keys.{name_at}
 
 -- what stands at the first place that passes a test
-pub position-found : {A : Type 0} (test : A → Bool) (xs : List A) (place : ℕ) → position test xs ≡ Some place → (x : A) × (slice_get xs place ≡ Some x) × (test x ≡ true)
+pub position-found : {A : Type 0} (test : A → Bool) (xs : List A) (place : ℕ) → position test xs ≡ Some place →
+    (x : A) × (slice_get xs place ≡ Some x) × (test x ≡ true)
 position-found test [] place h = absurd (cc)
 position-found test (x ∷ xs) place h = elim (cases_Bool (test x)) [
-  | inl passes ↦ let e : Some 0 ≡ Some place = sym (position-here test x xs passes) ∙ h in let same : 0 ≡ place = cc in (x, subst (λ k. slice_get (x ∷ xs) k ≡ Some x) same refl, passes)
+  | inl passes ↦ let e : Some 0 ≡ Some place = sym (position-here test x xs passes)
+      ∙ h in let same : 0 ≡ place = cc in (x, subst (λ k. slice_get (x ∷ xs) k ≡ Some x) same refl, passes)
   | inr fails ↦
       let (behind, found, next) = option_map-Some suc (position test xs) place (sym (position-behind test x xs fails) ∙ h) in
       let (y, here, passes) = position-found test xs behind found in
@@ -42,7 +45,8 @@ pub field_value_of-keeps : (width : ℕ) (path : List ℕ) (d : Data) (value : L
     → IsValueText d value × (length value ≤ width) × (trimmed value ≡ value)
 unfolding field_value_of
 field_value_of-keeps width path d value h =
-    let (text, t, g) = from_bind (required Wrong path (as_str d)) (λ text. cond (nat_le (length text) width) (Ok (trimmed text)) (Err (at Wrong path))) value h in
+    let (text, t, g) = from_bind (required Wrong path (as_str d)) (λ text. cond (nat_le (length text) width) (Ok (trimmed text)) (Err (at Wrong path))) value
+    h in
     let (fits, e) = tested (nat_le (length text) width) (trimmed text) value (at Wrong path) g in (
       (text, required-ok Wrong path (as_str d) text t, e),
       subst (λ v. length v ≤ width) e (short (length text) (length (trimmed text)) fits (length-trimmed text)),
@@ -73,7 +77,8 @@ pub field_at-keeps : (definitions : Definitions) (segment : ℕ) (table : Member
 unfolding field_at
 field_at-keeps definitions segment table place h =
     let (name, n, g) = from_bind (name_at LONGEST_NAME FIELD.now table) (λ name. required Unknown FIELD.now (field_place definitions segment name)) place h in
-    let (field, here, named) = field_place-keeps definitions segment name place (required-ok Unknown FIELD.now (field_place definitions segment name) place g) in (
+    let (field, here, named) = field_place-keeps definitions segment name place
+    (required-ok Unknown FIELD.now (field_place definitions segment name) place g) in (
       slice_get_within (all_fields definitions segment) place field here,
       record { field = field; here = here; named = subst (HasText FIELD.now table) (sym named) (name_at-keeps LONGEST_NAME FIELD.now table name n).0 },
     )

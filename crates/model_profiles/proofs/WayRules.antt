@@ -16,14 +16,16 @@ use Rattle.model_profiles.specs.declared.keys.TheConstants.{MESSAGE, RECEIVER, S
 use Rattle.model_profiles.specs.Ways.{new_triple, new_way_at, other_system_at, system_at, way_at}
 use Rattle.model_profiles.specs.Says.{SaysSystem, SaysWay}
 
-pub system_at-says : (key : List ℕ) (systems : List (List ℕ)) (table : Members) (system : ℕ) → system_at key systems table ≡ Ok system → SaysSystem systems key table system
+pub system_at-says : (key : List ℕ) (systems : List (List ℕ)) (table : Members) (system : ℕ) → system_at key systems table ≡ Ok system →
+    SaysSystem systems key table system
 unfolding system_at
 system_at-says key systems table system h =
     let (place, p, e) = from_bind (reference_at LONGEST_SYSTEM key systems table) _ system h in
     let same : suc place ≡ system = cc in
     (place, same, reference_at-keeps LONGEST_SYSTEM key systems table place p)
 
-pub other_system_at-says : (key : List ℕ) (other : ℕ) (systems : List (List ℕ)) (table : Members) (system : ℕ) → other_system_at key other systems table ≡ Ok system
+pub other_system_at-says : (key : List ℕ) (other : ℕ) (systems : List (List ℕ)) (table : Members) (system : ℕ) →
+    other_system_at key other systems table ≡ Ok system
     → SaysSystem systems key table system × (other ≡ system → ⊥)
 unfolding other_system_at
 other_system_at-says key other systems table system h =
@@ -35,13 +37,15 @@ other_system_at-says key other systems table system h =
     apart a b differs same = grind (arith, nat_tests)
 
 -- a system that is said is one of the systems
-pub SaysSystem-within : (systems : List (List ℕ)) (key : List ℕ) (table : Members) (system : ℕ) → SaysSystem systems key table system → (1 ≤ system) × (system ≤ length systems)
+pub SaysSystem-within : (systems : List (List ℕ)) (key : List ℕ) (table : Members) (system : ℕ) → SaysSystem systems key table system →
+    (1 ≤ system) × (system ≤ length systems)
 SaysSystem-within systems key table system says =
     let (place, counted, (name, text, here)) = says in
     let within = slice_get_within systems place name here in
     (omega (arith, counted), omega (arith, counted, within))
 
-pub two_systems : (systems : List (List ℕ)) (one two : List ℕ) (table : Members) (a b : ℕ) → SaysSystem systems one table a → SaysSystem systems two table b → (a ≡ b → ⊥)
+pub two_systems : (systems : List (List ℕ)) (one two : List ℕ) (table : Members) (a b : ℕ) → SaysSystem systems one table a → SaysSystem systems two table b →
+    (a ≡ b → ⊥)
     → AreTwoSystems (length systems) a b
 two_systems systems one two table a b says others differ =
     let first = SaysSystem-within systems one table a says in
@@ -53,7 +57,8 @@ pub record IsReadWay (systems messages : List (List ℕ)) (table : Members) (way
   pub is : IsWay (length systems) (length messages) way
   pub says : SaysWay systems messages table way
 
-pub way_at-keeps : (systems messages : List (List ℕ)) (table : Members) (way : Way) → way_at systems messages table ≡ Ok way → IsReadWay systems messages table way
+pub way_at-keeps : (systems messages : List (List ℕ)) (table : Members) (way : Way) → way_at systems messages table ≡ Ok way →
+    IsReadWay systems messages table way
 unfolding way_at
 way_at-keeps systems messages table way h =
     let (sender, s, h1) = from_bind (system_at SENDER.now systems table) _ way h in
@@ -64,11 +69,16 @@ way_at-keeps systems messages table way h =
     let (to, differ) = other_system_at-says RECEIVER.now sender systems table receiver r in
     let (name, text, here) = reference_at-keeps LONGEST_NAME MESSAGE.now messages table message m in
     subst (IsReadWay systems messages table) e (record {
-      is = record { ends = two_systems systems SENDER.now RECEIVER.now table sender receiver from to differ; message = slice_get_within messages message name here };
+      is = record {
+        ends = two_systems systems SENDER.now RECEIVER.now table sender receiver from to differ;
+        message = slice_get_within messages message name
+            here;
+      };
       says = record { sender = from; receiver = to; message = (name, text, here) };
     })
 
-pub new_triple-keeps : (triples : List (ℕ × ℕ × ℕ)) (triple new : ℕ × ℕ × ℕ) → new_triple triples triple ≡ Ok new → (triple ≡ new) × (list_any (same_triple new) triples ≡ false)
+pub new_triple-keeps : (triples : List (ℕ × ℕ × ℕ)) (triple new : ℕ × ℕ × ℕ) → new_triple triples triple ≡ Ok new →
+    (triple ≡ new) × (list_any (same_triple new) triples ≡ false)
 unfolding new_triple
 new_triple-keeps triples triple new h =
     let (apart, e) = untested (list_any (same_triple triple) triples) triple new (at Twice []) h in

@@ -1,5 +1,6 @@
 -- The section `outbound`: how documents of a message type are sent from one system to another.
-use Rattle.std.specs.Prelude.{ℕ, ◌-◌, Bool, false, List, [], ◌++◌, length, map, nat_eq, nat_lt, position, slice_get, Option, Some, None, option_and_then, Result, Ok, Err, if◌then◌else◌}
+use Rattle.std.specs.Prelude.{ℕ, ◌-◌, Bool, false, List, [], ◌++◌, length, map, nat_eq, nat_lt, position, slice_get, Option, Some, None, option_and_then}
+use Rattle.std.specs.Prelude.{Result, Ok, Err, if◌then◌else◌}
 use Rattle.std.specs.Option.{option_map_or}
 use Rattle.toml.specs.Data.{Data, Items, Members, get_member}
 use Rattle.ale_base.specs.Text.{is_text}
@@ -20,7 +21,8 @@ use Rattle.model_keys.specs.declared.finding.Cause.TheVariants.{Unknown, Wrong}
 use Rattle.model_keys.specs.Finding.{◌>>=◌, at, required}
 use Rattle.model_keys.specs.Each.{each}
 use Rattle.model_keys.specs.Keys.{entry_of, list_or_none_at, name_of, number_of, or_else}
-use Rattle.model_profiles.specs.declared.keys.TheConstants.{FUNCTION, INQ, OUTBOUND, OUTBOUND_KEYS, OUTMOD, OUTQ, PACKET, PORT, REDUCED, RELEASE, STANDARD_FUNCTION}
+use Rattle.model_profiles.specs.declared.keys.TheConstants.{FUNCTION, INQ, OUTBOUND, OUTBOUND_KEYS, OUTMOD, OUTQ, PACKET, PORT, REDUCED, RELEASE}
+use Rattle.model_profiles.specs.declared.keys.TheConstants.{STANDARD_FUNCTION}
 use Rattle.model_profiles.specs.Changes.{converts_at, removes_at}
 use Rattle.model_profiles.specs.QueueRules.{rules_at}
 use Rattle.model_profiles.specs.Ways.{new_way_at}
@@ -118,7 +120,8 @@ queues_at types definitions entries outmod table = do
   Ok (outq, inq)
 
 -- a profile, by releases, systems and segment types of these names, whose way none of the others has
-unfoldable pub outbound_of : List (List ℕ) → List (List ℕ) → List (List ℕ) → Definitions → List IdocType → List Message → List Reduced → List Way → Data → Result Outbound Finding
+unfoldable pub outbound_of : List (List ℕ) → List (List ℕ) → List (List ℕ) → Definitions → List IdocType → List Message → List Reduced → List Way → Data →
+    Result Outbound Finding
 outbound_of releases systems types definitions idoc_types messages reduced ways d = do
   table ← entry_of (map (λ key. key.now) OUTBOUND_KEYS) d
   way ← new_way_at systems (message_names messages) ways table
@@ -143,12 +146,14 @@ outbound_of releases systems types definitions idoc_types messages reduced ways 
   })
 
 -- the profiles of a list, each behind those before it
-abbrev pub outbounds_of : List (List ℕ) → List (List ℕ) → List (List ℕ) → Definitions → List IdocType → List Message → List Reduced → Items → Result (List Outbound) Finding
+abbrev pub outbounds_of : List (List ℕ) → List (List ℕ) → List (List ℕ) → Definitions → List IdocType → List Message → List Reduced → Items →
+    Result (List Outbound) Finding
 outbounds_of releases systems types definitions idoc_types messages reduced ds =
     each OUTBOUND.now (λ done d. outbound_of releases systems types definitions idoc_types messages reduced (outbound_ways done) d) 0 [] ds
 
 -- the profiles of what is sent of a text, none where the key is absent
-unfoldable pub outbound_at : List (List ℕ) → List (List ℕ) → List (List ℕ) → Definitions → List IdocType → List Message → List Reduced → Members → Result (List Outbound) Finding
+unfoldable pub outbound_at : List (List ℕ) → List (List ℕ) → List (List ℕ) → Definitions → List IdocType → List Message → List Reduced → Members →
+    Result (List Outbound) Finding
 outbound_at releases systems types definitions idoc_types messages reduced table = do
   ds ← list_or_none_at MOST_OUTBOUND OUTBOUND.now table
   outbounds_of releases systems types definitions idoc_types messages reduced ds

@@ -1,5 +1,6 @@
 -- The rules of a profile that name queues.
-use Rattle.std.specs.Prelude.{ℕ, ◌&&◌, Bool, not, List, [], length, map, nat_eq, nat_le, position, is_some, Option, Some, None, option_and_then, Result, Ok, Err, if◌then◌else◌}
+use Rattle.std.specs.Prelude.{ℕ, ◌&&◌, Bool, not, List, [], length, map, nat_eq, nat_le, position, is_some, Option, Some, None, option_and_then, Result, Ok}
+use Rattle.std.specs.Prelude.{Err, if◌then◌else◌}
 use Rattle.std.specs.List.{list_all}
 use Rattle.toml.specs.Data.{Data, Items, Members, get_member, as_str}
 use Rattle.ale_base.specs.Text.{is_text}

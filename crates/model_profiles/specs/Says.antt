@@ -21,7 +21,8 @@ use Rattle.dist_model.specs.Field.{all_fields}
 use Rattle.dist_model.specs.Message.{message_names, reduced_names}
 use Rattle.dist_model.specs.Way.{outbound_way, row_way, Way}
 use Rattle.model_keys.specs.Says.{HasText, IsPlaceNamed, IsValueText, OneForOne, SaysListOrNone, SaysPlace}
-use Rattle.model_profiles.specs.declared.keys.TheConstants.{BACKGROUND, CONVERT, FIELD, FROM, FUNCTION, GROUP, IMMEDIATE, INQ, MESSAGE, MODE, OUTMOD, OUTQ, PACKET, PORT, RECEIVER, REDUCED, RELEASE, REMOVE, SEGMENT, SENDER, STANDARD_FUNCTION, TEXT, TO}
+use Rattle.model_profiles.specs.declared.keys.TheConstants.{BACKGROUND, CONVERT, FIELD, FROM, FUNCTION, GROUP, IMMEDIATE, INQ, MESSAGE, MODE, OUTMOD, OUTQ}
+use Rattle.model_profiles.specs.declared.keys.TheConstants.{PACKET, PORT, RECEIVER, REDUCED, RELEASE, REMOVE, SEGMENT, SENDER, STANDARD_FUNCTION, TEXT, TO}
 
 -- the name at a key is that of the system of this number, counted from 1
 abbrev pub SaysSystem : List (List ℕ) → List ℕ → Members → ℕ → Type 0
@@ -108,7 +109,8 @@ SaysReduced reduced reduction d = (place : ℕ) × (reduction ≡ Some place) ×
 
 -- A profile of what is sent. Where it says nothing of them, each document is sent by itself, one a unit, by the last
 -- release, whole, to no port and the standard function, in no queues.
-pub record SaysOutbound (releases systems types : List (List ℕ)) (definitions : Definitions) (messages : List Message) (reduced : List Reduced) (before : List Outbound) (d : Data) (profile : Outbound) : Type 0 where
+pub record SaysOutbound (releases systems types : List (List ℕ)) (definitions : Definitions) (messages : List Message) (reduced : List Reduced)
+    (before : List Outbound) (d : Data) (profile : Outbound) : Type 0 where
   pub table : Members
   pub is : as_table d ≡ Some table
   pub way : SaysWay systems (message_names messages) table (outbound_way profile)

@@ -35,7 +35,8 @@ all-member P (y ∷ xs) x all is = elim (Contains-cons y xs x is) [
 ]
 
 -- each unit is sent by the system of its id
-numbered-senders : (system number : ℕ) (units : List OutUnit) → AreNumbered system number units → AllByRecursion (λ one. one.unit.sender ≡ one.unit.tid.system) units
+numbered-senders : (system number : ℕ) (units : List OutUnit) → AreNumbered system number units →
+    AllByRecursion (λ one. one.unit.sender ≡ one.unit.tid.system) units
 numbered-senders system number [] are = tt
 numbered-senders system number (one ∷ units) are =
     ((are.0).sender ∙ sym (ap (λ (tid : TidOf). tid.system) (are.0).tid), numbered-senders system (suc number) units are.1)
@@ -76,7 +77,8 @@ module _ (systems : ℕ) where
         let sender = all-member (λ (one : OutUnit). one.unit.sender ≡ one.unit.tid.system) units from.0
         (numbered-senders system 1 units (units-numbered (models_of records) system records (legal-of (model_meaning systems) system records legal))) from.1 in
         let may = all-member (λ (one : OutUnit). IsSendable systems one.unit) units from.0 (legal-sendable systems system records legal) from.1 in
-        let short = all-member (λ (one : OutUnit). AllByRecursion (IsShort MOST_SEGMENTS) one.unit.docs) units from.0 (units-of-short system records legal) from.1 in
+        let short = all-member (λ (one : OutUnit). AllByRecursion (IsShort MOST_SEGMENTS) one.unit.docs) units from.0
+        (units-of-short system records legal) from.1 in
         subst IsUnit from.2 (record {
           sender = sender;
           receiver = may.other;

@@ -1,5 +1,6 @@
 -- The entries of an IDoc type: a preorder, entry by entry.
-use Rattle.std.proofs.Common.{◌≡◌, ℕ, ◌-◌, ◌≤◌, ◌==◌, nat_le, Bool, true, false, cond, Option, Some, None, Result, Ok, Err, List, [], ◌∷◌, ◌++◌, length, map, refl, sym, ap, subst, ◌∙◌, arith}
+use Rattle.std.proofs.Common.{◌≡◌, ℕ, ◌-◌, ◌≤◌, ◌==◌, nat_le, Bool, true, false, cond, Option, Some, None, Result, Ok, Err, List, [], ◌∷◌, ◌++◌, length, map}
+use Rattle.std.proofs.Common.{refl, sym, ap, subst, ◌∙◌, arith}
 use Rattle.std.proofs.lemmas.Bool.Decides.{nat_tests}
 use Rattle.std.proofs.lemmas.List.{map_push}
 use Rattle.toml.specs.Data.{Data, get_member, as_str}
@@ -21,7 +22,8 @@ goes_on false next f y h = (refl, h)
 goes_on true next f y h = absurd (cc)
 
 -- a place behind which an entry may hang
-open_place-keeps : (entries : List TypePlace) (place at : ℕ) → open_place entries place ≡ Ok at → (place ≡ at) × (1 ≤ open_level place entries) × (open_level place entries ≤ MOST_LEVELS - 1)
+open_place-keeps : (entries : List TypePlace) (place at : ℕ) → open_place entries place ≡ Ok at →
+    (place ≡ at) × (1 ≤ open_level place entries) × (open_level place entries ≤ MOST_LEVELS - 1)
 open_place-keeps entries place here h =
     let level = open_level place entries in
     let (opened, h1) = goes_on (level == 0) (cond (nat_le MOST_LEVELS level) (Err (at Limit PARENT.now)) (Ok place)) (at Wrong PARENT.now) here h in
@@ -78,6 +80,7 @@ pub type_place_of-preorder : (types : List (List ℕ)) (entries : List TypePlace
 type_place_of-preorder types entries d entry ordered is =
     IsPreorder-join 0 [] entries entry (length entries) (omega arith) ordered (type_place_of-follows types entries d entry is)
 
-pub entry_types-push : (segments : List ℕ) (entries : List TypePlace) (entry : TypePlace) → segments ≡ entry_types entries → segments ++ entry.segment ∷ [] ≡ entry_types (entries ++ entry ∷ [])
+pub entry_types-push : (segments : List ℕ) (entries : List TypePlace) (entry : TypePlace) → segments ≡ entry_types entries →
+    segments ++ entry.segment ∷ [] ≡ entry_types (entries ++ entry ∷ [])
 entry_types-push segments entries entry is =
     ap (λ (s : List ℕ). s ++ entry.segment ∷ []) is ∙ sym (map_push (λ (e : TypePlace). e.segment) entries entry)

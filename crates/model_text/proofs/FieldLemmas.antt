@@ -11,6 +11,7 @@ pub width_of-push : (fields : List Field) (field : Field) → width_of (fields +
 width_of-push fields field = omega (arith, sum_by-append (λ (f : Field). f.length) fields (field ∷ []))
 
 -- and has one more name
-pub field_names-push : (names : List (List ℕ)) (fields : List Field) (field : Field) → names ≡ field_names fields → names ++ field.name ∷ [] ≡ field_names (fields ++ field ∷ [])
+pub field_names-push : (names : List (List ℕ)) (fields : List Field) (field : Field) → names ≡ field_names fields →
+    names ++ field.name ∷ [] ≡ field_names (fields ++ field ∷ [])
 field_names-push names fields field is =
     ap (λ ns. ns ++ field.name ∷ []) is ∙ sym (map_push (λ (f : Field). f.name) fields field)

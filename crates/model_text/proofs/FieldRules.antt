@@ -1,7 +1,8 @@
 -- Fields that were read keep the rules of fields.
 use Rattle.std.specs.List.{IsDistinct}
 use Rattle.std.specs.Option.{option_and_then, option_map}
-use Rattle.std.proofs.Common.{◌≡◌, ℕ, ◌+◌, ◌≤◌, ◌==◌, ◌&&◌, nat_lt, nat_le, Bool, true, false, cond, Option, Some, None, Ok, List, [], ◌∷◌, ◌++◌, length, take, drop, position, refl, sym, ap, subst, ◌∙◌, append_assoc, append-nil, arith}
+use Rattle.std.proofs.Common.{◌≡◌, ℕ, ◌+◌, ◌≤◌, ◌==◌, ◌&&◌, nat_lt, nat_le, Bool, true, false, cond, Option, Some, None, Ok, List, [], ◌∷◌, ◌++◌, length, take}
+use Rattle.std.proofs.Common.{drop, position, refl, sym, ap, subst, ◌∙◌, append_assoc, append-nil, arith}
 use Rattle.std.proofs.lemmas.Bool.{and_parts}
 use Rattle.std.proofs.lemmas.Bool.Decides.{nat_tests}
 use Rattle.std.proofs.lemmas.List.{length-append, map_push}
@@ -69,7 +70,8 @@ parts_of-keeps d p h =
     (text, required-ok Wrong [] (as_str d) text t, field_parts-keeps text p (required-ok Wrong [] (field_parts text) p g))
 
 -- one more field stands behind the others
-AreLaidOut-push : (offset : ℕ) (fields : List Field) (field : Field) → AreLaidOut offset fields → field.offset ≡ offset + width_of fields → AreLaidOut offset (fields ++ field ∷ [])
+AreLaidOut-push : (offset : ℕ) (fields : List Field) (field : Field) → AreLaidOut offset fields → field.offset ≡ offset + width_of fields →
+    AreLaidOut offset (fields ++ field ∷ [])
 AreLaidOut-push offset [] field laid at = (at ∙ omega arith, tt)
 AreLaidOut-push offset (first ∷ fields) field laid at =
     (laid.0, AreLaidOut-push (offset + first.length) fields field laid.1 (omega (arith, at, sum_by-append (λ (f : Field). f.length) (first ∷ []) fields)))
@@ -101,7 +103,8 @@ field_of-keeps fields d field are h =
       are = record {
         each = AllByRecursion-snoc IsField fields whole are.each (field_is name p.1 (width_of fields) own.named _ own.long);
         laid_out = AreLaidOut-push 0 fields whole are.laid_out (omega arith);
-        apart = subst (IsDistinct is_text) (sym (map_push (λ (f : Field). f.name) fields whole)) (IsDistinct-push is_text is_text-symmetric (field_names fields) name are.apart new);
+        apart = subst (IsDistinct is_text) (sym (map_push (λ (f : Field). f.name) fields whole))
+            (IsDistinct-push is_text is_text-symmetric (field_names fields) name are.apart new);
         few = less_few (length fields) (length (fields ++ whole ∷ [])) (length-append fields (whole ∷ [])) small.0;
         fits = less_wide (width_of (fields ++ whole ∷ [])) (width_of fields + p.1) (width_of-push fields whole) small.1;
       };
@@ -116,7 +119,8 @@ field_of-keeps fields d field are h =
     most_of : (n : ℕ) (rest : List ℕ) → is_length n rest ≡ true → n ≤ MOST_BYTES
     most_of n rest long = let a = and_parts (nat_le 1 n) _ long in let b = and_parts (nat_le n MOST_BYTES) _ a.1 in let k = b.0 in grind (arith, nat_tests, k)
 
-    field_is : (name : List ℕ) (n offset : ℕ) → is_name_within LONGEST_NAME name ≡ true → (rest : List ℕ) → is_length n rest ≡ true → IsField (record { name = name; offset = offset; length = n })
+    field_is : (name : List ℕ) (n offset : ℕ) → is_name_within LONGEST_NAME name ≡ true → (rest : List ℕ) → is_length n rest ≡ true →
+        IsField (record { name = name; offset = offset; length = n })
     field_is name n offset named rest long = record {
       named = (IsName_decided name).0 named;
       least = least_of n rest long;
@@ -134,6 +138,12 @@ pub fields_of-keeps : (earlier : List Field) (ds : Items) (all : List Field) →
     → AreFields all × ((added : List Field) × (all ≡ earlier ++ added))
 fields_of-keeps earlier ds all are h =
     each-invariant ADDS.now (λ done d. field_of done d) (λ done. AreFields done × ((added : List Field) × (done ≡ earlier ++ added)))
-    (λ done d field so_far is.
-    ((field_of-keeps done d field so_far.0 is).are, (so_far.1.0 ++ field ∷ [], ap (λ fs. fs ++ field ∷ []) so_far.1.1 ∙ append_assoc earlier so_far.1.0 (field ∷ []))))
+    (λ done d field so_far is. (
+      (field_of-keeps done d field so_far.0 is).are,
+      (
+        so_far.1.0 ++ field ∷ [],
+        ap (λ fs. fs ++ field ∷ []) so_far.1.1
+            ∙ append_assoc earlier so_far.1.0 (field ∷ []),
+      ),
+    ))
     0 earlier ds all (are, ([], sym (append-nil earlier))) h

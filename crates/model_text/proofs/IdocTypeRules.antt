@@ -2,7 +2,8 @@
 use Rattle.std.specs.Prelude.{Contains, slice_get}
 use Rattle.std.specs.List.{AllByRecursion, IsDistinct, list_any}
 use Rattle.std.specs.Option.{ForSome}
-use Rattle.std.proofs.Common.{◌≡◌, ℕ, ◌-◌, ◌^◌, ◌<◌, ◌≤◌, ◌==◌, nat_eq, nat_le, Bool, true, false, cond, Option, Some, None, Ok, Err, List, [], ◌∷◌, ◌++◌, length, map, refl, sym, ap, subst, ◌∙◌, arith}
+use Rattle.std.proofs.Common.{◌≡◌, ℕ, ◌-◌, ◌^◌, ◌<◌, ◌≤◌, ◌==◌, nat_eq, nat_le, Bool, true, false, cond, Option, Some, None, Ok, Err, List, [], ◌∷◌, ◌++◌}
+use Rattle.std.proofs.Common.{length, map, refl, sym, ap, subst, ◌∙◌, arith}
 use Rattle.std.proofs.lemmas.Bool.Decides.{nat_tests}
 use Rattle.std.proofs.lemmas.List.{map_push}
 use Rattle.std.proofs.lemmas.Option.{same_Some, slice_get_within}
@@ -23,7 +24,8 @@ use Rattle.model_keys.specs.Finding.{at, check}
 use Rattle.model_keys.specs.Each.{each}
 use Rattle.model_keys.specs.Keys.{bool_or_at, entry_of, list_or_none_at, new_name_at, number_of, or_else, segment_type_at, some_list_at}
 use Rattle.name_tables.proofs.DistinctLemmas.{is_text-symmetric, IsDistinct-push, nat_eq-symmetric}
-use Rattle.model_keys.proofs.KeepsLemmas.{check-ok, each-invariant, each-length, from_bind, list_or_none_at-keeps, new_name_at-keeps, number_of-keeps, segment_type_at-keeps, some_list_at-keeps, tested, untested}
+use Rattle.model_keys.proofs.KeepsLemmas.{check-ok, each-invariant, each-length, from_bind, list_or_none_at-keeps, new_name_at-keeps, number_of-keeps}
+use Rattle.model_keys.proofs.KeepsLemmas.{segment_type_at-keeps, some_list_at-keeps, tested, untested}
 use Rattle.model_text.specs.declared.keys.TheConstants.{ENTRY_KEYS, IDOCTYPE, IDOCTYPE_KEYS, MANDATORY, MAX, MIN, NAME, SEGMENT, TYPE}
 use Rattle.model_text.specs.Entries.{entries_of, entry_types, greatest_at, max_at, min_at, min_of, new_type_at, parent_at, root_of, times_at, type_place_of}
 use Rattle.model_text.specs.IdocTypes.{idoc_type_of, idoc_types_at}
@@ -33,7 +35,8 @@ new_type_at-keeps : (types : List (List ℕ)) (segments : List ℕ) (table : Mem
     → (segment < length types) × (list_any (nat_eq segment) segments ≡ false)
 unfolding new_type_at
 new_type_at-keeps types segments table segment h =
-    let (place, p, g) = from_bind (segment_type_at TYPE.now types table) (λ place. cond (list_any (nat_eq place) segments) (Err (at Twice TYPE.now)) (Ok place)) segment h in
+    let (place, p, g) = from_bind (segment_type_at TYPE.now types table) (λ place. cond (list_any (nat_eq place) segments) (Err (at Twice TYPE.now)) (Ok place))
+    segment h in
     let (new, e) = untested (list_any (nat_eq place) segments) place segment (at Twice TYPE.now) g in
     let (name, text, here) = segment_type_at-keeps TYPE.now types table place p in
     (subst (λ k. k < length types) e (slice_get_within types place name here), subst (λ k. list_any (nat_eq k) segments ≡ false) e new)
@@ -94,7 +97,8 @@ record IsNextEntry (definitions : Definitions) (entries : List TypePlace) (entry
   new : list_any (nat_eq entry.segment) (entry_types entries) ≡ false
   first : entries ≡ [] → (entry.mandatory ≡ true) × (entry.min ≡ 1) × (entry.max ≡ 1)
 
-type_place_of-keeps : (types : List (List ℕ)) (definitions : Definitions) (entries : List TypePlace) (d : Data) (entry : TypePlace) → length types ≡ length definitions.types
+type_place_of-keeps : (types : List (List ℕ)) (definitions : Definitions) (entries : List TypePlace) (d : Data) (entry : TypePlace) →
+    length types ≡ length definitions.types
     → type_place_of types entries d ≡ Ok entry → IsNextEntry definitions entries entry
 unfolding type_place_of
 type_place_of-keeps types definitions entries d entry same h =
@@ -123,7 +127,8 @@ no_parent : (parent : Option ℕ) → ForSome parent (Contains []) → parent �
 no_parent None none = refl
 no_parent (Some place) none = absurd (Contains-nil place (none place refl))
 
-root-push : (types : List (List ℕ)) (definitions : Definitions) (entries : List TypePlace) (d : Data) (entry : TypePlace) → AreEntries definitions entries → IsNextEntry definitions entries entry
+root-push : (types : List (List ℕ)) (definitions : Definitions) (entries : List TypePlace) (d : Data) (entry : TypePlace) → AreEntries definitions entries →
+    IsNextEntry definitions entries entry
     → type_place_of types entries d ≡ Ok entry → (first : TypePlace) → slice_get (entries ++ entry ∷ []) 0 ≡ Some first → IsRootEntry (Some first)
 root-push types definitions [] d entry are next is first here =
     let once = next.first refl in
@@ -131,11 +136,13 @@ root-push types definitions [] d entry are next is first here =
     subst (λ e. IsRootEntry (Some e)) (same_Some entry first here) (no_parent entry.parent follows.0, once.0, once.1, once.2)
 root-push types definitions (other ∷ entries) d entry are next is first here = are.root first here
 
-AreEntries-push : (types : List (List ℕ)) (definitions : Definitions) (entries : List TypePlace) (d : Data) (entry : TypePlace) → length types ≡ length definitions.types
+AreEntries-push : (types : List (List ℕ)) (definitions : Definitions) (entries : List TypePlace) (d : Data) (entry : TypePlace) →
+    length types ≡ length definitions.types
     → AreEntries definitions entries → type_place_of types entries d ≡ Ok entry → AreEntries definitions (entries ++ entry ∷ [])
 AreEntries-push types definitions entries d entry same are is = let next = type_place_of-keeps types definitions entries d entry same is in record {
   each = AllByRecursion-snoc (IsEntry definitions) entries entry are.each next.is;
-  apart = subst (IsDistinct nat_eq) (sym (map_push (λ (e : TypePlace). e.segment) entries entry)) (IsDistinct-push nat_eq nat_eq-symmetric (entry_types entries) entry.segment are.apart next.new);
+  apart = subst (IsDistinct nat_eq) (sym (map_push (λ (e : TypePlace). e.segment) entries entry))
+      (IsDistinct-push nat_eq nat_eq-symmetric (entry_types entries) entry.segment are.apart next.new);
   preorder = type_place_of-preorder types entries d entry are.preorder is;
   root = root-push types definitions entries d entry are next is;
 }
@@ -154,7 +161,8 @@ record IsNextIdocType (definitions : Definitions) (names : List (List ℕ)) (typ
   short : length type.segments ≤ MOST_ENTRIES
   new : list_any (is_text type.name) names ≡ false
 
-root_of_some : (entries : List TypePlace) → 1 ≤ length entries → ((first : TypePlace) → slice_get entries 0 ≡ Some first → IsRootEntry (Some first)) → IsRootEntry (slice_get entries 0)
+root_of_some : (entries : List TypePlace) → 1 ≤ length entries → ((first : TypePlace) → slice_get entries 0 ≡ Some first → IsRootEntry (Some first)) →
+    IsRootEntry (slice_get entries 0)
 root_of_some [] some root = absurd (omega arith)
 root_of_some (first ∷ entries) some root = root first refl
 
@@ -189,14 +197,17 @@ record AreTypes (definitions : Definitions) (types : List IdocType) : Type 0 whe
   short : AllByRecursion (λ type. length type.segments ≤ MOST_ENTRIES) types
   apart : IsDistinct is_text (idoc_type_names types)
 
-AreTypes-push : (definitions : Definitions) (types : List IdocType) (type : IdocType) → AreTypes definitions types → IsNextIdocType definitions (idoc_type_names types) type → AreTypes definitions (types ++ type ∷ [])
+AreTypes-push : (definitions : Definitions) (types : List IdocType) (type : IdocType) → AreTypes definitions types →
+    IsNextIdocType definitions (idoc_type_names types) type → AreTypes definitions (types ++ type ∷ [])
 AreTypes-push definitions types type are next = record {
   each = AllByRecursion-snoc (IsIdocType definitions) types type are.each next.is;
   short = AllByRecursion-snoc (λ (t : IdocType). length t.segments ≤ MOST_ENTRIES) types type are.short next.short;
-  apart = subst (IsDistinct is_text) (sym (map_push (λ (t : IdocType). t.name) types type)) (IsDistinct-push is_text is_text-symmetric (idoc_type_names types) type.name are.apart next.new);
+  apart = subst (IsDistinct is_text) (sym (map_push (λ (t : IdocType). t.name) types type))
+      (IsDistinct-push is_text is_text-symmetric (idoc_type_names types) type.name are.apart next.new);
 }
 
-pub idoc_types_at-keeps : (names : List (List ℕ)) (definitions : Definitions) (table : Members) (types : List IdocType) → length names ≡ length definitions.types
+pub idoc_types_at-keeps : (names : List (List ℕ)) (definitions : Definitions) (table : Members) (types : List IdocType) →
+    length names ≡ length definitions.types
     → idoc_types_at names table ≡ Ok types → AreIdocTypes definitions types
 unfolding idoc_types_at IsDistinct
 idoc_types_at-keeps names definitions table types same h =

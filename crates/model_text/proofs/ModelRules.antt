@@ -47,7 +47,8 @@ use Rattle.model_text.proofs.SegmentRules.{segments_at-keeps}
 use Rattle.model_text.proofs.IdocTypeRules.{idoc_types_at-keeps}
 
 -- there are not too many names of segment types
-pub type_names-few : (releases : List (List ℕ)) (table : Members) (types : List SegmentType) → segments_at releases table ≡ Ok types → length (type_names types) ≤ MOST_TYPES
+pub type_names-few : (releases : List (List ℕ)) (table : Members) (types : List SegmentType) → segments_at releases table ≡ Ok types →
+    length (type_names types) ≤ MOST_TYPES
 type_names-few releases table types h =
     omega (arith, length-map types (λ (type : SegmentType). type.name), (segments_at-keeps releases table types h).0.few)
 
@@ -98,22 +99,30 @@ pub record IsTraffic (on : Basics) (of : Subjects) (by : Traffic) : Type 0 where
   pub profiled : AllByRecursion (HasProfile by.outbound) by.rows
   pub whole : AllByRecursion (λ profile. LeavesWhole on.definitions profile (message_entries on.types of.messages profile.message)) by.outbound
 
-pub traffic_of-keeps : (on : Basics) (of : Subjects) (table : Members) (by : Traffic) → IsBasics on → AreSubjects on of → traffic_of on of table ≡ Ok by → IsTraffic on of by
+pub traffic_of-keeps : (on : Basics) (of : Subjects) (table : Members) (by : Traffic) → IsBasics on → AreSubjects on of → traffic_of on of table ≡ Ok by →
+    IsTraffic on of by
 unfolding traffic_of
 traffic_of-keeps on of table by is are h =
     let (rows, r, h1) = from_bind (rows_at on.system_names on.definitions of.message_names of.filters table) _ by h in
-    let (outbound, o, h2) = from_bind (outbound_at on.release_names on.system_names on.segment_names on.definitions on.types of.messages of.reduced table) _ by h1 in
+    let (outbound, o, h2) = from_bind (outbound_at on.release_names on.system_names on.segment_names on.definitions on.types of.messages of.reduced table) _ by
+    h1 in
     let (inbound, i, h3) = from_bind (inbound_at on.system_names of.all_names table) _ by h2 in
     let (profiled, p, h4) = from_bind (all_profiled outbound rows) _ by h3 in
     let (whole, w, h5) = from_bind (all_whole on.definitions on.types of.messages outbound) _ by h4 in
     let e : ◌≡◌ {A = Traffic} (record { rows = rows; outbound = outbound; inbound = inbound }) by = cc in
     subst (IsTraffic on of) e (record {
-      rows = rows_at-keeps on.systems on.definitions on.types of.messages of.filters table rows are.filters (ap (λ (m : List (List ℕ)). rows_at (system_names on.systems) on.definitions m of.filters table) (sym are.named)
+      rows = rows_at-keeps on.systems on.definitions on.types of.messages of.filters table rows are.filters
+          (ap (λ (m : List (List ℕ)). rows_at (system_names on.systems) on.definitions m of.filters table) (sym are.named)
           ∙ ap (λ (s : List (List ℕ)). rows_at s on.definitions of.message_names of.filters table) (sym is.system_names) ∙ r);
-      outbound = outbound_at-keeps on.releases on.systems on.definitions on.types of.messages of.reduced table outbound is.releases.some (ap (λ (t : List (List ℕ)). outbound_at on.releases (system_names on.systems) t on.definitions on.types of.messages of.reduced table) (sym is.segment_names)
+      outbound = outbound_at-keeps on.releases on.systems on.definitions on.types of.messages of.reduced table outbound is.releases.some
+          (ap (λ (t : List (List ℕ)). outbound_at on.releases (system_names on.systems) t on.definitions on.types of.messages of.reduced table)
+          (sym is.segment_names)
           ∙ ap (λ (s : List (List ℕ)). outbound_at on.releases s on.segment_names on.definitions on.types of.messages of.reduced table) (sym is.system_names)
-          ∙ ap (λ (l : List (List ℕ)). outbound_at l on.system_names on.segment_names on.definitions on.types of.messages of.reduced table) (sym is.release_names) ∙ o);
-      inbound = inbound_at-keeps on.systems (message_names of.messages ++ reduced_names of.reduced) table inbound (ap (λ (n : List (List ℕ)). inbound_at (system_names on.systems) n table) (sym are.all_named) ∙ ap (λ (s : List (List ℕ)). inbound_at s of.all_names table) (sym is.system_names) ∙ i);
+          ∙ ap (λ (l : List (List ℕ)). outbound_at l on.system_names on.segment_names on.definitions on.types of.messages of.reduced table)
+          (sym is.release_names) ∙ o);
+      inbound = inbound_at-keeps on.systems (message_names of.messages ++ reduced_names of.reduced) table inbound
+          (ap (λ (n : List (List ℕ)). inbound_at (system_names on.systems) n table) (sym are.all_named)
+          ∙ ap (λ (s : List (List ℕ)). inbound_at s of.all_names table) (sym is.system_names) ∙ i);
       profiled = all_profiled-keeps outbound rows profiled p;
       whole = all_whole-keeps on.definitions on.types of.messages outbound whole w;
     })

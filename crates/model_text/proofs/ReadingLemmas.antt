@@ -40,7 +40,8 @@ fault-said causes.MandatoryRemoved path bytes is = is
 fault-said causes.NoVersion path bytes is = is
 
 -- what fails so is answered so
-pub Reads-fails : (bytes : List ℕ) (table : Members) (error : ReadError) → answer_to bytes ≡ answer (model_of table) → Fails error (model_of table) → Reads (Err (fault_of error)) bytes
+pub Reads-fails : (bytes : List ℕ) (table : Members) (error : ReadError) → answer_to bytes ≡ answer (model_of table) → Fails error (model_of table) →
+    Reads (Err (fault_of error)) bytes
 Reads-fails bytes table errors.Memory is fails = tt
 Reads-fails bytes table (errors.Found finding) is fails = fault-said finding.cause finding.path bytes (is ∙ ap answer fails)
 
@@ -59,6 +60,7 @@ IfOk-indexed P lists (Ok model) same here = subst P (sym same) here
 IfOk-indexed P lists (Err fault) memory here = tt
 
 -- what fails at a step fails at all that is read behind it
-pub fails_on : {A B : Type 0} (error : ReadError) (reading : Result A Finding) (next : A → Result B Finding) → Fails error reading → Fails error (reading >>= next)
+pub fails_on : {A B : Type 0} (error : ReadError) (reading : Result A Finding) (next : A → Result B Finding) → Fails error reading →
+    Fails error (reading >>= next)
 fails_on errors.Memory reading next fails = tt
 fails_on (errors.Found finding) reading next fails = rw fails refl

@@ -2,7 +2,8 @@
 use Rattle.std.specs.Prelude.{slice_get, MatchOption}
 use Rattle.std.specs.List.{flat_map, list_any}
 use Rattle.std.specs.Cmp.Lexicographic.{bytes_decides}
-use Rattle.std.proofs.Common.{◌≡◌, ℕ, pos, suc, ◌+◌, ◌-◌, ◌^◌, ◌==◌, ◌&&◌, nat_eq, nat_le, nat_lt, Bool, true, false, cond, Option, Some, None, Ok, Err, List, [], ◌∷◌, ◌++◌, length, map, take, drop, get_or, position, decimal, sym, ap, subst, ◌∙◌, drop-cons, arith}
+use Rattle.std.proofs.Common.{◌≡◌, ℕ, pos, suc, ◌+◌, ◌-◌, ◌^◌, ◌==◌, ◌&&◌, nat_eq, nat_le, nat_lt, Bool, true, false, cond, Option, Some, None, Ok, Err, List}
+use Rattle.std.proofs.Common.{[], ◌∷◌, ◌++◌, length, map, take, drop, get_or, position, decimal, sym, ap, subst, ◌∙◌, drop-cons, arith}
 use Rattle.std.proofs.lemmas.Bool.{and_parts}
 use Rattle.std.proofs.lemmas.Bool.Decides.{nat_tests}
 use Rattle.std.proofs.lemmas.List.{take-append-drop}
@@ -19,7 +20,8 @@ use Rattle.segment_defs.specs.Definitions.{names_of}
 use Rattle.segment_defs.specs.IdocType.{open_level}
 use Rattle.segment_defs.specs.Version.{width_of}
 use Rattle.segment_defs.proofs.NameLemmas.{position-name}
-use Rattle.dist_model.specs.declared.limits.TheConstants.{LONGEST_RELEASE, LONGEST_SYSTEM, MOST_ENTRIES, MOST_FUNCTIONS, MOST_IDOC_TYPES, MOST_RELEASES, MOST_SYSTEMS}
+use Rattle.dist_model.specs.declared.limits.TheConstants.{LONGEST_RELEASE, LONGEST_SYSTEM, MOST_ENTRIES, MOST_FUNCTIONS, MOST_IDOC_TYPES, MOST_RELEASES}
+use Rattle.dist_model.specs.declared.limits.TheConstants.{MOST_SYSTEMS}
 use Rattle.dist_model.specs.declared.system.System.{System}
 use Rattle.dist_model.specs.declared.lists.Lists.{Lists}
 use Rattle.dist_model.specs.Message.{message_names}
@@ -27,16 +29,22 @@ use Rattle.dist_model.specs.Model.{idoc_type_names, system_names}
 use Rattle.model_keys.specs.declared.finding.Cause.TheVariants.{Limit, Twice, Wrong}
 use Rattle.model_keys.specs.Finding.{◌>>=◌, at, check, required}
 use Rattle.model_keys.specs.Each.{each}
-use Rattle.model_keys.specs.Keys.{any_list_at, bool_of, bool_or_at, entry_of, list_of, list_or_none_at, new_name, new_name_at, new_name_of, new_segment_name_at, number_of, only_known, or_else, reference_at, segment_type_at, some_list_at}
-use Rattle.model_keys.proofs.KeepsLemmas.{from_bind, list_of-keeps, name_of-keeps, new_name-keeps, new_name_at-keeps, new_name_of-keeps, new_segment_name_at-keeps, number_of-keeps, reference_at-keeps, required-ok, segment_type_at-keeps, some_list_at-keeps, tested, untested}
-use Rattle.model_text.specs.declared.keys.TheConstants.{ADDS, CLIENT, ENTRY_KEYS, FILTER, FUNCTIONS, IDOCTYPE, IDOCTYPE_KEYS, INBOUND, KIND, MANDATORY, MAX, MESSAGE, MIN, NAME, OUTBOUND, PARENT, REDUCED, RELEASE, RELEASES, ROW, SEGMENT, SEGMENT_KEYS, STANDARD_CLIENT, STANDARD_FUNCTION, SYSTEM, SYSTEM_KEYS, TOP_KEYS, TYPE, VERSION, VERSION_KEYS}
+use Rattle.model_keys.specs.Keys.{any_list_at, bool_of, bool_or_at, entry_of, list_of, list_or_none_at, new_name, new_name_at, new_name_of, new_segment_name_at}
+use Rattle.model_keys.specs.Keys.{number_of, only_known, or_else, reference_at, segment_type_at, some_list_at}
+use Rattle.model_keys.proofs.KeepsLemmas.{from_bind, list_of-keeps, name_of-keeps, new_name-keeps, new_name_at-keeps, new_name_of-keeps}
+use Rattle.model_keys.proofs.KeepsLemmas.{new_segment_name_at-keeps, number_of-keeps, reference_at-keeps, required-ok, segment_type_at-keeps}
+use Rattle.model_keys.proofs.KeepsLemmas.{some_list_at-keeps, tested, untested}
+use Rattle.model_text.specs.declared.keys.TheConstants.{ADDS, CLIENT, ENTRY_KEYS, FILTER, FUNCTIONS, IDOCTYPE, IDOCTYPE_KEYS, INBOUND, KIND, MANDATORY, MAX}
+use Rattle.model_text.specs.declared.keys.TheConstants.{MESSAGE, MIN, NAME, OUTBOUND, PARENT, REDUCED, RELEASE, RELEASES, ROW, SEGMENT, SEGMENT_KEYS}
+use Rattle.model_text.specs.declared.keys.TheConstants.{STANDARD_CLIENT, STANDARD_FUNCTION, SYSTEM, SYSTEM_KEYS, TOP_KEYS, TYPE, VERSION, VERSION_KEYS}
 use Rattle.model_text.specs.Releases.{releases_at}
 use Rattle.model_text.specs.Systems.{client_at, client_in, client_of, function_list, function_of, functions_at, system_of, systems_at}
 use Rattle.model_text.specs.Fields.{field_names, field_of, fields_of, parts_of}
 use Rattle.dist_model.specs.Field.{last_fields}
 use Rattle.dist_model.specs.Model.{type_names}
 use Rattle.model_text.specs.Segments.{is_later, release_at, segment_of, segments_at, version_names, version_of, versions_of}
-use Rattle.model_text.specs.Entries.{entries_of, entry_types, greatest_at, max_at, min_at, min_of, new_type_at, open_place, parent_at, parent_of, parent_place, root_of, some_parent, times_at, type_place_of}
+use Rattle.model_text.specs.Entries.{entries_of, entry_types, greatest_at, max_at, min_at, min_of, new_type_at, open_place, parent_at, parent_of, parent_place}
+use Rattle.model_text.specs.Entries.{root_of, some_parent, times_at, type_place_of}
 use Rattle.model_text.specs.IdocTypes.{idoc_type_of, idoc_types_at}
 use Rattle.model_messages.specs.Kinds.{kinds_at}
 use Rattle.model_messages.specs.Messages.{messages_at}
@@ -63,7 +71,8 @@ use Rattle.model_text.specs.Rules.{AreSubjects, IsBasics}
 use Rattle.model_text.specs.Model.{basics, basics_of, lists, model_of, subjects, subjects_of, traffic_of}
 use Rattle.model_text.proofs.ModelRules.{basics_of-keeps, subjects_of-keeps}
 use Rattle.model_keys.specs.Says.{HasText, OneForOne, SaysList, SaysListOrNone, SaysName, SaysNames}
-use Rattle.model_keys.proofs.SaysLemmas.{all-says, and_then-found, any_list_at-says, bool_found-says, each-says, entry_of-table, list_or_none-says, position-number}
+use Rattle.model_keys.proofs.SaysLemmas.{all-says, and_then-found, any_list_at-says, bool_found-says, each-says, entry_of-table, list_or_none-says}
+use Rattle.model_keys.proofs.SaysLemmas.{position-number}
 use Rattle.model_text.specs.Says.{SaysEntry, SaysField, SaysIdocType, SaysModel, SaysParent, SaysSegment, SaysSystem, SaysVersion}
 use Rattle.model_text.proofs.FieldRules.{HaveParts, parts_of-keeps}
 
@@ -94,7 +103,8 @@ functions_found-says (Some d) functions h =
     let (ds, l, g) = from_bind (list_of MOST_FUNCTIONS FUNCTIONS.now d) (λ ds. each FUNCTIONS.now (λ done d. function_of d) 0 [] ds) functions h in (
       ds,
       (list_of-keeps MOST_FUNCTIONS FUNCTIONS.now d ds l).0,
-      all-says FUNCTIONS.now (λ (done : List (List ℕ)) (d : Data). function_of d) SaysName (λ done d name is. (name_of-keeps LONGEST_NAME [] d name is).0) ds functions g,
+      all-says FUNCTIONS.now (λ (done : List (List ℕ)) (d : Data). function_of d) SaysName (λ done d name is. (name_of-keeps LONGEST_NAME [] d name is).0) ds
+          functions g,
     )
 
 system_of-says : (names : List (List ℕ)) (before : List System) (d : Data) (system : System) → system_of names d ≡ Ok system → SaysSystem before d system
@@ -119,7 +129,8 @@ split_at_blank text place found =
     let at = position-Some (λ byte. byte == 32) text place 0 found in
     let blank : get_or text place 0 ≡ 32 = is_blank (get_or text place 0) at.1 in
     let next : place + 1 ≡ suc place = omega arith in
-    let rest : drop place text ≡ 32 ∷ drop (place + 1) text = drop-cons text place 0 at.0 ∙ ap (λ byte. byte ∷ drop (suc place) text) blank ∙ ap (λ k. 32 ∷ drop k text) (sym next) in
+    let rest : drop place text ≡ 32 ∷ drop (place + 1) text = drop-cons text place 0 at.0 ∙ ap (λ byte. byte ∷ drop (suc place) text) blank
+    ∙ ap (λ k. 32 ∷ drop k text) (sym next) in
     sym (take-append-drop place text) ∙ ap (λ bytes. take place text ++ bytes) rest
   where
     is_blank : (byte : ℕ) → byte == 32 ≡ true → byte ≡ 32
@@ -130,7 +141,8 @@ HaveParts-text text name n parts =
     let rest = drop (parts.place + 1) text in
     let long = and_parts (nat_le 1 n) (nat_le n MOST_BYTES && is_text (decimal n) rest) parts.long in
     let spelled = and_parts (nat_le n MOST_BYTES) (is_text (decimal n) rest) long.1 in
-    split_at_blank text parts.place parts.blank ∙ ap (λ front. front ++ 32 ∷ rest) parts.front ∙ ap (λ (digits : List ℕ). name ++ 32 ∷ digits) (sym ((bytes_decides (decimal n) rest).0 spelled.1))
+    split_at_blank text parts.place parts.blank ∙ ap (λ front. front ++ 32 ∷ rest) parts.front
+    ∙ ap (λ (digits : List ℕ). name ++ 32 ∷ digits) (sym ((bytes_decides (decimal n) rest).0 spelled.1))
 
 -- a field says its name and its length
 field_of-says : (fields : List Field) (d : Data) (field : Field) → field_of fields d ≡ Ok field → SaysField fields d field
@@ -144,7 +156,8 @@ field_of-says fields d field h =
     let same = (new_name-keeps [] (field_names fields) p.0 name n).0 in
     subst (SaysField fields d) e (is ∙ ap Some (HaveParts-text text p.0 p.1 parts ∙ ap (λ name. name ++ 32 ∷ decimal p.1) same))
 
-fields_of-says : (earlier : List Field) (ds : Items) (all : List Field) → fields_of earlier ds ≡ Ok all → (added : List Field) × (all ≡ earlier ++ added) × OneForOne SaysField earlier ds added
+fields_of-says : (earlier : List Field) (ds : Items) (all : List Field) → fields_of earlier ds ≡ Ok all →
+    (added : List Field) × (all ≡ earlier ++ added) × OneForOne SaysField earlier ds added
 fields_of-says earlier ds all h = each-says ADDS.now (λ (done : List Field) (d : Data). field_of done d) SaysField field_of-says 0 earlier ds all h
 
 -- a release is that of its name
@@ -152,12 +165,14 @@ release_at-says : (releases : List (List ℕ)) (versions : List Version) (table 
     → (name : List ℕ) × HasText RELEASE.now table name × (slice_get releases release ≡ Some name)
 unfolding release_at
 release_at-says releases versions table release h =
-    let (place, r, g) = from_bind (reference_at LONGEST_RELEASE RELEASE.now releases table) (λ place. cond (is_later place versions) (Ok place) (Err (at Wrong RELEASE.now))) release h in
+    let (place, r, g) = from_bind (reference_at LONGEST_RELEASE RELEASE.now releases table)
+    (λ place. cond (is_later place versions) (Ok place) (Err (at Wrong RELEASE.now))) release h in
     let (later, e) = tested (is_later place versions) place release (at Wrong RELEASE.now) g in
     let (name, text, here) = reference_at-keeps LONGEST_RELEASE RELEASE.now releases table place r in
     (name, text, subst (λ k. slice_get releases k ≡ Some name) e here)
 
-version_of-says : (releases names : List (List ℕ)) (before : List Version) (d : Data) (version : Version) → version_of releases names before d ≡ Ok version → SaysVersion releases before d version
+version_of-says : (releases names : List (List ℕ)) (before : List Version) (d : Data) (version : Version) → version_of releases names before d ≡ Ok version →
+    SaysVersion releases before d version
 unfolding version_of
 version_of-says releases names before d version h =
     let (table, t, h1) = from_bind (entry_of (map (λ key. key.now) VERSION_KEYS) d) _ version h in
@@ -182,7 +197,8 @@ version_of-says releases names before d version h =
       fields = whole;
     })
 
-segment_of-says : (releases names : List (List ℕ)) (before : List SegmentType) (d : Data) (type : SegmentType) → segment_of releases names d ≡ Ok type → SaysSegment releases before d type
+segment_of-says : (releases names : List (List ℕ)) (before : List SegmentType) (d : Data) (type : SegmentType) → segment_of releases names d ≡ Ok type →
+    SaysSegment releases before d type
 unfolding segment_of
 segment_of-says releases names before d type h =
     let (table, t, h1) = from_bind (entry_of (map (λ key. key.now) SEGMENT_KEYS) d) _ type h in
@@ -197,13 +213,15 @@ segment_of-says releases names before d type h =
       versions = (
         ds,
         (some_list_at-keeps MOST_VERSIONS VERSION.now table ds l).0,
-        all-says VERSION.now (λ (done : List Version) (d : Data). version_of releases ((names ++ name ∷ []) ++ version_names done) done d) (SaysVersion releases)
+        all-says VERSION.now (λ (done : List Version) (d : Data). version_of releases ((names ++ name ∷ []) ++ version_names done) done d)
+            (SaysVersion releases)
             (λ done d version is. version_of-says releases ((names ++ name ∷ []) ++ version_names done) done d version is) ds versions v,
       );
     })
 
 open_place-same : (entries : List TypePlace) (place at : ℕ) → open_place entries place ≡ Ok at → place ≡ at
-open_place-same entries place here h = (let first = open_level place entries == 0 in let second = nat_le MOST_LEVELS (open_level place entries) in both first second place here h)
+open_place-same entries place here h = (let first = open_level place entries == 0 in let second = nat_le MOST_LEVELS
+    (open_level place entries) in both first second place here h)
   where
     both : (a b : Bool) (x y : ℕ) → cond a (Err (at Wrong PARENT.now)) (cond b (Err (at Limit PARENT.now)) (Ok x)) ≡ Ok y → x ≡ y
     both true b x y h = absurd (cc)
@@ -219,7 +237,8 @@ parent_found-says types segments entries (Some d) parent h =
     let (text, t, h1) = from_bind (required Wrong PARENT.now (as_str d)) _ place p in
     let (found, f, h2) = from_bind (required Wrong PARENT.now (parent_place types segments text)) _ place h1 in
     let same : found ≡ place = open_place-same entries found place h2 in
-    let (segment, s, k) = and_then-found (λ segment. position (nat_eq segment) segments) (position (is_text text) types) found (required-ok Wrong PARENT.now (parent_place types segments text) found f) in record {
+    let (segment, s, k) = and_then-found (λ segment. position (nat_eq segment) segments) (position (is_text text) types) found
+    (required-ok Wrong PARENT.now (parent_place types segments text) found f) in record {
       text = text;
       is = required-ok Wrong PARENT.now (as_str d) text t;
       place = place;
@@ -229,7 +248,8 @@ parent_found-says types segments entries (Some d) parent h =
       named = position-name text types segment s;
     }
 
-min_found-says : (mandatory : Bool) (found : Option Data) (min : ℕ) → or_else 1 (min_of mandatory) found ≡ Ok min → MatchOption found (min ≡ 1) (λ d. as_integer d ≡ Some (pos min))
+min_found-says : (mandatory : Bool) (found : Option Data) (min : ℕ) → or_else 1 (min_of mandatory) found ≡ Ok min →
+    MatchOption found (min ≡ 1) (λ d. as_integer d ≡ Some (pos min))
 unfolding min_of
 min_found-says mandatory None min h = let e : 1 ≡ min = cc in sym e
 min_found-says mandatory (Some d) min h =
@@ -237,11 +257,13 @@ min_found-says mandatory (Some d) min h =
     let (is, e) = tested mandatory n min (at Wrong MIN.now) g in
     (number_of-keeps 1 (2 ^ 63 - 1) MIN.now d n k).0 ∙ ap (λ n. Some (pos n)) e
 
-greatest_found-says : (found : Option Data) (max : ℕ) → or_else 1 (number_of 1 MOST_TIMES MAX.now) found ≡ Ok max → MatchOption found (max ≡ 1) (λ d. as_integer d ≡ Some (pos max))
+greatest_found-says : (found : Option Data) (max : ℕ) → or_else 1 (number_of 1 MOST_TIMES MAX.now) found ≡ Ok max →
+    MatchOption found (max ≡ 1) (λ d. as_integer d ≡ Some (pos max))
 greatest_found-says None max h = let e : 1 ≡ max = cc in sym e
 greatest_found-says (Some d) max h = (number_of-keeps 1 MOST_TIMES MAX.now d max h).0
 
-max_at-says : (min : ℕ) (table : Members) (max : ℕ) → max_at min table ≡ Ok max → MatchOption (get_member MAX.now table) (max ≡ 1) (λ d. as_integer d ≡ Some (pos max))
+max_at-says : (min : ℕ) (table : Members) (max : ℕ) → max_at min table ≡ Ok max →
+    MatchOption (get_member MAX.now table) (max ≡ 1) (λ d. as_integer d ≡ Some (pos max))
 unfolding max_at
 max_at-says min table max h =
     let (n, k, g) = from_bind (greatest_at table) (λ n. cond (nat_le min n) (Ok n) (Err (at Wrong MAX.now))) max h in
@@ -271,12 +293,14 @@ new_type_at-says : (types : List (List ℕ)) (segments : List ℕ) (table : Memb
     → (name : List ℕ) × HasText TYPE.now table name × (slice_get types segment ≡ Some name)
 unfolding new_type_at
 new_type_at-says types segments table segment h =
-    let (place, p, g) = from_bind (segment_type_at TYPE.now types table) (λ place. cond (list_any (nat_eq place) segments) (Err (at Twice TYPE.now)) (Ok place)) segment h in
+    let (place, p, g) = from_bind (segment_type_at TYPE.now types table) (λ place. cond (list_any (nat_eq place) segments) (Err (at Twice TYPE.now)) (Ok place))
+    segment h in
     let (new, e) = untested (list_any (nat_eq place) segments) place segment (at Twice TYPE.now) g in
     let (name, text, here) = segment_type_at-keeps TYPE.now types table place p in
     (name, text, subst (λ k. slice_get types k ≡ Some name) e here)
 
-type_place_of-says : (types : List (List ℕ)) (before : List TypePlace) (d : Data) (entry : TypePlace) → type_place_of types before d ≡ Ok entry → SaysEntry types before d entry
+type_place_of-says : (types : List (List ℕ)) (before : List TypePlace) (d : Data) (entry : TypePlace) → type_place_of types before d ≡ Ok entry →
+    SaysEntry types before d entry
 unfolding type_place_of parent_at
 type_place_of-says types before d entry h =
     let (table, t, h1) = from_bind (entry_of (map (λ key. key.now) ENTRY_KEYS) d) _ entry h in
@@ -299,7 +323,8 @@ type_place_of-says types before d entry h =
       max = often.most;
     })
 
-idoc_type_of-says : (types names : List (List ℕ)) (before : List IdocType) (d : Data) (type : IdocType) → idoc_type_of types names d ≡ Ok type → SaysIdocType types before d type
+idoc_type_of-says : (types names : List (List ℕ)) (before : List IdocType) (d : Data) (type : IdocType) → idoc_type_of types names d ≡ Ok type →
+    SaysIdocType types before d type
 unfolding idoc_type_of
 idoc_type_of-says types names before d type h =
     let (table, t, h1) = from_bind (entry_of (map (λ key. key.now) IDOCTYPE_KEYS) d) _ type h in
@@ -328,10 +353,14 @@ record SaysBasics (table : Members) (on : Basics) : Type 0 where
 basics_of-says : (table : Members) (on : Basics) → basics_of table ≡ Ok on → SaysBasics table on
 unfolding basics_of releases_at systems_at segments_at idoc_types_at list_or_none_at
 basics_of-says table on h =
-    let (releases, r, h2) = from_bind (some_list_at MOST_RELEASES RELEASES.now table >>= (λ ds. each RELEASES.now (λ done d. new_name_of LONGEST_RELEASE [] done d) 0 [] ds)) _ on h in
-    let (systems, s, h3) = from_bind (some_list_at MOST_SYSTEMS SYSTEM.now table >>= (λ ds. each SYSTEM.now (λ done d. system_of (system_names done) d) 0 [] ds)) _ on h2 in
-    let (segments, g, h4) = from_bind (or_else no_items (list_of MOST_TYPES SEGMENT.now) (get_member SEGMENT.now table) >>= (λ ds. each SEGMENT.now (λ done d. segment_of releases (flat_map names_of done) d) 0 [] ds)) _ on h3 in
-    let (types, t, h5) = from_bind (or_else no_items (list_of MOST_IDOC_TYPES IDOCTYPE.now) (get_member IDOCTYPE.now table) >>= (λ ds. each IDOCTYPE.now (λ done d. idoc_type_of (type_names segments) (idoc_type_names done) d) 0 [] ds)) _ on h4 in
+    let (releases, r, h2) = from_bind (some_list_at MOST_RELEASES RELEASES.now table >>=
+    (λ ds. each RELEASES.now (λ done d. new_name_of LONGEST_RELEASE [] done d) 0 [] ds)) _ on h in
+    let (systems, s, h3) = from_bind (some_list_at MOST_SYSTEMS SYSTEM.now table >>=
+    (λ ds. each SYSTEM.now (λ done d. system_of (system_names done) d) 0 [] ds)) _ on h2 in
+    let (segments, g, h4) = from_bind (or_else no_items (list_of MOST_TYPES SEGMENT.now) (get_member SEGMENT.now table) >>=
+    (λ ds. each SEGMENT.now (λ done d. segment_of releases (flat_map names_of done) d) 0 [] ds)) _ on h3 in
+    let (types, t, h5) = from_bind (or_else no_items (list_of MOST_IDOC_TYPES IDOCTYPE.now) (get_member IDOCTYPE.now table) >>=
+    (λ ds. each IDOCTYPE.now (λ done d. idoc_type_of (type_names segments) (idoc_type_names done) d) 0 [] ds)) _ on h4 in
     let e : basics releases systems segments types ≡ on = cc in
     let (rs, rl, rg) = from_bind (some_list_at MOST_RELEASES RELEASES.now table) _ releases r in
     let (ss, sl, sg) = from_bind (some_list_at MOST_SYSTEMS SYSTEM.now table) _ systems s in
@@ -341,22 +370,26 @@ basics_of-says table on h =
       releases = (
         rs,
         (some_list_at-keeps MOST_RELEASES RELEASES.now table rs rl).0,
-        all-says RELEASES.now (λ (done : List (List ℕ)) (d : Data). new_name_of LONGEST_RELEASE [] done d) SaysName (λ done d name is. (new_name_of-keeps LONGEST_RELEASE [] done d name is).0) rs releases rg,
+        all-says RELEASES.now (λ (done : List (List ℕ)) (d : Data). new_name_of LONGEST_RELEASE [] done d) SaysName
+            (λ done d name is. (new_name_of-keeps LONGEST_RELEASE [] done d name is).0) rs releases rg,
       );
       systems = (
         ss,
         (some_list_at-keeps MOST_SYSTEMS SYSTEM.now table ss sl).0,
-        all-says SYSTEM.now (λ (done : List System) (d : Data). system_of (system_names done) d) SaysSystem (λ done d system is. system_of-says (system_names done) done d system is) ss systems sg,
+        all-says SYSTEM.now (λ (done : List System) (d : Data). system_of (system_names done) d) SaysSystem
+            (λ done d system is. system_of-says (system_names done) done d system is) ss systems sg,
       );
       segments = (
         gs,
         list_or_none-says MOST_TYPES SEGMENT.now (get_member SEGMENT.now table) gs gl,
-        all-says SEGMENT.now (λ (done : List SegmentType) (d : Data). segment_of releases (flat_map names_of done) d) (SaysSegment releases) (λ done d type is. segment_of-says releases (flat_map names_of done) done d type is) gs segments gg,
+        all-says SEGMENT.now (λ (done : List SegmentType) (d : Data). segment_of releases (flat_map names_of done) d) (SaysSegment releases)
+            (λ done d type is. segment_of-says releases (flat_map names_of done) done d type is) gs segments gg,
       );
       types = (
         ts,
         list_or_none-says MOST_IDOC_TYPES IDOCTYPE.now (get_member IDOCTYPE.now table) ts tl,
-        all-says IDOCTYPE.now (λ (done : List IdocType) (d : Data). idoc_type_of (type_names segments) (idoc_type_names done) d) (SaysIdocType (type_names segments))
+        all-says IDOCTYPE.now (λ (done : List IdocType) (d : Data). idoc_type_of (type_names segments) (idoc_type_names done) d)
+            (SaysIdocType (type_names segments))
             (λ done d type is. idoc_type_of-says (type_names segments) (idoc_type_names done) done d type is) ts types tg,
       );
     })
@@ -386,26 +419,33 @@ subjects_of-says on table of h =
 -- what is said of what goes where
 record SaysTraffic (table : Members) (on : Basics) (of : Subjects) (by : Traffic) : Type 0 where
   rows : SaysListOrNone (SaysRow (system_names on.systems) (message_names of.messages) of.filters) ROW.now table by.rows
-  outbound : SaysListOrNone (SaysOutbound on.releases (system_names on.systems) (type_names on.definitions.types) on.definitions of.messages of.reduced) OUTBOUND.now table by.outbound
+  outbound : SaysListOrNone (SaysOutbound on.releases (system_names on.systems) (type_names on.definitions.types) on.definitions of.messages of.reduced)
+      OUTBOUND.now table by.outbound
   inbound : SaysListOrNone (SaysInbound (system_names on.systems)) INBOUND.now table by.inbound
 
-traffic_of-says : (on : Basics) (of : Subjects) (table : Members) (by : Traffic) → IsBasics on → AreSubjects on of → traffic_of on of table ≡ Ok by → SaysTraffic table on of by
+traffic_of-says : (on : Basics) (of : Subjects) (table : Members) (by : Traffic) → IsBasics on → AreSubjects on of → traffic_of on of table ≡ Ok by →
+    SaysTraffic table on of by
 unfolding traffic_of
 traffic_of-says on of table by is are h =
     let (rows, r, h1) = from_bind (rows_at on.system_names on.definitions of.message_names of.filters table) _ by h in
-    let (outbound, o, h2) = from_bind (outbound_at on.release_names on.system_names on.segment_names on.definitions on.types of.messages of.reduced table) _ by h1 in
+    let (outbound, o, h2) = from_bind (outbound_at on.release_names on.system_names on.segment_names on.definitions on.types of.messages of.reduced table) _ by
+    h1 in
     let (inbound, i, h3) = from_bind (inbound_at on.system_names of.all_names table) _ by h2 in
     let (profiled, p, h4) = from_bind (all_profiled outbound rows) _ by h3 in
     let (whole, w, h5) = from_bind (all_whole on.definitions on.types of.messages outbound) _ by h4 in
     let e : ◌≡◌ {A = Traffic} (record { rows = rows; outbound = outbound; inbound = inbound }) by = cc in
     subst (SaysTraffic table on of) e (record {
-      rows = rows_at-says (system_names on.systems) (message_names of.messages) on.definitions on.types of.messages of.filters table rows are.filters (ap (λ (m : List (List ℕ)). rows_at (system_names on.systems) on.definitions m of.filters table) (sym are.named)
+      rows = rows_at-says (system_names on.systems) (message_names of.messages) on.definitions on.types of.messages of.filters table rows are.filters
+          (ap (λ (m : List (List ℕ)). rows_at (system_names on.systems) on.definitions m of.filters table) (sym are.named)
           ∙ ap (λ (s : List (List ℕ)). rows_at s on.definitions of.message_names of.filters table) (sym is.system_names) ∙ r);
       outbound = outbound_at-says on.releases (system_names on.systems) on.definitions on.types of.messages of.reduced table outbound is.releases.some
-          (ap (λ (t : List (List ℕ)). outbound_at on.releases (system_names on.systems) t on.definitions on.types of.messages of.reduced table) (sym is.segment_names)
+          (ap (λ (t : List (List ℕ)). outbound_at on.releases (system_names on.systems) t on.definitions on.types of.messages of.reduced table)
+          (sym is.segment_names)
           ∙ ap (λ (s : List (List ℕ)). outbound_at on.releases s on.segment_names on.definitions on.types of.messages of.reduced table) (sym is.system_names)
-          ∙ ap (λ (l : List (List ℕ)). outbound_at l on.system_names on.segment_names on.definitions on.types of.messages of.reduced table) (sym is.release_names) ∙ o);
-      inbound = inbound_at-says (system_names on.systems) of.all_names table inbound (ap (λ (s : List (List ℕ)). inbound_at s of.all_names table) (sym is.system_names) ∙ i);
+          ∙ ap (λ (l : List (List ℕ)). outbound_at l on.system_names on.segment_names on.definitions on.types of.messages of.reduced table)
+          (sym is.release_names) ∙ o);
+      inbound = inbound_at-says (system_names on.systems) of.all_names table inbound
+          (ap (λ (s : List (List ℕ)). inbound_at s of.all_names table) (sym is.system_names) ∙ i);
     })
 
 -- the sections

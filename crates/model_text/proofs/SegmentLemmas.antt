@@ -2,7 +2,8 @@
 use Rattle.std.specs.Prelude.{slice_get}
 use Rattle.std.specs.List.{flat_map, list_any}
 use Rattle.std.specs.Option.{option_map_or}
-use Rattle.std.proofs.Common.{◌≡◌, ℕ, ◌-◌, ◌||◌, Bool, true, false, Some, Ok, List, [], ◌∷◌, ◌++◌, length, map, refl, sym, ap, subst, ◌∙◌, append_assoc, append-nil, not, arith}
+use Rattle.std.proofs.Common.{◌≡◌, ℕ, ◌-◌, ◌||◌, Bool, true, false, Some, Ok, List, [], ◌∷◌, ◌++◌, length, map, refl, sym, ap, subst, ◌∙◌, append_assoc}
+use Rattle.std.proofs.Common.{append-nil, not, arith}
 use Rattle.std.proofs.lemmas.List.{length-append, map_push}
 use Rattle.std.proofs.lemmas.List.Concat.{flat_map-cons}
 use Rattle.std.proofs.lemmas.Grind.{flat_map-append}
@@ -34,13 +35,15 @@ last_at : (versions : List Version) (version : Version) → slice_get (versions 
 last_at versions version =
     let whole = versions ++ version ∷ [] in
     let at : length whole - 1 ≡ length versions = omega (arith, length-append versions (version ∷ [])) in
-    rw at (slice_get_read whole (length whole) (length versions) version refl (omega (arith, length-append versions (version ∷ []))) (sym (get_or-append_seam versions version [] version)))
+    rw at (slice_get_read whole (length whole) (length versions) version refl (omega (arith, length-append versions (version ∷ [])))
+    (sym (get_or-append_seam versions version [] version)))
 
 -- the last definition is the one that was added
 pub last_fields-push : (versions : List Version) (version : Version) → last_fields (versions ++ version ∷ []) ≡ version.fields
 last_fields-push versions version = ap (λ last. option_map_or (λ (v : Version). v.fields) last []) (last_at versions version)
 
-pub version_names-push : (before names : List (List ℕ)) (versions : List Version) (version : Version) → names ≡ before ++ version_names versions → names ++ version.name ∷ [] ≡ before ++ version_names (versions ++ version ∷ [])
+pub version_names-push : (before names : List (List ℕ)) (versions : List Version) (version : Version) → names ≡ before ++ version_names versions →
+    names ++ version.name ∷ [] ≡ before ++ version_names (versions ++ version ∷ [])
 version_names-push before names versions version is =
     ap (λ ns. ns ++ version.name ∷ []) is ∙ append_assoc before (version_names versions) (version.name ∷ [])
     ∙ ap (λ ns. before ++ ns) (sym (map_push (λ (v : Version). v.name) versions version))
@@ -50,12 +53,14 @@ names_of-types : (test : List ℕ → Bool) (types : List SegmentType) → list_
 names_of-types test [] none = refl
 names_of-types test (type ∷ types) none =
     let whole : list_any test (names_of type ++ flat_map names_of types) ≡ false = ap (list_any test) (sym (flat_map-cons names_of type types)) ∙ none in
-    let parts = or_false_parts (list_any test (names_of type)) (list_any test (flat_map names_of types)) (sym (list_any-append test (names_of type) (flat_map names_of types)) ∙ whole) in
+    let parts = or_false_parts (list_any test (names_of type)) (list_any test (flat_map names_of types))
+    (sym (list_any-append test (names_of type) (flat_map names_of types)) ∙ whole) in
     let own = or_false_parts (test type.name) (list_any test (version_names type.versions)) parts.0 in
     or_false (test type.name) (list_any test (type_names types)) own.0 (names_of-types test types parts.1)
 
 -- a segment type that was read has a new name
-pub segment_of-new : (releases names : List (List ℕ)) (d : Data) (segment : SegmentType) → segment_of releases names d ≡ Ok segment → list_any (is_text segment.name) names ≡ false
+pub segment_of-new : (releases names : List (List ℕ)) (d : Data) (segment : SegmentType) → segment_of releases names d ≡ Ok segment →
+    list_any (is_text segment.name) names ≡ false
 unfolding segment_of
 segment_of-new releases names d segment h =
     let (table, t, h1) = from_bind (entry_of (map (λ key. key.now) SEGMENT_KEYS) d) _ segment h in
@@ -66,11 +71,13 @@ segment_of-new releases names d segment h =
     subst (λ (s : SegmentType). list_any (is_text s.name) names ≡ false) e (new_segment_name_at-keeps TYPE.now names table name n).0.new
 
 -- so it is new among the types
-pub type_names-new : (releases : List (List ℕ)) (types : List SegmentType) (d : Data) (segment : SegmentType) → segment_of releases (flat_map names_of types) d ≡ Ok segment → list_any (is_text segment.name) (type_names types) ≡ false
+pub type_names-new : (releases : List (List ℕ)) (types : List SegmentType) (d : Data) (segment : SegmentType) → segment_of releases (flat_map names_of types) d
+    ≡ Ok segment → list_any (is_text segment.name) (type_names types) ≡ false
 type_names-new releases types d segment h =
     names_of-types (is_text segment.name) types (segment_of-new releases (flat_map names_of types) d segment h)
 
-pub type_names-push : (names : List (List ℕ)) (types : List SegmentType) (segment : SegmentType) → names ≡ type_names types → names ++ segment.name ∷ [] ≡ type_names (types ++ segment ∷ [])
+pub type_names-push : (names : List (List ℕ)) (types : List SegmentType) (segment : SegmentType) → names ≡ type_names types →
+    names ++ segment.name ∷ [] ≡ type_names (types ++ segment ∷ [])
 type_names-push names types segment is = ap (λ ns. ns ++ segment.name ∷ []) is ∙ sym (map_push (λ (s : SegmentType). s.name) types segment)
 
 pub all_names-push : (names : List (List ℕ)) (types : List SegmentType) (segment : SegmentType) → names ≡ flat_map names_of types

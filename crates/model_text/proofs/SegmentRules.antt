@@ -2,7 +2,8 @@
 use Rattle.std.specs.Prelude.{AllPairs, slice_get}
 use Rattle.std.specs.List.{AllByRecursion, IsDistinct, flat_map, list_any}
 use Rattle.std.specs.Option.{option_map_or}
-use Rattle.std.proofs.Common.{◌≡◌, ℕ, ◌-◌, ◌<◌, ◌≤◌, nat_lt, true, false, cond, Some, Ok, Err, List, [], ◌∷◌, ◌++◌, length, get_or, map, refl, sym, ap, subst, ◌∙◌, append_assoc, append-nil, inl, inr, arith}
+use Rattle.std.proofs.Common.{◌≡◌, ℕ, ◌-◌, ◌<◌, ◌≤◌, nat_lt, true, false, cond, Some, Ok, Err, List, [], ◌∷◌, ◌++◌, length, get_or, map, refl, sym, ap, subst}
+use Rattle.std.proofs.Common.{◌∙◌, append_assoc, append-nil, inl, inr, arith}
 use Rattle.std.proofs.Math.Nat.{eq-or-lt_of_le}
 use Rattle.std.proofs.lemmas.Bool.Decides.{nat_tests}
 use Rattle.std.proofs.lemmas.List.{map_push}
@@ -28,7 +29,8 @@ use Rattle.model_keys.specs.Finding.{at}
 use Rattle.model_keys.specs.Each.{each}
 use Rattle.model_keys.specs.Keys.{any_list_at, entry_of, list_or_none_at, new_segment_name_at, reference_at, some_list_at}
 use Rattle.name_tables.proofs.DistinctLemmas.{is_text-symmetric, IsDistinct-push}
-use Rattle.model_keys.proofs.KeepsLemmas.{each-invariant, each-length, from_bind, list_or_none_at-keeps, new_segment_name_at-keeps, reference_at-keeps, some_list_at-keeps, tested}
+use Rattle.model_keys.proofs.KeepsLemmas.{each-invariant, each-length, from_bind, list_or_none_at-keeps, new_segment_name_at-keeps, reference_at-keeps}
+use Rattle.model_keys.proofs.KeepsLemmas.{some_list_at-keeps, tested}
 use Rattle.model_text.specs.declared.keys.TheConstants.{ADDS, NAME, RELEASE, SEGMENT, SEGMENT_KEYS, TYPE, VERSION, VERSION_KEYS}
 use Rattle.model_text.specs.Fields.{fields_of}
 use Rattle.dist_model.specs.Field.{last_fields}
@@ -53,11 +55,13 @@ release_at-keeps : (releases : List (List ℕ)) (versions : List Version) (table
     → (release < length releases) × ((last : Version) → Last versions last → last.release < release)
 unfolding release_at
 release_at-keeps releases versions table release h =
-    let (place, r, g) = from_bind (reference_at LONGEST_RELEASE RELEASE.now releases table) (λ place. cond (is_later place versions) (Ok place) (Err (at Wrong RELEASE.now))) release h in
+    let (place, r, g) = from_bind (reference_at LONGEST_RELEASE RELEASE.now releases table)
+    (λ place. cond (is_later place versions) (Ok place) (Err (at Wrong RELEASE.now))) release h in
     let (later, e) = tested (is_later place versions) place release (at Wrong RELEASE.now) g in
     let (name, text, here) = reference_at-keeps LONGEST_RELEASE RELEASE.now releases table place r in (
       subst (λ k. k < length releases) e (slice_get_within releases place name here),
-      λ last is. subst (λ k. last.release < k) e (less last.release place (sym (ap (λ last. option_map_or (λ (v : Version). nat_lt v.release place) last true) is) ∙ later)),
+      λ last is. subst (λ k. last.release < k) e
+          (less last.release place (sym (ap (λ last. option_map_or (λ (v : Version). nat_lt v.release place) last true) is) ∙ later)),
     )
   where
     less : (a b : ℕ) → nat_lt a b ≡ true → a < b
@@ -126,10 +130,12 @@ AreVersions-push releases names versions version are next = record {
       subst (IsDistinct is_text) grouped one;
 }
 
-versions_of-keeps : (releases names : List (List ℕ)) (ds : Items) (versions : List Version) → IsDistinct is_text names → versions_of releases names ds ≡ Ok versions → AreVersions releases names versions
+versions_of-keeps : (releases names : List (List ℕ)) (ds : Items) (versions : List Version) → IsDistinct is_text names →
+    versions_of releases names ds ≡ Ok versions → AreVersions releases names versions
 versions_of-keeps releases names ds versions apart h =
     each-invariant VERSION.now (λ (done : List Version) (d : Data). version_of releases (names ++ version_names done) done d) (AreVersions releases names)
-    (λ done d version so_far is. AreVersions-push releases names done version so_far (version_of-keeps releases (names ++ version_names done) done d version so_far.each is))
+    (λ done d version so_far is. AreVersions-push releases names done version so_far
+    (version_of-keeps releases (names ++ version_names done) done d version so_far.each is))
     0 [] ds versions (record {
       each = tt;
       continued = λ i j d less within. absurd (omega arith);
@@ -143,7 +149,8 @@ record IsNextType (releases names : List (List ℕ)) (type : SegmentType) : Type
   released : IsReleased (length releases) type
   apart : IsDistinct is_text (names ++ type.name ∷ [] ++ version_names type.versions)
 
-segment_of-keeps : (releases names : List (List ℕ)) (d : Data) (type : SegmentType) → IsDistinct is_text names → segment_of releases names d ≡ Ok type → IsNextType releases names type
+segment_of-keeps : (releases names : List (List ℕ)) (d : Data) (type : SegmentType) → IsDistinct is_text names → segment_of releases names d ≡ Ok type →
+    IsNextType releases names type
 unfolding segment_of
 segment_of-keeps releases names d type apart h =
     let (table, t, h1) = from_bind (entry_of (map (λ key. key.now) SEGMENT_KEYS) d) _ type h in
@@ -154,7 +161,8 @@ segment_of-keeps releases names d type apart h =
     let new = new_segment_name_at-keeps TYPE.now names table name n in
     let list = some_list_at-keeps MOST_VERSIONS VERSION.now table ds l in
     let are = versions_of-keeps releases (names ++ name ∷ []) ds versions (IsDistinct-push is_text is_text-symmetric names name apart new.0.new) v in
-    let long = each-length VERSION.now (λ (done : List Version) (d : Data). version_of releases ((names ++ name ∷ []) ++ version_names done) done d) 0 [] ds versions v in
+    let long = each-length VERSION.now (λ (done : List Version) (d : Data). version_of releases ((names ++ name ∷ []) ++ version_names done) done d) 0 [] ds
+    versions v in
     subst (IsNextType releases names) e (record {
       is = record {
         named = IsSegmentName_decided name new.1;
@@ -173,7 +181,8 @@ record AreTypes (releases : List (List ℕ)) (types : List SegmentType) : Type 0
   released : AllByRecursion (IsReleased (length releases)) types
   apart : IsDistinct is_text (flat_map names_of types)
 
-AreTypes-push : (releases : List (List ℕ)) (types : List SegmentType) (type : SegmentType) → AreTypes releases types → IsNextType releases (flat_map names_of types) type → AreTypes releases (types ++ type ∷ [])
+AreTypes-push : (releases : List (List ℕ)) (types : List SegmentType) (type : SegmentType) → AreTypes releases types →
+    IsNextType releases (flat_map names_of types) type → AreTypes releases (types ++ type ∷ [])
 AreTypes-push releases types type are next = record {
   each = AllByRecursion-snoc IsSegmentType types type are.each next.is;
   released = AllByRecursion-snoc (IsReleased (length releases)) types type are.released next.released;

@@ -20,7 +20,8 @@ use Rattle.model_keys.specs.Finding.{required}
 use Rattle.model_keys.specs.Each.{each}
 use Rattle.model_keys.specs.Keys.{entry_of, list_of, new_name_at, new_name_of, or_else, some_list_at}
 use Rattle.name_tables.proofs.DistinctLemmas.{is_text-symmetric, IsDistinct-push}
-use Rattle.model_keys.proofs.KeepsLemmas.{each-invariant, each-length, from_bind, list_of-keeps, name_of-keeps, new_name_at-keeps, new_name_of-keeps, required-ok, some_list_at-keeps}
+use Rattle.model_keys.proofs.KeepsLemmas.{each-invariant, each-length, from_bind, list_of-keeps, name_of-keeps, new_name_at-keeps, new_name_of-keeps}
+use Rattle.model_keys.proofs.KeepsLemmas.{required-ok, some_list_at-keeps}
 use Rattle.model_text.specs.declared.keys.TheConstants.{CLIENT, FUNCTIONS, NAME, RELEASES, STANDARD_CLIENT, STANDARD_FUNCTION, SYSTEM, SYSTEM_KEYS}
 use Rattle.model_text.specs.Releases.{releases_at}
 use Rattle.model_text.specs.Systems.{client_at, client_in, client_of, function_list, function_of, functions_at, system_of, systems_at}
@@ -31,7 +32,8 @@ IsReleaseName name = IsTrue (is_name_within LONGEST_RELEASE name)
 pub releases_at-keeps : (table : Members) (releases : List (List ℕ)) → releases_at table ≡ Ok releases → AreReleases releases
 unfolding releases_at IsDistinct
 releases_at-keeps table releases h =
-    let (ds, l, g) = from_bind (some_list_at MOST_RELEASES RELEASES.now table) (λ ds. each RELEASES.now (λ done d. new_name_of LONGEST_RELEASE [] done d) 0 [] ds) releases h in
+    let (ds, l, g) = from_bind (some_list_at MOST_RELEASES RELEASES.now table)
+    (λ ds. each RELEASES.now (λ done d. new_name_of LONGEST_RELEASE [] done d) 0 [] ds) releases h in
     let list = some_list_at-keeps MOST_RELEASES RELEASES.now table ds l in
     let read = λ (done : List (List ℕ)) (d : Data). new_name_of LONGEST_RELEASE [] done d in
     let long = each-length RELEASES.now read 0 [] ds releases g in
@@ -46,7 +48,8 @@ releases_at-keeps table releases h =
     }
 
 -- three digits
-digits_are : (a b c : ℕ) (client : List ℕ) → cond (is_ascii_digit a && (is_ascii_digit b && is_ascii_digit c)) (Some (a ∷ b ∷ c ∷ [])) None ≡ Some client → IsClient client
+digits_are : (a b c : ℕ) (client : List ℕ) → cond (is_ascii_digit a && (is_ascii_digit b && is_ascii_digit c)) (Some (a ∷ b ∷ c ∷ [])) None ≡ Some client →
+    IsClient client
 digits_are a b c client h =
     let (is, e) = tested_client (is_ascii_digit a && (is_ascii_digit b && is_ascii_digit c)) (a ∷ b ∷ c ∷ []) client h in
     let first = and_parts (is_ascii_digit a) (is_ascii_digit b && is_ascii_digit c) is in
@@ -78,7 +81,8 @@ client_found-keeps (Some d) client h = client_of-keeps d client h
 abbrev AreFunctions : List (List ℕ) → Type 0
 AreFunctions functions = (length functions ≤ MOST_FUNCTIONS) × AllByRecursion IsName functions
 
-functions_found-keeps : (found : Option Data) (functions : List (List ℕ)) → or_else (STANDARD_FUNCTION.now ∷ []) function_list found ≡ Ok functions → AreFunctions functions
+functions_found-keeps : (found : Option Data) (functions : List (List ℕ)) → or_else (STANDARD_FUNCTION.now ∷ []) function_list found ≡ Ok functions →
+    AreFunctions functions
 functions_found-keeps None functions h =
     let e : STANDARD_FUNCTION.now ∷ [] ≡ functions = cc in
     subst AreFunctions e (omega arith, ((IsName_decided STANDARD_FUNCTION.now).0 refl, tt))
@@ -93,7 +97,8 @@ functions_found-keeps (Some d) functions h =
           0 [] ds functions tt g,
     )
 
-system_of-keeps : (names : List (List ℕ)) (d : Data) (system : System) → system_of names d ≡ Ok system → IsSystem system × (list_any (is_text system.name) names ≡ false)
+system_of-keeps : (names : List (List ℕ)) (d : Data) (system : System) → system_of names d ≡ Ok system →
+    IsSystem system × (list_any (is_text system.name) names ≡ false)
 unfolding system_of client_at functions_at
 system_of-keeps names d system h =
     let (table, t, h1) = from_bind (entry_of (map (λ key. key.now) SYSTEM_KEYS) d) _ system h in
@@ -109,14 +114,16 @@ system_of-keeps names d system h =
 pub systems_at-keeps : (table : Members) (systems : List System) → systems_at table ≡ Ok systems → AreSystems systems
 unfolding systems_at IsDistinct
 systems_at-keeps table systems h =
-    let (ds, l, g) = from_bind (some_list_at MOST_SYSTEMS SYSTEM.now table) (λ ds. each SYSTEM.now (λ done d. system_of (system_names done) d) 0 [] ds) systems h in
+    let (ds, l, g) = from_bind (some_list_at MOST_SYSTEMS SYSTEM.now table) (λ ds. each SYSTEM.now (λ done d. system_of (system_names done) d) 0 [] ds) systems
+    h in
     let list = some_list_at-keeps MOST_SYSTEMS SYSTEM.now table ds l in
     let read = λ (done : List System) (d : Data). system_of (system_names done) d in
     let long = each-length SYSTEM.now read 0 [] ds systems g in
     let kept = each-invariant SYSTEM.now read (λ done. AllByRecursion IsSystem done × IsDistinct is_text (system_names done))
     (λ done d system so_far is. let own = system_of-keeps (system_names done) d system is in (
       AllByRecursion-snoc IsSystem done system so_far.0 own.0,
-      subst (IsDistinct is_text) (sym (map_push (λ (s : System). s.name) done system)) (IsDistinct-push is_text is_text-symmetric (system_names done) system.name so_far.1 own.1),
+      subst (IsDistinct is_text) (sym (map_push (λ (s : System). s.name) done system))
+          (IsDistinct-push is_text is_text-symmetric (system_names done) system.name so_far.1 own.1),
     ))
     0 [] ds systems (tt, tt) g in record {
       some = omega (arith, list.1, long);

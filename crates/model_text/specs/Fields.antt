@@ -1,5 +1,6 @@
 -- The fields that a definition of a segment type adds: each is a name and a length, with one blank between them.
-use Rattle.std.specs.Prelude.{ℕ, ◌+◌, ◌-◌, ◌*◌, ◌==◌, ◌&&◌, Bool, List, [], ◌∷◌, length, map, take, drop, position, nat_lt, nat_le, Option, Some, None, option_and_then, Result, Ok, decimal, if◌then◌else◌}
+use Rattle.std.specs.Prelude.{ℕ, ◌+◌, ◌-◌, ◌*◌, ◌==◌, ◌&&◌, Bool, List, [], ◌∷◌, length, map, take, drop, position, nat_lt, nat_le, Option, Some, None}
+use Rattle.std.specs.Prelude.{option_and_then, Result, Ok, decimal, if◌then◌else◌}
 use Rattle.std.specs.Char.{is_ascii_digit}
 use Rattle.std.specs.Option.{option_map}
 use Rattle.toml.specs.Data.{Data, Items, as_str}

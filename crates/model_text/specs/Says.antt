@@ -14,7 +14,9 @@ use Rattle.dist_model.specs.Field.{last_fields}
 use Rattle.dist_model.specs.Message.{message_names}
 use Rattle.dist_model.specs.Model.{system_names, type_names}
 use Rattle.model_keys.specs.Says.{HasList, HasText, OneForOne, SaysList, SaysListOrNone, SaysName, SaysNames}
-use Rattle.model_text.specs.declared.keys.TheConstants.{ADDS, CLIENT, FILTER, FUNCTIONS, IDOCTYPE, INBOUND, KIND, MANDATORY, MAX, MESSAGE, MIN, NAME, OUTBOUND, PARENT, REDUCED, RELEASE, RELEASES, ROW, SEGMENT, STANDARD_CLIENT, STANDARD_FUNCTION, SYSTEM, TYPE, VERSION}
+use Rattle.model_text.specs.declared.keys.TheConstants.{ADDS, CLIENT, FILTER, FUNCTIONS, IDOCTYPE, INBOUND, KIND, MANDATORY, MAX, MESSAGE, MIN, NAME, OUTBOUND}
+use Rattle.model_text.specs.declared.keys.TheConstants.{PARENT, REDUCED, RELEASE, RELEASES, ROW, SEGMENT, STANDARD_CLIENT, STANDARD_FUNCTION, SYSTEM, TYPE}
+use Rattle.model_text.specs.declared.keys.TheConstants.{VERSION}
 use Rattle.model_messages.specs.Says.{SaysFilter, SaysKind, SaysMessage, SaysReduced}
 use Rattle.model_profiles.specs.Says.{SaysInbound, SaysOutbound, SaysRow}
 use Rattle.model_text.specs.Entries.{entry_types}
@@ -93,7 +95,8 @@ pub record SaysModel (table : Members) (model : Lists) : Type 0 where
   pub reduced : SaysListOrNone (SaysReduced model.definitions model.messages) REDUCED.now table model.reduced
   pub filters : SaysListOrNone (SaysFilter model.definitions model.messages) FILTER.now table model.filters
   pub rows : SaysListOrNone (SaysRow (system_names model.systems) (message_names model.messages) model.filters) ROW.now table model.rows
-  pub outbound : SaysListOrNone (SaysOutbound model.releases (system_names model.systems) (type_names model.definitions.types) model.definitions model.messages model.reduced) OUTBOUND.now table model.outbound
+  pub outbound : SaysListOrNone (SaysOutbound model.releases (system_names model.systems) (type_names model.definitions.types) model.definitions model.messages
+      model.reduced) OUTBOUND.now table model.outbound
   pub inbound : SaysListOrNone (SaysInbound (system_names model.systems)) INBOUND.now table model.inbound
 
 -- these bytes say this model

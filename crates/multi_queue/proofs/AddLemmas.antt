@@ -2,7 +2,8 @@
 use Rattle.std.specs.Prelude.{filter, slice_get, slice_set, not}
 use Rattle.std.specs.List.{filter_map, cons_option}
 use Rattle.std.specs.Option.{option_map, is_none}
-use Rattle.std.proofs.Common.{◌≡◌, ◌<◌, ◌≤◌, ◌+◌, ◌*◌, ◌^◌, ℕ, zero, suc, nat_eq, Bool, true, false, ◌||◌, ◌&&◌, cond, Option, Some, None, List, [], ◌∷◌, ◌++◌, length, map, inl, inr, refl, sym, ap, subst, ◌∙◌, arith, length-append}
+use Rattle.std.proofs.Common.{◌≡◌, ◌<◌, ◌≤◌, ◌+◌, ◌*◌, ◌^◌, ℕ, zero, suc, nat_eq, Bool, true, false, ◌||◌, ◌&&◌, cond, Option, Some, None, List, [], ◌∷◌, ◌++◌}
+use Rattle.std.proofs.Common.{length, map, inl, inr, refl, sym, ap, subst, ◌∙◌, arith, length-append}
 use Rattle.std.specs.Cmp.Lexicographic.{slice_cmp, lists_ties, bytes_decides, pointwise}
 use Rattle.std.specs.Ordering.{nat_cmp, is_eq, eq_by_cmp, ordering_then}
 use Rattle.std.specs.declared.cmp.Ordering.{Ordering}
@@ -18,7 +19,8 @@ use Rattle.plain_queues.specs.Queues.{unit_of}
 use Rattle.plain_queues.specs.Changes.{added, new_unit}
 use Rattle.multi_queue.specs.declared.entry.Entry.{Entry}
 use Rattle.multi_queue.specs.declared.entry.Lane.{Lane}
-use Rattle.multi_queue.specs.Counted.{has, differ, standing, is_live, is_ready, count_but, HeadsAll, IsCounted, IsBoardBut, KeepsLanes, Grows, AreNewQueues, IsLastDead, IsBehind, IsEntered, left_at, left_of, new_entry}
+use Rattle.multi_queue.specs.Counted.{has, differ, standing, is_live, is_ready, count_but, HeadsAll, IsCounted, IsBoardBut, KeepsLanes, Grows, AreNewQueues}
+use Rattle.multi_queue.specs.Counted.{IsLastDead, IsBehind, IsEntered, left_at, left_of, new_entry}
 use Rattle.multi_queue.specs.Seen.{key_at, seen_unit, seen, number_of, numbers_cmp, IsPlaced, IsNamed, IsQueues, IsNew, AreKnown, AreNumbersOf}
 use Rattle.multi_queue.proofs.CountedLemmas.{set-here, set-there, slice_get_some, standing-same, standing-joined, has-snoc}
 use Rattle.multi_queue.proofs.SeenLemmas.{has-key_at, unit_of-here}
@@ -37,11 +39,13 @@ filter_map-end f (z ∷ zs) x y is = ap (cons_option (f z)) (filter_map-end f zs
     over (Some v) xs ys = refl
 
 -- one key more has its number
-pub numbers-more : (keys : List QueueKey) (key : QueueKey) (lanes after : List Lane) (qs : List ℕ) (q : ℕ) → Grows lanes after → AreNumbersOf keys lanes qs → key_at after q ≡ Some key
+pub numbers-more : (keys : List QueueKey) (key : QueueKey) (lanes after : List Lane) (qs : List ℕ) (q : ℕ) → Grows lanes after → AreNumbersOf keys lanes qs →
+    key_at after q ≡ Some key
     → AreNumbersOf (keys ++ key ∷ []) after (qs ++ q ∷ [])
 numbers-more keys key lanes after qs q grows it is = record {
   same = filter_map-end (key_at after) qs q key is
-      ∙ ap (λ (l : List QueueKey). l ++ key ∷ []) (ap (λ (l : List Lane). filter_map (key_at l) qs) grows.all ∙ keys-front lanes grows.more qs it.known ∙ it.same);
+      ∙ ap (λ (l : List QueueKey). l ++ key ∷ []) (ap (λ (l : List Lane). filter_map (key_at l) qs) grows.all ∙ keys-front lanes grows.more qs it.known
+      ∙ it.same);
   known = λ r h. elim (eqb_tells r q) [
     | inl e ↦ let at = lane-of_key after q key is in omega (arith, slice_get_within after q at.0 at.1, e.1)
     | inr e ↦ omega (arith, it.known r (sym (has-snoc r q qs ∙ ap (λ b. has r qs || b) e.0 ∙ or_false (has r qs)) ∙ h), grows-length lanes after grows)
@@ -53,7 +57,8 @@ numbers-more keys key lanes after qs q grows it is = record {
     or_false true = refl
     or_false false = refl
 
-differ-keys : (lanes : List Lane) (names : ℕ × List ℕ → Option ℕ) (qs : List ℕ) → IsNamed lanes names → AreKnown qs lanes → keys_differ (filter_map (key_at lanes) qs) ≡ differ qs
+differ-keys : (lanes : List Lane) (names : ℕ × List ℕ → Option ℕ) (qs : List ℕ) → IsNamed lanes names → AreKnown qs lanes →
+    keys_differ (filter_map (key_at lanes) qs) ≡ differ qs
 differ-keys lanes names [] it known = refl
 differ-keys lanes names (q ∷ qs) it known =
     let at = slice_get_some lanes q (known q (known-here q qs)) in
@@ -64,7 +69,8 @@ differ-keys lanes names (q ∷ qs) it known =
     ∙ ap (λ b. not (has q qs) && b) (differ-keys lanes names qs it later)
 
 -- the numbers of keys that differ, at most eight
-pub new-queues : (keys : List QueueKey) (lanes : List Lane) (names : ℕ × List ℕ → Option ℕ) (qs : List ℕ) → IsNamed lanes names → AreNumbersOf keys lanes qs → keys_differ keys ≡ true → length keys ≤ 8
+pub new-queues : (keys : List QueueKey) (lanes : List Lane) (names : ℕ × List ℕ → Option ℕ) (qs : List ℕ) → IsNamed lanes names → AreNumbersOf keys lanes qs →
+    keys_differ keys ≡ true → length keys ≤ 8
     → AreNewQueues qs lanes
 new-queues keys lanes names qs named it different few = record {
   apart = sym (differ-keys lanes names qs named it.known) ∙ ap keys_differ it.same ∙ different;
@@ -99,7 +105,8 @@ ready-behind tid (u ∷ us) (h ∷ hs) zero same = refl
 ready-behind tid (u ∷ us) (h ∷ hs) (suc p) same = ready-behind tid us hs p (omega arith)
 
 -- the tree serves for it where it has a leaf
-pub board-behind : (tid : TidOf) (height : ℕ) (units : List Entry) (counts : List ℕ) (nodes : List Bool) → length units < 2 ^ height → IsBoardBut None height units counts nodes
+pub board-behind : (tid : TidOf) (height : ℕ) (units : List Entry) (counts : List ℕ) (nodes : List Bool) → length units < 2 ^ height →
+    IsBoardBut None height units counts nodes
     → IsBoardBut None height (units ++ new_entry tid ∷ []) (counts ++ 0 ∷ []) nodes
 board-behind tid height units counts nodes room it = record {
   tree = it.tree;
@@ -108,7 +115,8 @@ board-behind tid height units counts nodes room it = record {
   ready = λ p other small. it.ready p other small ∙ sym (ready-behind tid units counts p it.all);
 }
 
-counted-behind : (tid : TidOf) (units : List Entry) (lanes : List Lane) (counts : List ℕ) → IsCounted None units lanes counts → IsCounted None (units ++ new_entry tid ∷ []) lanes (counts ++ 0 ∷ [])
+counted-behind : (tid : TidOf) (units : List Entry) (lanes : List Lane) (counts : List ℕ) → IsCounted None units lanes counts →
+    IsCounted None (units ++ new_entry tid ∷ []) lanes (counts ++ 0 ∷ [])
 counted-behind tid units lanes counts it = record {
   all = omega (arith, it.all, length-append units (new_entry tid ∷ []), length-append counts (0 ∷ []));
   lines = λ q w at_q. it.lines q w at_q ∙ sym (standing-behind tid q 0 units);
@@ -132,7 +140,8 @@ counted-behind tid units lanes counts it = record {
   ];
   known = λ p u q at_p h. elim (get-split units (new_entry tid ∷ []) p u at_p) [
     | inl front ↦ it.known p u q front h
-    | inr (j, e, back) ↦ absurd (let none : has q u.queues ≡ false = ap (λ (x : Entry). has q x.queues) (sym (get-end_only (new_entry tid) u j back)) in both_ways (has q u.queues) none h)
+    | inr (j, e, back) ↦ absurd (let none : has q u.queues ≡ false = ap (λ (x : Entry). has q x.queues)
+        (sym (get-end_only (new_entry tid) u j back)) in both_ways (has q u.queues) none h)
   ];
 }
 
@@ -177,7 +186,8 @@ first-front (x ∷ xs) p r at = at
 module _ {units : List Entry} {lanes : List Lane} {counts : List ℕ} {nodes : List Bool} {height : ℕ} {places : ℕ × ℕ → Option ℕ} {names : ℕ × List ℕ → Option ℕ}
     (it : IsQueues units lanes counts nodes height places names) where
   -- what the lists keep where there is another tree
-  pub board-keeps : (nodes2 : List Bool) (height2 : ℕ) (places2 : ℕ × ℕ → Option ℕ) → (0 < length units → IsBoardBut None height2 units counts nodes2) → 2 * 2 ^ height2 < 2 ^ 64 → IsPlaced units places2
+  pub board-keeps : (nodes2 : List Bool) (height2 : ℕ) (places2 : ℕ × ℕ → Option ℕ) → (0 < length units → IsBoardBut None height2 units counts nodes2) →
+      2 * 2 ^ height2 < 2 ^ 64 → IsPlaced units places2
       → IsQueues units lanes counts nodes2 height2 places2 names
   board-keeps nodes2 height2 places2 board fits placed = record {
     counted = it.counted;
@@ -190,7 +200,8 @@ module _ {units : List Entry} {lanes : List Lane} {counts : List ℕ} {nodes : L
   }
 
   -- what they keep where a unit comes behind all others, in no queue and not live
-  pub behind-keeps : (tid : TidOf) (nodes2 : List Bool) (height2 : ℕ) (places2 : ℕ × ℕ → Option ℕ) → IsBoardBut None height2 (units ++ new_entry tid ∷ []) (counts ++ 0 ∷ []) nodes2 → 2 * 2 ^ height2 < 2 ^ 64
+  pub behind-keeps : (tid : TidOf) (nodes2 : List Bool) (height2 : ℕ) (places2 : ℕ × ℕ → Option ℕ) →
+      IsBoardBut None height2 (units ++ new_entry tid ∷ []) (counts ++ 0 ∷ []) nodes2 → 2 * 2 ^ height2 < 2 ^ 64
       → IsPlaced (units ++ new_entry tid ∷ []) places2 → IsQueues (units ++ new_entry tid ∷ []) lanes (counts ++ 0 ∷ []) nodes2 height2 places2 names
   behind-keeps tid nodes2 height2 places2 board fits placed = record {
     counted = counted-behind tid units lanes counts it.counted;
@@ -204,12 +215,14 @@ module _ {units : List Entry} {lanes : List Lane} {counts : List ℕ} {nodes : L
     ];
     claims = λ p u at_p busy. elim (get-split units (new_entry tid ∷ []) p u at_p) [
       | inl front ↦ let old = it.claims p u front busy in (old.0, heads-behind tid p units (slice_get_within units p u front) old.1)
-      | inr (j, e, back) ↦ absurd (let none : is_none u.claim ≡ true = ap (λ (x : Entry). is_none x.claim) (sym (get-end_only (new_entry tid) u j back)) in both_ways (is_none u.claim) busy none)
+      | inr (j, e, back) ↦ absurd (let none : is_none u.claim ≡ true = ap (λ (x : Entry). is_none x.claim)
+          (sym (get-end_only (new_entry tid) u j back)) in both_ways (is_none u.claim) busy none)
     ];
   }
 
   -- what they keep where entries of queues change, and the counts follow
-  pub lanes-keep : (after : List Lane) (counts2 : List ℕ) (nodes2 : List Bool) → KeepsLanes lanes after → IsCounted None units after counts2 → IsBoardBut None height units counts2 nodes2
+  pub lanes-keep : (after : List Lane) (counts2 : List ℕ) (nodes2 : List Bool) → KeepsLanes lanes after → IsCounted None units after counts2 →
+      IsBoardBut None height units counts2 nodes2
       → IsQueues units after counts2 nodes2 height places names
   lanes-keep after counts2 nodes2 keeps counted board = record {
     counted = counted;
@@ -228,7 +241,8 @@ module _ {units : List Entry} {lanes : List Lane} {counts : List ℕ} {nodes : L
       λ i. record { units = us i; stops = stops i }
 
   -- what they keep where the last unit, which is in no queue and not live, is in queues and live
-  pub enter-keeps : (p : ℕ) (u : Entry) (qs : List ℕ) (after : List Lane) (counts2 : List ℕ) (nodes2 : List Bool) → slice_get units p ≡ Some u → length units ≡ p + 1 → u.queues ≡ [] → is_none u.claim ≡ true
+  pub enter-keeps : (p : ℕ) (u : Entry) (qs : List ℕ) (after : List Lane) (counts2 : List ℕ) (nodes2 : List Bool) → slice_get units p ≡ Some u →
+      length units ≡ p + 1 → u.queues ≡ [] → is_none u.claim ≡ true
       → places (number_of u.tid) ≡ Some p → KeepsLanes lanes after → IsCounted None (slice_set units p (record u { queues = qs; live = true })) after counts2
       → IsBoardBut None height (slice_set units p (record u { queues = qs; live = true })) counts2 nodes2
       → IsQueues (slice_set units p (record u { queues = qs; live = true })) after counts2 nodes2 height places names
@@ -246,8 +260,12 @@ module _ {units : List Entry} {lanes : List Lane} {counts : List ℕ} {nodes : L
               let old = it.placed.there number r h in
               elim (eqb_tells p r) [
                 | inl e ↦
-                    let same : u ≡ old.0 = cc (at_p, old.1, e.1) in
-                    (v, subst (λ i. slice_get (slice_set units p v) i ≡ Some v) e.1 (set-here units p u v at_p), ap (λ (y : Entry). number_of y.tid) same ∙ old.2)
+                    let same : u ≡ old.0 = cc (at_p, old.1, e.1) in (
+                      v,
+                      subst (λ i. slice_get (slice_set units p v) i ≡ Some v) e.1 (set-here units p u v at_p),
+                      ap (λ (y : Entry). number_of y.tid) same
+                          ∙ old.2,
+                    )
                 | inr e ↦ (old.0, set-there units p r v e.1 ∙ old.1, old.2)
               ];
           placed = λ r x a l.
@@ -261,19 +279,22 @@ module _ {units : List Entry} {lanes : List Lane} {counts : List ℕ} {nodes : L
         named = named-kept lanes after names (lanes-keys lanes after keeps) it.named;
         gone = λ r x a l.
             elim (eqb_tells p r) [
-              | inl e ↦ absurd (let same : v ≡ x = cc (set-here units p u v at_p, a, e.1) in let live : x.live ≡ true = ap (λ (y : Entry). y.live) (sym same) in both_ways x.live l live)
+              | inl e ↦ absurd (let same : v ≡ x = cc (set-here units p u v at_p, a, e.1) in let live : x.live
+                  ≡ true = ap (λ (y : Entry). y.live) (sym same) in both_ways x.live l live)
               | inr e ↦ it.gone r x (sym (set-there units p r v e.1) ∙ a) l
             ];
         claims = λ r x a f.
             elim (eqb_tells p r) [
-              | inl e ↦ absurd (let same : v ≡ x = cc (set-here units p u v at_p, a, e.1) in let none : is_none x.claim ≡ true = ap (λ (y : Entry). is_none y.claim) (sym same) ∙ free in both_ways (is_none x.claim) f none)
+              | inl e ↦ absurd (let same : v ≡ x = cc (set-here units p u v at_p, a, e.1) in let none : is_none x.claim
+                  ≡ true = ap (λ (y : Entry). is_none y.claim) (sym same) ∙ free in both_ways (is_none x.claim) f none)
               | inr e ↦
                   let old = it.claims r x (sym (set-there units p r v e.1) ∙ a) f in
                   (old.0, record { first = λ y q at_y h. stands q r (old.1.first y q (sym (set-there units p r v e.1) ∙ at_y) h) })
             ];
       }
     where
-      by_has : (q r : ℕ) → slice_get (standing q 0 units) 0 ≡ Some r → (b : Bool) → has q qs ≡ b → slice_get (standing q 0 (slice_set units p (record u { queues = qs; live = true }))) 0 ≡ Some r
+      by_has : (q r : ℕ) → slice_get (standing q 0 units) 0 ≡ Some r → (b : Bool) → has q qs ≡ b →
+          slice_get (standing q 0 (slice_set units p (record u { queues = qs; live = true }))) 0 ≡ Some r
       by_has q r first true h =
           ap (λ l. slice_get l 0) (standing-joined q 0 units p u (record u { queues = qs; live = true }) at_p last (ap (λ l. has q l) empty) h)
           ∙ first-front (standing q 0 units) (0 + p) r first
@@ -281,11 +302,14 @@ module _ {units : List Entry} {lanes : List Lane} {counts : List ℕ} {nodes : L
           ap (λ l. slice_get l 0) (standing-same q 0 units p u (record u { queues = qs; live = true }) at_p (h ∙ sym (ap (λ l. has q l) empty))) ∙ first
 
 -- what is seen of the new unit
-pub seen-enter : (tid : TidOf) (units : List Entry) (lanes after : List Lane) (keys : List QueueKey) (qs : List ℕ) → KeepsLanes lanes after → AreNumbersOf keys lanes qs
-    → seen (slice_set (units ++ new_entry tid ∷ []) (length units) (record (new_entry tid) { queues = qs; live = true })) after ≡ added tid keys (seen units lanes)
+pub seen-enter : (tid : TidOf) (units : List Entry) (lanes after : List Lane) (keys : List QueueKey) (qs : List ℕ) → KeepsLanes lanes after →
+    AreNumbersOf keys lanes qs
+    → seen (slice_set (units ++ new_entry tid ∷ []) (length units) (record (new_entry tid) { queues = qs; live = true })) after
+    ≡ added tid keys (seen units lanes)
 seen-enter tid units lanes after keys qs keeps numbers =
     let v : Entry = record (new_entry tid) { queues = qs; live = true } in
-    let us : map (seen_unit after) (filter is_live (slice_set (units ++ new_entry tid ∷ []) (length units) v)) ≡ map (seen_unit lanes) (filter is_live units) ++ new_unit tid keys ∷ [] =
+    let us : map (seen_unit after) (filter is_live (slice_set (units ++ new_entry tid ∷ []) (length units) v)) ≡ map (seen_unit lanes) (filter is_live units)
+    ++ new_unit tid keys ∷ [] =
     units-kept lanes after (lanes-keys lanes after keeps) (filter is_live (slice_set (units ++ new_entry tid ∷ []) (length units) v))
     ∙ ap (λ (l : List Entry). map (seen_unit lanes) (filter is_live l)) (set-last units (new_entry tid) v)
     ∙ ap (λ (l : List Entry). map (seen_unit lanes) l) (live-end units v refl)
@@ -299,8 +323,10 @@ seen-enter tid units lanes after keys qs keeps numbers =
 -- numbers that compare as equal are equal
 numbers-equal : (a b : ℕ × ℕ) → is_eq (numbers_cmp a b) ≡ true → a ≡ b
 numbers-equal (a, m) (b, n) same =
-    let ties : pointwise nat_eq (a ∷ m ∷ []) (b ∷ n ∷ []) ≡ eq_by_cmp (slice_cmp nat_cmp) (a ∷ m ∷ []) (b ∷ n ∷ []) = lists_ties nat_cmp (λ x y. ties-one x y) (a ∷ m ∷ []) (b ∷ n ∷ []) in
-    let ends : eq_by_cmp (slice_cmp nat_cmp) (a ∷ m ∷ []) (b ∷ n ∷ []) ≡ is_eq (numbers_cmp (a, m) (b, n)) = ap (λ o. is_eq (ordering_then (nat_cmp a b) o)) (then-equal (nat_cmp m n)) in
+    let ties : pointwise nat_eq (a ∷ m ∷ []) (b ∷ n ∷ []) ≡ eq_by_cmp (slice_cmp nat_cmp) (a ∷ m ∷ []) (b ∷ n ∷ []) = lists_ties nat_cmp (λ x y. ties-one x y)
+    (a ∷ m ∷ []) (b ∷ n ∷ []) in
+    let ends : eq_by_cmp (slice_cmp nat_cmp) (a ∷ m ∷ []) (b ∷ n ∷ []) ≡ is_eq (numbers_cmp (a, m) (b, n)) = ap (λ o. is_eq (ordering_then (nat_cmp a b) o))
+    (then-equal (nat_cmp m n)) in
     let e : (a ∷ m ∷ []) ≡ (b ∷ n ∷ []) = (bytes_decides (a ∷ m ∷ []) (b ∷ n ∷ [])).0 (ties ∙ ends ∙ same) in
     let first : a ≡ b = cc in
     let second : m ≡ n = cc in
@@ -316,14 +342,19 @@ numbers-equal (a, m) (b, n) same =
 
 -- a unit behind all others is named, and all others are as before
 pub placed-behind : (tid : TidOf) (units : List Entry) (places after : ℕ × ℕ → Option ℕ) → IsPlaced units places → IsNew tid units
-    → ((number : ℕ × ℕ) → after number ≡ cond (is_eq (numbers_cmp (number_of tid) number)) (Some (length units)) (places number)) → IsPlaced (units ++ new_entry tid ∷ []) after
+    → ((number : ℕ × ℕ) → after number ≡ cond (is_eq (numbers_cmp (number_of tid) number)) (Some (length units)) (places number)) →
+    IsPlaced (units ++ new_entry tid ∷ []) after
 placed-behind tid units places after it new others = record {
   there = λ number p h.
       elim (cases_Bool (is_eq (numbers_cmp (number_of tid) number))) [
         | inl same ↦
             let at : Some (length units) ≡ Some p = sym (ap (λ b. cond b (Some (length units)) (places number)) same) ∙ sym (others number) ∙ h in
-            let place : length units ≡ p = cc in
-            (new_entry tid, subst (λ i. slice_get (units ++ new_entry tid ∷ []) i ≡ Some (new_entry tid)) place (get-end units (new_entry tid)), numbers-equal (number_of tid) number same)
+            let place : length units ≡ p = cc in (
+              new_entry tid,
+              subst (λ i. slice_get (units ++ new_entry tid ∷ []) i ≡ Some (new_entry tid)) place (get-end units (new_entry tid)),
+              numbers-equal
+                  (number_of tid) number same,
+            )
         | inr differs ↦
             let old : places number ≡ Some p = sym (ap (λ b. cond b (Some (length units)) (places number)) differs) ∙ sym (others number) ∙ h in
             let there = it.there number p old in
@@ -335,39 +366,49 @@ placed-behind tid units places after it new others = record {
           | inl same ↦ absurd (new p u front live (sym (numbers-equal (number_of tid) (number_of u.tid) same)))
           | inr differs ↦ others (number_of u.tid) ∙ ap (λ b. cond b (Some (length units)) (places (number_of u.tid))) differs ∙ it.placed p u front live
         ]
-    | inr (j, e, back) ↦ absurd (let dead : u.live ≡ false = ap (λ (x : Entry). x.live) (sym (get-end_only (new_entry tid) u j back)) in both_ways u.live dead live)
+    | inr (j, e, back) ↦ absurd (let dead : u.live ≡ false = ap (λ (x : Entry). x.live) (sym (get-end_only (new_entry tid) u j back)) in both_ways u.live dead
+        live)
   ];
 }
 
 -- an id that no unit is found by is that of none
-pub new-id : (tid : TidOf) (units : List Entry) (lanes : List Lane) (places : ℕ × ℕ → Option ℕ) → IsPlaced units places → unit_of tid (seen units lanes) ≡ None → IsNew tid units
+pub new-id : (tid : TidOf) (units : List Entry) (lanes : List Lane) (places : ℕ × ℕ → Option ℕ) → IsPlaced units places →
+    unit_of tid (seen units lanes) ≡ None → IsNew tid units
 new-id tid units lanes places it none p u at_p live same =
     let here = unit_of-here tid units lanes places p u it (ap places (sym same) ∙ it.placed p u at_p live) at_p live in
     cc (here, none)
 
 -- ---- an addition, step by step
 
-pub at-behind : (tid : TidOf) (units after : List Entry) (heads counts : List ℕ) → IsBehind tid units after heads counts → slice_get after (length units) ≡ Some (new_entry tid)
+pub at-behind : (tid : TidOf) (units after : List Entry) (heads counts : List ℕ) → IsBehind tid units after heads counts →
+    slice_get after (length units) ≡ Some (new_entry tid)
 at-behind tid units after heads counts it = ap (λ (l : List Entry). slice_get l (length units)) it.units_are ∙ get-end units (new_entry tid)
 
 pub length-behind : (tid : TidOf) (units after : List Entry) (heads counts : List ℕ) → IsBehind tid units after heads counts → length after ≡ length units + 1
 length-behind tid units after heads counts it = ap (λ (l : List Entry). length l) it.units_are ∙ length-append units (new_entry tid ∷ [])
 
 -- what the lists keep once there is a place
-pub room-keeps : {units : List Entry} {lanes : List Lane} {counts : List ℕ} {nodes : List Bool} {height : ℕ} {places : ℕ × ℕ → Option ℕ} {names : ℕ × List ℕ → Option ℕ}
-    → IsQueues units lanes counts nodes height places names → (tid : TidOf) (units1 : List Entry) (counts1 : List ℕ) (nodes1 : List Bool) (height1 : ℕ) (places1 : ℕ × ℕ → Option ℕ)
-    → IsBehind tid units units1 counts counts1 → IsBoardBut None height1 units1 counts1 nodes1 → 2 * 2 ^ height1 < 2 ^ 64 → IsPlaced units1 places1 → IsQueues units1 lanes counts1 nodes1 height1 places1 names
+pub room-keeps : {units : List Entry} {lanes : List Lane} {counts : List ℕ} {nodes : List Bool} {height : ℕ} {places : ℕ × ℕ → Option ℕ}
+    {names : ℕ × List ℕ → Option ℕ}
+    → IsQueues units lanes counts nodes height places names → (tid : TidOf) (units1 : List Entry) (counts1 : List ℕ) (nodes1 : List Bool) (height1 : ℕ)
+    (places1 : ℕ × ℕ → Option ℕ)
+    → IsBehind tid units units1 counts counts1 → IsBoardBut None height1 units1 counts1 nodes1 → 2 * 2 ^ height1 < 2 ^ 64 → IsPlaced units1 places1 →
+    IsQueues units1 lanes counts1 nodes1 height1 places1 names
 room-keeps {units} {lanes} {counts} {names = names} it tid units1 counts1 nodes1 height1 places1 behind board fits placed =
     subst (λ (l : List Entry). IsQueues l lanes counts1 nodes1 height1 places1 names) (sym behind.units_are)
     (subst (λ (l : List ℕ). IsQueues (units ++ new_entry tid ∷ []) lanes l nodes1 height1 places1 names) (sym behind.heads_are)
     (behind-keeps it tid nodes1 height1 places1
-    (subst (λ (l : List ℕ). IsBoardBut None height1 (units ++ new_entry tid ∷ []) l nodes1) behind.heads_are (subst (λ (l : List Entry). IsBoardBut None height1 l counts1 nodes1) behind.units_are board))
+    (subst (λ (l : List ℕ). IsBoardBut None height1 (units ++ new_entry tid ∷ []) l nodes1) behind.heads_are
+    (subst (λ (l : List Entry). IsBoardBut None height1 l counts1 nodes1) behind.units_are board))
     fits (subst (λ (l : List Entry). IsPlaced l places1) behind.units_are placed)))
 
 -- what they keep at the end
-pub end-keeps : {units : List Entry} {lanes : List Lane} {counts : List ℕ} {nodes : List Bool} {height : ℕ} {places : ℕ × ℕ → Option ℕ} {names : ℕ × List ℕ → Option ℕ}
-    → IsQueues units lanes counts nodes height places names → (tid : TidOf) (p : ℕ) (qs : List ℕ) (units2 : List Entry) (after : List Lane) (counts2 : List ℕ) (nodes2 : List Bool)
-    → slice_get units p ≡ Some (new_entry tid) → length units ≡ p + 1 → places (number_of tid) ≡ Some p → KeepsLanes lanes after → IsEntered p qs units units2 → IsCounted None units2 after counts2
+pub end-keeps : {units : List Entry} {lanes : List Lane} {counts : List ℕ} {nodes : List Bool} {height : ℕ} {places : ℕ × ℕ → Option ℕ}
+    {names : ℕ × List ℕ → Option ℕ}
+    → IsQueues units lanes counts nodes height places names → (tid : TidOf) (p : ℕ) (qs : List ℕ) (units2 : List Entry) (after : List Lane) (counts2 : List ℕ)
+    (nodes2 : List Bool)
+    → slice_get units p ≡ Some (new_entry tid) → length units ≡ p + 1 → places (number_of tid) ≡ Some p → KeepsLanes lanes after → IsEntered p qs units units2 →
+    IsCounted None units2 after counts2
     → IsBoardBut None height units2 counts2 nodes2 → IsQueues units2 after counts2 nodes2 height places names
 end-keeps {height = height} {places = places} {names = names} it tid p qs units2 after counts2 nodes2 at_p last placed keeps enters counted board =
     let e = enters.entered (new_entry tid) at_p in
@@ -376,16 +417,21 @@ end-keeps {height = height} {places = places} {names = names} it tid p qs units2
     (subst (λ (l : List Entry). IsCounted None l after counts2) e counted) (subst (λ (l : List Entry). IsBoardBut None height l counts2 nodes2) e board))
 
 -- what they keep where the unit could not be in its queues
-pub end-fails : {units : List Entry} {lanes : List Lane} {counts : List ℕ} {nodes : List Bool} {height : ℕ} {places : ℕ × ℕ → Option ℕ} {names : ℕ × List ℕ → Option ℕ}
-    → IsQueues units lanes counts nodes height places names → (units2 : List Entry) (after : List Lane) (counts2 : List ℕ) (nodes2 : List Bool) → KeepsLanes lanes after → units2 ≡ units
+pub end-fails : {units : List Entry} {lanes : List Lane} {counts : List ℕ} {nodes : List Bool} {height : ℕ} {places : ℕ × ℕ → Option ℕ}
+    {names : ℕ × List ℕ → Option ℕ}
+    → IsQueues units lanes counts nodes height places names → (units2 : List Entry) (after : List Lane) (counts2 : List ℕ) (nodes2 : List Bool) →
+    KeepsLanes lanes after → units2 ≡ units
     → IsCounted None units2 after counts2 → IsBoardBut None height units2 counts2 nodes2 → IsQueues units2 after counts2 nodes2 height places names
 end-fails {height = height} {places = places} {names = names} it units2 after counts2 nodes2 keeps e counted board =
     subst (λ (l : List Entry). IsQueues l after counts2 nodes2 height places names) (sym e)
-    (lanes-keep it after counts2 nodes2 keeps (subst (λ (l : List Entry). IsCounted None l after counts2) e counted) (subst (λ (l : List Entry). IsBoardBut None height l counts2 nodes2) e board))
+    (lanes-keep it after counts2 nodes2 keeps (subst (λ (l : List Entry). IsCounted None l after counts2) e counted)
+    (subst (λ (l : List Entry). IsBoardBut None height l counts2 nodes2) e board))
 
 -- what is seen at the end
-pub seen-end : (tid : TidOf) (units units1 units2 : List Entry) (heads counts : List ℕ) (lanes after : List Lane) (keys : List QueueKey) (qs : List ℕ) (p : ℕ) → p ≡ length units
-    → IsBehind tid units units1 heads counts → KeepsLanes lanes after → AreNumbersOf keys lanes qs → IsEntered p qs units1 units2 → seen units2 after ≡ added tid keys (seen units lanes)
+pub seen-end : (tid : TidOf) (units units1 units2 : List Entry) (heads counts : List ℕ) (lanes after : List Lane) (keys : List QueueKey) (qs : List ℕ) (p : ℕ) →
+    p ≡ length units
+    → IsBehind tid units units1 heads counts → KeepsLanes lanes after → AreNumbersOf keys lanes qs → IsEntered p qs units1 units2 →
+    seen units2 after ≡ added tid keys (seen units lanes)
 seen-end tid units units1 units2 heads counts lanes after keys qs p place behind keeps numbers enters =
     let v : Entry = record (new_entry tid) { queues = qs; live = true } in
     let at_p : slice_get units1 p ≡ Some (new_entry tid) = ap (λ i. slice_get units1 i) place ∙ at-behind tid units units1 heads counts behind in
@@ -394,7 +440,8 @@ seen-end tid units units1 units2 heads counts lanes after keys qs p place behind
     ∙ ap (λ i. seen (slice_set (units ++ new_entry tid ∷ []) i v) after) place
     ∙ seen-enter tid units lanes after keys qs keeps numbers
 
-pub seen-fails : (tid : TidOf) (units units1 units2 : List Entry) (heads counts : List ℕ) (lanes after : List Lane) → IsBehind tid units units1 heads counts → KeepsLanes lanes after → units2 ≡ units1
+pub seen-fails : (tid : TidOf) (units units1 units2 : List Entry) (heads counts : List ℕ) (lanes after : List Lane) → IsBehind tid units units1 heads counts →
+    KeepsLanes lanes after → units2 ≡ units1
     → seen units2 after ≡ seen units lanes
 seen-fails tid units units1 units2 heads counts lanes after behind keeps e =
     let us = units-kept lanes after (lanes-keys lanes after keeps) (filter is_live units2) in

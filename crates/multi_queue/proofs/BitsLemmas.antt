@@ -1,4 +1,5 @@
-use Rattle.std.proofs.Common.{◌≡◌, ◌<◌, ◌≤◌, ◌+◌, ◌-◌, ◌*◌, ◌/◌, ◌^◌, ℕ, zero, suc, Bool, true, false, ◌||◌, List, length, refl, sym, ap, ◌∙◌, arith, inl, inr, ◌⊎◌, add-one}
+use Rattle.std.proofs.Common.{◌≡◌, ◌<◌, ◌≤◌, ◌+◌, ◌-◌, ◌*◌, ◌/◌, ◌^◌, ℕ, zero, suc, Bool, true, false, ◌||◌, List, length, refl, sym, ap, ◌∙◌, arith, inl, inr}
+use Rattle.std.proofs.Common.{◌⊎◌, add-one}
 use Rattle.std.proofs.lemmas.Bool.Decides.{eqb_tells}
 use Rattle.std.proofs.lemmas.Option.{slice_get_past}
 use Rattle.std.proofs.Math.Nat.{pow-suc, div-div-eq-div-mul}
@@ -11,7 +12,8 @@ up height nodes i tree least most h =
     let join : bit nodes (i / 2) ≡ (bit nodes (2 * (i / 2)) || bit nodes (2 * (i / 2) + 1)) = tree.joins (i / 2) (omega arith) (omega arith) (omega arith) in
     elim (eqb_tells i (2 * (i / 2))) [
       | inl e ↦ let t : bit nodes (2 * (i / 2)) ≡ true = ap (λ j. bit nodes j) (sym e.1) ∙ h in join ∙ rw t refl
-      | inr e ↦ let odd : i ≡ 2 * (i / 2) + 1 = omega (arith, e.1) in let t : bit nodes (2 * (i / 2) + 1) ≡ true = ap (λ j. bit nodes j) (sym odd) ∙ h in join ∙ rw t (grind (arith, common_steps))
+      | inr e ↦ let odd : i ≡ 2 * (i / 2) + 1 = omega (arith, e.1) in let t : bit nodes (2 * (i / 2) + 1) ≡ true = ap (λ j. bit nodes j) (sym odd) ∙ h in join
+          ∙ rw t (grind (arith, common_steps))
     ]
 
 pub le_or_more : (a b : ℕ) → (a ≤ b) ⊎ (b < a)
@@ -47,7 +49,8 @@ pub pow-pos : (n : ℕ) → 1 ≤ 2 ^ n
 pow-pos zero = omega arith
 pow-pos (suc n) = omega (arith, pow-suc 2 n, pow-pos n)
 
-pub go-down : (height n at : ℕ) (nodes : List Bool) → IsTreeBut 0 height nodes → n < height → IsOnWay height n at nodes → bit nodes (2 * at) ≡ true → IsOnWay height (n + 1) (2 * at) nodes
+pub go-down : (height n at : ℕ) (nodes : List Bool) → IsTreeBut 0 height nodes → n < height → IsOnWay height n at nodes → bit nodes (2 * at) ≡ true →
+    IsOnWay height (n + 1) (2 * at) nodes
 go-down height n at nodes tree more lane h =
     let p : 2 ^ (n + 1) ≡ 2 ^ n * 2 = ap (λ k. 2 ^ k) (add-one n) ∙ pow-suc 2 n in
     record {
@@ -57,7 +60,8 @@ go-down height n at nodes tree more lane h =
       below = λ i leaf t. half-below i height n at more (lane.below i leaf t);
     }
 
-pub go-right : (height n at : ℕ) (nodes : List Bool) → IsTreeBut 0 height nodes → n < height → 2 ^ (n + 1) ≤ 2 ^ height → IsOnWay height n at nodes → bit nodes (2 * at) ≡ false → IsOnWay height (n + 1) (2 * at + 1) nodes
+pub go-right : (height n at : ℕ) (nodes : List Bool) → IsTreeBut 0 height nodes → n < height → 2 ^ (n + 1) ≤ 2 ^ height → IsOnWay height n at nodes →
+    bit nodes (2 * at) ≡ false → IsOnWay height (n + 1) (2 * at + 1) nodes
 go-right height n at nodes tree more small lane h =
     let p : 2 ^ (n + 1) ≡ 2 ^ n * 2 = ap (λ k. 2 ^ k) (add-one n) ∙ pow-suc 2 n in
     record {

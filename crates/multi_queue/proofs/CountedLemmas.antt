@@ -1,4 +1,5 @@
-use Rattle.std.proofs.Common.{◌≡◌, ◌≢◌, ◌<◌, ◌+◌, ◌-◌, ℕ, Bool, true, false, is_some, find, filter, not, ◌&&◌, ◌||◌, eqb, cond, Option, Some, None, List, [], ◌∷◌, ◌++◌, length, take, drop, get_or, slice_get, slice_set, refl, suc, sym, zero, ap, ◌∙◌, arith, ◌≤◌, subst, zero-add}
+use Rattle.std.proofs.Common.{◌≡◌, ◌≢◌, ◌<◌, ◌+◌, ◌-◌, ℕ, Bool, true, false, is_some, find, filter, not, ◌&&◌, ◌||◌, eqb, cond, Option, Some, None, List, []}
+use Rattle.std.proofs.Common.{◌∷◌, ◌++◌, length, take, drop, get_or, slice_get, slice_set, refl, suc, sym, zero, ap, ◌∙◌, arith, ◌≤◌, subst, zero-add}
 use Rattle.std.specs.Option.{is_none}
 use Rattle.std.proofs.lemmas.Option.{slice_get_within}
 use native.Mathlib.Numerals.{unary_clauses}
@@ -10,7 +11,9 @@ use Rattle.std.proofs.lemmas.Bool.Decides.{eqb_tells}
 use Rattle.std.proofs.lemmas.Grind.{common_steps}
 use Rattle.multi_queue.specs.declared.entry.Entry.{Entry}
 use Rattle.multi_queue.specs.declared.entry.Lane.{Lane}
-use Rattle.multi_queue.specs.Counted.{has, differ, standing, is_first, tells, is_but, count_but, IsCounted, cut, HeadsAll, cost, cost_at, cost_of, looks, Leaves, IsCut, Leaving, left_at, left_of, is_closed, first_closed, first_closed_of, is_live, is_in, is_ready, IsBoardBut, IsClaimedAt, KeepsLanes, Parting, IsLastDead, Joined, IsIn}
+use Rattle.multi_queue.specs.Counted.{has, differ, standing, is_first, tells, is_but, count_but, IsCounted, cut, HeadsAll, cost, cost_at, cost_of, looks}
+use Rattle.multi_queue.specs.Counted.{Leaves, IsCut, Leaving, left_at, left_of, is_closed, first_closed, first_closed_of, is_live, is_in, is_ready, IsBoardBut}
+use Rattle.multi_queue.specs.Counted.{IsClaimedAt, KeepsLanes, Parting, IsLastDead, Joined, IsIn}
 
 -- what is not in the list is counted alike
 pub count-absent : (b : ℕ) (lanes : List Lane) (p : ℕ) (qs : List ℕ) → has b qs ≡ false → count_but None lanes p qs ≡ count_but (Some b) lanes p qs
@@ -67,7 +70,8 @@ first-stands q n (u ∷ us) p h =
     elim (has q u.queues) as (λ b. has q u.queues ≡ b → slice_get (cond b (n ∷ standing q (n + 1) us) (standing q (n + 1) us)) 0 ≡ Some p
     → (v : Entry) × ((n ≤ p) × (slice_get (u ∷ us) (p - n) ≡ Some v) × (has q v.queues ≡ true))) [
       | true ↦ λ e g. let same : n ≡ p = cc in (u, (omega arith, get_here u us p n (omega arith), e))
-      | false ↦ λ e g. let below = first-stands q (n + 1) us p g in (below.0, (omega (arith, below.1.0), get_later u us p n below.0 below.1.0 below.1.1, below.1.2))
+      | false ↦ λ e g. let below = first-stands q
+          (n + 1) us p g in (below.0, (omega (arith, below.1.0), get_later u us p n below.0 below.1.0 below.1.1, below.1.2))
     ] refl h
 
 -- where a queue counts for nobody, it counts alike
@@ -206,7 +210,8 @@ standing-gone q n (x ∷ xs) zero u v got gone first = rw gone (
     ] first)
 standing-gone q n (x ∷ xs) (suc p) u v got gone first =
     elim (has q x.queues) as (λ b. slice_get (cond b (n ∷ standing q (n + 1) xs) (standing q (n + 1) xs)) 0 ≡ Some (n + suc p)
-    → cond b (n ∷ standing q (n + 1) (slice_set xs p v)) (standing q (n + 1) (slice_set xs p v)) ≡ drop 1 (cond b (n ∷ standing q (n + 1) xs) (standing q (n + 1) xs))) [
+    → cond b (n ∷ standing q (n + 1) (slice_set xs p v)) (standing q (n + 1) (slice_set xs p v))
+    ≡ drop 1 (cond b (n ∷ standing q (n + 1) xs) (standing q (n + 1) xs))) [
       | true ↦ λ h. absurd (let e : n ≡ n + suc p = cc in omega arith)
       | false ↦ λ h. let e : n + suc p ≡ n + 1 + p = omega arith in standing-gone q (n + 1) xs p u v got gone (h ∙ ap (λ i. Some i) e)
     ] first
@@ -297,12 +302,14 @@ cutting q p units lanes heads u old w got at_p ends first line it =
     let both = differ-snoc q (take (length u.queues - 1) u.queues) (ap (λ l. differ l) (sym ends) ∙ it.differ p u at_p) in
     record {
       unit = at_p;
-      others = λ r ne. let e : eqb r q ≡ false = grind arith in sym (ap (λ l. has r l) ends ∙ has-snoc r q (take (length u.queues - 1) u.queues) ∙ rw e (grind arith));
+      others = λ r ne. let e : eqb r q ≡ false = grind arith in sym (ap (λ l. has r l) ends ∙ has-snoc r q (take (length u.queues - 1) u.queues)
+          ∙ rw e (grind arith));
       count = sym (ap (λ l. count_but (Some q) lanes p l) ends ∙ count-snoc q p lanes (take (length u.queues - 1) u.queues));
       differ = both.0;
       few = let f = it.few p u at_p in omega (arith, length-take-le (length u.queues - 1) u.queues);
       known = λ r h. it.known p u r at_p (ap (λ l. has r l) ends ∙ has-snoc r q (take (length u.queues - 1) u.queues) ∙ rw h refl);
-      line = line ∙ ap (λ l. drop 1 l) (it.lines q old got) ∙ sym (standing-gone q 0 units p u (cut u) at_p both.1 (first ∙ ap (λ i. Some i) (sym (zero-add p))));
+      line = line ∙ ap (λ l. drop 1 l) (it.lines q old got)
+          ∙ sym (standing-gone q 0 units p u (cut u) at_p both.1 (first ∙ ap (λ i. Some i) (sym (zero-add p))));
     }
 
 pub has-last : (q : ℕ) (xs : List ℕ) → has q (xs ++ q ∷ []) ≡ true
@@ -330,11 +337,13 @@ cut-heads q p units u cuts all = record {
       ∙ all.first u r cuts.unit (ap (λ l. has r l) cuts.ends ∙ has-snoc r q (take (length u.queues - 1) u.queues) ∙ rw k refl);
 }
 
-pub cost-snoc : (units : List Entry) (q : ℕ) (xs : List ℕ) → cost units (xs ++ q ∷ []) ≡ cost units xs + (1 + cond (is_some (slice_get (standing q 0 units) 1)) 1 0)
+pub cost-snoc : (units : List Entry) (q : ℕ) (xs : List ℕ) →
+    cost units (xs ++ q ∷ []) ≡ cost units xs + (1 + cond (is_some (slice_get (standing q 0 units) 1)) 1 0)
 cost-snoc units q [] = omega arith
 cost-snoc units q (x ∷ xs) = omega (arith, cost-snoc units q xs)
 
-pub cost-same : (units units2 : List Entry) (xs : List ℕ) → ((r : ℕ) → has r xs ≡ true → standing r 0 units2 ≡ standing r 0 units) → cost units2 xs ≡ cost units xs
+pub cost-same : (units units2 : List Entry) (xs : List ℕ) → ((r : ℕ) → has r xs ≡ true → standing r 0 units2 ≡ standing r 0 units) →
+    cost units2 xs ≡ cost units xs
 cost-same units units2 [] h = refl
 cost-same units units2 (x ∷ xs) h =
     let here = h x (rw (eq-eqb x x refl) refl) in
@@ -394,7 +403,8 @@ leaves-more p a b c some more = record {
 pub leaves-fewer : (q p : ℕ) (b c : List Entry) → Leaving q p b → IsCut p b c → left_at p c < left_at p b
 leaves-fewer q p b c it more =
     let two = more.cuts it.unit it.stands in
-    let after : left_at p c ≡ length (cut it.unit).queues = ap (λ l. left_of (slice_get l p)) two ∙ ap (λ o. left_of o) (set-here b p it.unit (cut it.unit) it.stands) in
+    let after : left_at p c ≡ length (cut it.unit).queues = ap (λ l. left_of (slice_get l p)) two
+    ∙ ap (λ o. left_of o) (set-here b p it.unit (cut it.unit) it.stands) in
     let before : left_at p b ≡ length it.unit.queues = ap (λ o. left_of o) it.stands in
     let some = ap (λ l. length l) it.ends ∙ length-append (take (length it.unit.queues - 1) it.unit.queues) (q ∷ []) in
     omega (arith, after, before, some)
@@ -407,10 +417,12 @@ pub snoc-differ : (q : ℕ) (xs : List ℕ) → has q xs ≡ false → differ xs
 snoc-differ q [] h d = refl
 snoc-differ q (x ∷ xs) h d = grind (arith, common_steps, snoc-differ q xs, has-snoc x q xs)
 
-pub standing-joined : (q n : ℕ) (units : List Entry) (p : ℕ) (u v : Entry) → slice_get units p ≡ Some u → length units ≡ p + 1 → has q u.queues ≡ false → has q v.queues ≡ true
+pub standing-joined : (q n : ℕ) (units : List Entry) (p : ℕ) (u v : Entry) → slice_get units p ≡ Some u → length units ≡ p + 1 → has q u.queues ≡ false →
+    has q v.queues ≡ true
     → standing q n (slice_set units p v) ≡ standing q n units ++ (n + p) ∷ []
 standing-joined q n [] p u v got last old new = absurd (cc)
-standing-joined q n (x ∷ []) zero u v got last old new = let e : x ≡ u = cc in let z : n + 0 ≡ n = omega arith in rw e (rw old (rw new (ap (λ i. i ∷ []) (sym z))))
+standing-joined q n (x ∷ []) zero u v got last old new = let e : x ≡ u = cc in let z : n + 0
+    ≡ n = omega arith in rw e (rw old (rw new (ap (λ i. i ∷ []) (sym z))))
 standing-joined q n (x ∷ y ∷ ys) zero u v got last old new = absurd (omega arith)
 standing-joined q n (x ∷ xs) (suc p) u v got last old new =
     let rest = standing-joined q (n + 1) xs p u v got (omega arith) old new in
@@ -430,18 +442,27 @@ joining q p units lanes heads u old w got known at_p last apart few line it = re
     | inl e ↦ omega (arith, e.1)
     | inr e ↦ it.known p u r at_p (sym (has-snoc r q u.queues ∙ rw e.0 (grind arith)) ∙ h)
   ];
-  line = line ∙ ap (λ l. l ++ p ∷ []) (it.lines q old got) ∙ ap (λ i. standing q 0 units ++ i ∷ []) (sym (zero-add p)) ∙ sym (standing-joined q 0 units p u (record u { queues = u.queues ++ q ∷ [] }) at_p last apart (has-last q u.queues));
+  line = line ∙ ap (λ l. l ++ p ∷ []) (it.lines q old got) ∙ ap (λ i. standing q 0 units ++ i ∷ []) (sym (zero-add p))
+      ∙ sym (standing-joined q 0 units p u (record u { queues = u.queues ++ q ∷ [] }) at_p last apart (has-last q u.queues));
 }
 
-pub open-all : (lanes : List Lane) (units : List Entry) (p : ℕ) (qs : List ℕ) → ((q : ℕ) → has q qs ≡ true → tells p (slice_get lanes q) ≡ not (is_closed lanes units p q))
-    → (find (is_closed lanes units p) qs ≡ None → count_but None lanes p qs ≡ length qs) × (count_but None lanes p qs ≡ length qs → find (is_closed lanes units p) qs ≡ None)
+pub open-all : (lanes : List Lane) (units : List Entry) (p : ℕ) (qs : List ℕ) →
+    ((q : ℕ) → has q qs ≡ true → tells p (slice_get lanes q) ≡ not (is_closed lanes units p q))
+    → (find (is_closed lanes units p) qs ≡ None → count_but None lanes p qs ≡ length qs) × (count_but None lanes p qs ≡ length qs →
+    find (is_closed lanes units p) qs ≡ None)
 open-all lanes units p [] h = (λ _. refl, λ _. refl)
 open-all lanes units p (q ∷ qs) h =
     let here = h q (rw (eq-eqb q q refl) refl) in
     let rest = open-all lanes units p qs (λ r k. h r (rw k (grind arith))) in
     let most = count-le None lanes p qs in
-    elim (is_closed lanes units p q) as (λ b. tells p (slice_get lanes q) ≡ not b → (cond b (Some q) (find (is_closed lanes units p) qs) ≡ None → count_but None lanes p (q ∷ qs) ≡ length (q ∷ qs)) × (count_but None lanes p (q ∷ qs) ≡ length (q ∷ qs) → cond b (Some q) (find (is_closed lanes units p) qs) ≡ None)) [
-      | true ↦ λ e. (λ n. absurd (cc), λ m. absurd (let z : count_but None lanes p (q ∷ qs) ≡ 0 + count_but None lanes p qs = rw e refl in omega (arith, z, m, most)))
+    elim (is_closed lanes units p q) as (λ b. tells p (slice_get lanes q) ≡ not b →
+    (cond b (Some q) (find (is_closed lanes units p) qs) ≡ None → count_but None lanes p (q ∷ qs) ≡ length (q ∷ qs)) × (count_but None lanes p (q ∷ qs)
+    ≡ length (q ∷ qs) → cond b (Some q) (find (is_closed lanes units p) qs) ≡ None)) [
+      | true ↦ λ e. (
+        λ n. absurd (cc),
+        λ m. absurd
+            (let z : count_but None lanes p (q ∷ qs) ≡ 0 + count_but None lanes p qs = rw e refl in omega (arith, z, m, most)),
+      )
       | false ↦ λ e. let z : count_but None lanes p (q ∷ qs) ≡ 1 + count_but None lanes p qs = rw e refl in
           (λ n. omega (arith, z, rest.0 n), λ m. rest.1 (omega (arith, z, m)))
     ] here
@@ -459,7 +480,8 @@ slice_get_some [] i h = absurd (omega arith)
 slice_get_some (x ∷ xs) zero h = (x, refl)
 slice_get_some (x ∷ xs) (suc i) h = slice_get_some xs i (omega arith)
 
-pub closed-tells : (p q : ℕ) (units : List Entry) (lanes : List Lane) (heads : List ℕ) (u : Entry) → slice_get units p ≡ Some u → IsCounted None units lanes heads
+pub closed-tells : (p q : ℕ) (units : List Entry) (lanes : List Lane) (heads : List ℕ) (u : Entry) → slice_get units p ≡ Some u →
+    IsCounted None units lanes heads
     → has q u.queues ≡ true → tells p (slice_get lanes q) ≡ not (is_closed lanes units p q)
 closed-tells p q units lanes heads u got it h =
     let lt = it.known p u q got h in
@@ -507,7 +529,8 @@ first-seen q n (x ∷ xs) p live h =
 pub apart-of : (p r : ℕ) → not (eqb p r) ≡ true → p ≢ r
 apart-of p r h e = absurd (let t = eq-eqb p r e in cc (h, ap (λ b. not b) t))
 
-pub board-heads : (height p k : ℕ) (units : List Entry) (heads : List ℕ) (nodes : List Bool) → IsBoardBut None height units heads nodes → IsBoardBut (Some p) height units (slice_set heads p k) nodes
+pub board-heads : (height p k : ℕ) (units : List Entry) (heads : List ℕ) (nodes : List Bool) → IsBoardBut None height units heads nodes →
+    IsBoardBut (Some p) height units (slice_set heads p k) nodes
 board-heads height p k units heads nodes it = record {
   tree = it.tree;
   room = it.room;
@@ -515,7 +538,8 @@ board-heads height p k units heads nodes it = record {
   ready = λ r other small. it.ready r refl small ∙ sym (ap (λ o. is_ready (slice_get units r) o) (set-there heads p r k (apart-of p r other)));
 }
 
-pub board-units : (height p : ℕ) (u : Entry) (units : List Entry) (heads : List ℕ) (nodes : List Bool) → IsBoardBut None height units heads nodes → IsBoardBut (Some p) height (slice_set units p u) heads nodes
+pub board-units : (height p : ℕ) (u : Entry) (units : List Entry) (heads : List ℕ) (nodes : List Bool) → IsBoardBut None height units heads nodes →
+    IsBoardBut (Some p) height (slice_set units p u) heads nodes
 board-units height p u units heads nodes it = record {
   tree = it.tree;
   room = omega (arith, it.room, length-set units p u);
@@ -551,7 +575,8 @@ board-idle height p u v units heads nodes got before after it = record {
 }
 
 -- one queue has other entries
-pub lanes-line : (q : ℕ) (lanes : List Lane) (x : Lane) (line : List ℕ) → slice_get lanes q ≡ Some x → KeepsLanes lanes (slice_set lanes q (record x { line = line }))
+pub lanes-line : (q : ℕ) (lanes : List Lane) (x : Lane) (line : List ℕ) → slice_get lanes q ≡ Some x →
+    KeepsLanes lanes (slice_set lanes q (record x { line = line }))
 lanes-line q lanes x line got = record {
   count = length-set lanes q (record x { line = line });
   keeps = λ r a b before after. elim (eqb_tells q r) [
@@ -566,7 +591,11 @@ lanes-line q lanes x line got = record {
 }
 
 pub lanes-same : (lanes : List Lane) → KeepsLanes lanes lanes
-lanes-same lanes = record { count = refl; keeps = λ q x y a b. let same : x ≡ y = cc (a, b) in (sym (ap (λ (l : Lane). l.key) same), sym (ap (λ (l : Lane). l.stopped) same)) }
+lanes-same lanes = record {
+  count = refl;
+  keeps = λ q x y a b.
+      let same : x ≡ y = cc (a, b) in (sym (ap (λ (l : Lane). l.key) same), sym (ap (λ (l : Lane). l.stopped) same));
+}
 
 pub lanes-more : (a b c : List Lane) → KeepsLanes a b → KeepsLanes b c → KeepsLanes a c
 lanes-more a b c first second = record {
@@ -579,7 +608,8 @@ lanes-more a b c first second = record {
 }
 
 -- a claimed unit is still claimed when its queues are fewer
-pub cut-claimed : (p : ℕ) (units after : List Entry) (u : Entry) → slice_get units p ≡ Some u → IsCut p units after → is_none u.claim ≡ false → IsClaimedAt p after
+pub cut-claimed : (p : ℕ) (units after : List Entry) (u : Entry) → slice_get units p ≡ Some u → IsCut p units after → is_none u.claim ≡ false →
+    IsClaimedAt p after
 cut-claimed p units after u got cuts busy = record {
   claimed = λ v now.
       let same : cut u ≡ v = cc (set-here units p u (cut u) got, ap (λ (l : List Entry). slice_get l p) (cuts.cuts u got), now) in
@@ -631,7 +661,8 @@ leaves-last p units after u got leaves it =
     record {
       last = ap (λ (l : List Entry). length l) one.1 ∙ length-set units p (record u { queues = one.0 }) ∙ it.last;
       dead = λ v now.
-          let same : record u { queues = one.0 } ≡ v = cc (set-here units p u (record u { queues = one.0 }) got, ap (λ (l : List Entry). slice_get l p) one.1, now) in
+          let same : record u { queues = one.0 } ≡ v = cc
+          (set-here units p u (record u { queues = one.0 }) got, ap (λ (l : List Entry). slice_get l p) one.1, now) in
           sym (ap (λ (w : Entry). w.live) same) ∙ it.dead u got;
     }
 
@@ -651,7 +682,8 @@ cut-leaves p b c cuts = record { leaves = λ u got. ((cut u).queues, cuts.cuts u
 pub parts-fewer : (q p : ℕ) (b c : List Entry) → Parting q p b → IsCut p b c → left_at p c < left_at p b
 parts-fewer q p b c it more =
     let two = more.cuts it.unit it.stands in
-    let after : left_at p c ≡ length (cut it.unit).queues = ap (λ l. left_of (slice_get l p)) two ∙ ap (λ o. left_of o) (set-here b p it.unit (cut it.unit) it.stands) in
+    let after : left_at p c ≡ length (cut it.unit).queues = ap (λ l. left_of (slice_get l p)) two
+    ∙ ap (λ o. left_of o) (set-here b p it.unit (cut it.unit) it.stands) in
     let before : left_at p b ≡ length it.unit.queues = ap (λ o. left_of o) it.stands in
     let some = ap (λ l. length l) it.ends ∙ length-append (take (length it.unit.queues - 1) it.unit.queues) (q ∷ []) in
     omega (arith, after, before, some)
@@ -685,7 +717,8 @@ differ-take (x ∷ xs) (suc i) apart within =
 pub take_more : (xs : List ℕ) (i : ℕ) → i < length xs → take (i + 1) xs ≡ take i xs ++ get_or xs i 0 ∷ []
 take_more [] i within = absurd (omega arith)
 take_more (x ∷ xs) zero within = refl
-take_more (x ∷ xs) (suc i) within = let e : suc i + 1 ≡ suc (i + 1) = omega arith in ap (λ n. take n (x ∷ xs)) e ∙ ap (λ l. x ∷ l) (take_more xs i (omega arith))
+take_more (x ∷ xs) (suc i) within = let e : suc i + 1 ≡ suc (i + 1) = omega arith in ap (λ n. take n (x ∷ xs)) e
+    ∙ ap (λ l. x ∷ l) (take_more xs i (omega arith))
 
 -- the unit at a place is in one queue more
 pub joined-in : (q p : ℕ) (some more : List ℕ) (units after : List Entry) (u : Entry) → slice_get units p ≡ Some u → more ≡ some ++ q ∷ []

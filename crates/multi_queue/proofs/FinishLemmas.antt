@@ -2,7 +2,8 @@
 use Rattle.std.specs.Prelude.{filter, slice_get, slice_set, not, count_by}
 use Rattle.std.specs.List.{filter_map, cons_option}
 use Rattle.std.specs.Option.{option_map, option_map_or, option_and_then, is_none, is_some}
-use Rattle.std.proofs.Common.{◌≡◌, ◌≢◌, ◌≤◌, ◌+◌, ◌-◌, ℕ, zero, suc, Bool, true, false, eqb, cond, Option, Some, None, List, [], ◌∷◌, length, map, inl, inr, refl, sym, ap, subst, ◌∙◌, arith}
+use Rattle.std.proofs.Common.{◌≡◌, ◌≢◌, ◌≤◌, ◌+◌, ◌-◌, ℕ, zero, suc, Bool, true, false, eqb, cond, Option, Some, None, List, [], ◌∷◌, length, map, inl, inr}
+use Rattle.std.proofs.Common.{refl, sym, ap, subst, ◌∙◌, arith}
 use Rattle.std.proofs.lemmas.Bool.{both_ways, false_from_ne_true, eqb-true}
 use Rattle.std.proofs.lemmas.Bool.Decides.{eqb_tells}
 use Rattle.std.proofs.lemmas.Option.{slice_get_within}
@@ -29,7 +30,8 @@ keeps-later w x ws xs it = record { count = (let e = it.count in omega arith); k
 
 -- the stops are as before
 pub stops-kept : (lanes after : List Lane) → KeepsLanes lanes after
-    → map (λ (lane : Lane). lane.key) (filter (λ (lane : Lane). lane.stopped) after) ≡ map (λ (lane : Lane). lane.key) (filter (λ (lane : Lane). lane.stopped) lanes)
+    → map (λ (lane : Lane). lane.key) (filter (λ (lane : Lane). lane.stopped) after)
+    ≡ map (λ (lane : Lane). lane.key) (filter (λ (lane : Lane). lane.stopped) lanes)
 stops-kept [] [] it = refl
 stops-kept [] (x ∷ xs) it = absurd (let e = it.count in omega arith)
 stops-kept (w ∷ ws) [] it = absurd (let e = it.count in omega arith)
@@ -37,21 +39,25 @@ stops-kept (w ∷ ws) (x ∷ xs) it =
     let here = it.keeps 0 w x refl refl in
     let rest = stops-kept ws xs (keeps-later w x ws xs it) in
     ap (λ b. map (λ (lane : Lane). lane.key) (cond b (x ∷ filter (λ (lane : Lane). lane.stopped) xs) (filter (λ (lane : Lane). lane.stopped) xs))) here.1
-    ∙ elim w.stopped as (λ b. map (λ (lane : Lane). lane.key) (cond b (x ∷ filter (λ (lane : Lane). lane.stopped) xs) (filter (λ (lane : Lane). lane.stopped) xs))
+    ∙ elim w.stopped as (λ b. map (λ (lane : Lane). lane.key)
+    (cond b (x ∷ filter (λ (lane : Lane). lane.stopped) xs) (filter (λ (lane : Lane). lane.stopped) xs))
     ≡ map (λ (lane : Lane). lane.key) (cond b (w ∷ filter (λ (lane : Lane). lane.stopped) ws) (filter (λ (lane : Lane). lane.stopped) ws))) [
-      | true ↦ ap (λ (k : QueueKey). k ∷ map (λ (lane : Lane). lane.key) (filter (λ (lane : Lane). lane.stopped) xs)) here.0 ∙ ap (λ (l : List QueueKey). w.key ∷ l) rest
+      | true ↦ ap (λ (k : QueueKey). k ∷ map (λ (lane : Lane). lane.key) (filter (λ (lane : Lane). lane.stopped) xs)) here.0
+          ∙ ap (λ (l : List QueueKey). w.key ∷ l) rest
       | false ↦ rest
     ]
 
 -- ---- what is seen
 
 -- no live unit of these has the id, so all stay
-stay-all : (tid : TidOf) (lanes : List Lane) (units : List Entry) → ((p : ℕ) (u : Entry) → slice_get units p ≡ Some u → u.live ≡ true → is_tid u.tid tid ≡ true → ⊥)
+stay-all : (tid : TidOf) (lanes : List Lane) (units : List Entry) →
+    ((p : ℕ) (u : Entry) → slice_get units p ≡ Some u → u.live ≡ true → is_tid u.tid tid ≡ true → ⊥)
     → filter (λ (unit : QueuedUnit). not (is_tid unit.tid tid)) (map (seen_unit lanes) (filter is_live units)) ≡ map (seen_unit lanes) (filter is_live units)
 stay-all tid lanes [] nowhere = refl
 stay-all tid lanes (v ∷ us) nowhere =
     let rest = stay-all tid lanes us (λ p u got. nowhere (suc p) u got) in
-    elim v.live as (λ b. v.live ≡ b → filter (λ (unit : QueuedUnit). not (is_tid unit.tid tid)) (map (seen_unit lanes) (cond b (v ∷ filter is_live us) (filter is_live us)))
+    elim v.live as (λ b. v.live ≡ b → filter (λ (unit : QueuedUnit). not (is_tid unit.tid tid))
+    (map (seen_unit lanes) (cond b (v ∷ filter is_live us) (filter is_live us)))
     ≡ map (seen_unit lanes) (cond b (v ∷ filter is_live us) (filter is_live us))) [
       | true ↦ λ e. let other = false_from_ne_true (is_tid v.tid tid) (λ its. nowhere 0 v refl e its) in
           ap (λ b. cond (not b) (seen_unit lanes v ∷ filter (λ (unit : QueuedUnit). not (is_tid unit.tid tid)) (map (seen_unit lanes) (filter is_live us)))
@@ -61,8 +67,10 @@ stay-all tid lanes (v ∷ us) nowhere =
     ] refl
 
 -- the live unit at a place is finished, and so is the one of its id as it is seen
-seen-gone : (lanes : List Lane) (n : ℕ) (units : List Entry) (p : ℕ) (u : Entry) (place : Option ℕ) → Alone u.tid n units place → slice_get units p ≡ Some u → u.live ≡ true
-    → map (seen_unit lanes) (filter is_live (slice_set units p (gone u))) ≡ filter (λ (unit : QueuedUnit). not (is_tid unit.tid u.tid)) (map (seen_unit lanes) (filter is_live units))
+seen-gone : (lanes : List Lane) (n : ℕ) (units : List Entry) (p : ℕ) (u : Entry) (place : Option ℕ) → Alone u.tid n units place → slice_get units p ≡ Some u →
+    u.live ≡ true
+    → map (seen_unit lanes) (filter is_live (slice_set units p (gone u))) ≡ filter (λ (unit : QueuedUnit). not (is_tid unit.tid u.tid))
+    (map (seen_unit lanes) (filter is_live units))
 seen-gone lanes n [] p u place it got live = cc
 seen-gone lanes n (w ∷ us) zero u place it got live =
     let e : w ≡ u = cc in
@@ -83,7 +91,8 @@ seen-gone lanes n (w ∷ us) (suc p) u place it got live =
           let other = false_from_ne_true (is_tid w.tid u.tid) (λ its.
           let a = it.alone 0 w refl e its in let b = it.alone (suc p) u got live (is_tid-same u.tid) in let c : n + 0 ≡ n + suc p = cc in omega arith) in
           ap (λ l. seen_unit lanes w ∷ l) rest
-          ∙ sym (ap (λ b. cond (not b) (seen_unit lanes w ∷ filter (λ (unit : QueuedUnit). not (is_tid unit.tid u.tid)) (map (seen_unit lanes) (filter is_live us)))
+          ∙ sym (ap (λ b. cond (not b) (seen_unit lanes w ∷ filter (λ (unit : QueuedUnit). not (is_tid unit.tid u.tid))
+          (map (seen_unit lanes) (filter is_live us)))
           (filter (λ (unit : QueuedUnit). not (is_tid unit.tid u.tid)) (map (seen_unit lanes) (filter is_live us)))) other)
       | false ↦ λ e. rest
     ] refl
@@ -99,11 +108,13 @@ looks-most units lanes test (q ∷ qs) known heads =
     let at = slice_get_some lanes q (known q (known-here q qs)) in
     let w : Lane = at.0 in
     let keys : List QueueKey = filter_map (key_at lanes) qs in
-    let rest : cost units qs ≤ length keys + count_by test keys = looks-most units lanes test qs (λ r h. known r (known-later q r qs h)) (λ r v h. heads r v (known-later q r qs h)) in
+    let rest : cost units qs ≤ length keys + count_by test keys = looks-most units lanes test qs (λ r h. known r (known-later q r qs h))
+    (λ r v h. heads r v (known-later q r qs h)) in
     let split : count_by test (w.key ∷ keys) ≡ cond (test w.key) 1 0 + count_by test keys = sum_by-cons (λ key. cond (test key) 1 0) w.key keys in
     let second : cond (is_some (slice_get (standing q 0 units) 1)) 1 0 ≤ cond (test w.key) 1 0 =
     by (is_some (slice_get (standing q 0 units) 1)) (test w.key) (λ more. heads q w (known-here q qs) at.1 more) in
-    subst (λ (o : Option Lane). cost units (q ∷ qs) ≤ length (cons_option (option_map (λ (lane : Lane). lane.key) o) keys) + count_by test (cons_option (option_map (λ (lane : Lane). lane.key) o) keys)) (sym at.1)
+    subst (λ (o : Option Lane). cost units (q ∷ qs) ≤ length (cons_option (option_map (λ (lane : Lane). lane.key) o) keys) + count_by test
+    (cons_option (option_map (λ (lane : Lane). lane.key) o) keys)) (sym at.1)
     (omega (arith, rest, split, second))
   where
     by : (a b : Bool) → (a ≡ true → b ≡ true) → cond a 1 0 ≤ cond b 1 0
@@ -114,18 +125,23 @@ looks-most units lanes test (q ∷ qs) known heads =
 module _ {units : List Entry} {lanes : List Lane} {counts : List ℕ} {nodes : List Bool} {height : ℕ} {places : ℕ × ℕ → Option ℕ} {names : ℕ × List ℕ → Option ℕ}
     (it : IsQueues units lanes counts nodes height places names) where
   -- the unit of a claim that is held is claimed
-  pub held-claimed : (tid : TidOf) (number p : ℕ) (u : Entry) → claim_of tid (seen units lanes) ≡ Some number → places (number_of tid) ≡ Some p → slice_get units p ≡ Some u → u.live ≡ true
+  pub held-claimed : (tid : TidOf) (number p : ℕ) (u : Entry) → claim_of tid (seen units lanes) ≡ Some number → places (number_of tid) ≡ Some p →
+      slice_get units p ≡ Some u → u.live ≡ true
       → is_none u.claim ≡ false
   held-claimed tid number p u held names_p at_p live =
-      let claim : u.claim ≡ Some number = sym (ap (λ (o : Option QueuedUnit). option_and_then (λ (unit : QueuedUnit). unit.claim) o) (unit_of-here tid units lanes places p u it.placed names_p at_p live)) ∙ held in
+      let claim : u.claim ≡ Some number = sym (ap (λ (o : Option QueuedUnit). option_and_then (λ (unit : QueuedUnit). unit.claim) o)
+      (unit_of-here tid units lanes places p u it.placed names_p at_p live)) ∙ held in
       ap (λ (o : Option ℕ). is_none o) claim
 
-  module _ (p : ℕ) (u : Entry) (at_p : slice_get units p ≡ Some u) (live : u.live ≡ true) (first : HeadsAll p units) (after : List Lane) (keeps : KeepsLanes lanes after) where
+  module _ (p : ℕ) (u : Entry) (at_p : slice_get units p ≡ Some u) (live : u.live ≡ true) (first : HeadsAll p units) (after : List Lane)
+      (keeps : KeepsLanes lanes after) where
     -- what is seen after a finish
     pub seen-finished : seen (slice_set units p (gone u)) after ≡ finished u.tid (seen units lanes)
     seen-finished =
-        let left : map (seen_unit after) (filter is_live (slice_set units p (gone u))) ≡ filter (λ (unit : QueuedUnit). not (is_tid unit.tid u.tid)) (map (seen_unit lanes) (filter is_live units)) =
-        units-kept lanes after (lanes-keys lanes after keeps) (filter is_live (slice_set units p (gone u))) ∙ seen-gone lanes 0 units p u (places (number_of u.tid)) (alone-at u.tid units places it.placed) at_p live in
+        let left : map (seen_unit after) (filter is_live (slice_set units p (gone u))) ≡ filter (λ (unit : QueuedUnit). not (is_tid unit.tid u.tid))
+        (map (seen_unit lanes) (filter is_live units)) =
+        units-kept lanes after (lanes-keys lanes after keeps) (filter is_live (slice_set units p (gone u)))
+        ∙ seen-gone lanes 0 units p u (places (number_of u.tid)) (alone-at u.tid units places it.placed) at_p live in
         let stops = stops-kept lanes after keeps in
         λ i. record { units = left i; stops = stops i }
 
@@ -133,7 +149,8 @@ module _ {units : List Entry} {lanes : List Lane} {counts : List ℕ} {nodes : L
     other-unit : (r q : ℕ) (v : Entry) → slice_get (slice_set units p (gone u)) r ≡ Some v → (has q v.queues ≡ true) → (p ≢ r) × (slice_get units r ≡ Some v)
     other-unit r q v at_r h =
         elim (eqb_tells p r) [
-          | inl e ↦ absurd (let same : gone u ≡ v = cc (set-here units p u (gone u) at_p, at_r, e.1) in let none : has q v.queues ≡ false = ap (λ (x : Entry). has q x.queues) (sym same) in both_ways (has q v.queues) none h)
+          | inl e ↦ absurd (let same : gone u ≡ v = cc (set-here units p u (gone u) at_p, at_r, e.1) in let none : has q v.queues
+              ≡ false = ap (λ (x : Entry). has q x.queues) (sym same) in both_ways (has q v.queues) none h)
           | inr e ↦ (e.1, sym (set-there units p r (gone u) e.1) ∙ at_r)
         ]
 
@@ -143,12 +160,14 @@ module _ {units : List Entry} {lanes : List Lane} {counts : List ℕ} {nodes : L
       first = λ x q at_x h.
           let old = other-unit r q x at_x h in
           let head = all.first x q old.1 h in
-          let apart : has q u.queues ≡ false = false_from_ne_true (has q u.queues) (λ its. let mine = first.first u q at_p its in let e : p ≡ r = cc in old.0 e) in
+          let apart : has q u.queues ≡ false = false_from_ne_true (has q u.queues)
+          (λ its. let mine = first.first u q at_p its in let e : p ≡ r = cc in old.0 e) in
           ap (λ l. slice_get l 0) (standing-same q 0 units p u (gone u) at_p (sym apart)) ∙ head;
     }
 
     -- what the lists keep
-    pub finish-keeps : (counts2 : List ℕ) (nodes2 : List Bool) → IsCounted None (slice_set units p (gone u)) after counts2 → IsBoardBut None height (slice_set units p (gone u)) counts2 nodes2
+    pub finish-keeps : (counts2 : List ℕ) (nodes2 : List Bool) → IsCounted None (slice_set units p (gone u)) after counts2 →
+        IsBoardBut None height (slice_set units p (gone u)) counts2 nodes2
         → IsQueues (slice_set units p (gone u)) after counts2 nodes2 height places names
     finish-keeps counts2 nodes2 counted board = record {
       counted = counted;
@@ -159,13 +178,18 @@ module _ {units : List Entry} {lanes : List Lane} {counts : List ℕ} {nodes : L
             let old = it.placed.there number r h in
             elim (eqb_tells p r) [
               | inl e ↦
-                  let same : u ≡ old.0 = cc (at_p, old.1, e.1) in
-                  (gone u, subst (λ i. slice_get (slice_set units p (gone u)) i ≡ Some (gone u)) e.1 (set-here units p u (gone u) at_p), ap (λ (y : Entry). number_of y.tid) same ∙ old.2)
+                  let same : u ≡ old.0 = cc (at_p, old.1, e.1) in (
+                    gone u,
+                    subst (λ i. slice_get (slice_set units p (gone u)) i ≡ Some (gone u)) e.1 (set-here units p u (gone u) at_p),
+                    ap
+                        (λ (y : Entry). number_of y.tid) same ∙ old.2,
+                  )
               | inr e ↦ (old.0, set-there units p r (gone u) e.1 ∙ old.1, old.2)
             ];
         placed = λ r x a l.
             elim (eqb_tells p r) [
-              | inl e ↦ absurd (let same : gone u ≡ x = cc (set-here units p u (gone u) at_p, a, e.1) in let dead : x.live ≡ false = ap (λ (y : Entry). y.live) (sym same) in both_ways x.live dead l)
+              | inl e ↦ absurd (let same : gone u ≡ x = cc (set-here units p u (gone u) at_p, a, e.1) in let dead : x.live
+                  ≡ false = ap (λ (y : Entry). y.live) (sym same) in both_ways x.live dead l)
               | inr e ↦ it.placed.placed r x (sym (set-there units p r (gone u) e.1) ∙ a) l
             ];
       };
@@ -177,7 +201,8 @@ module _ {units : List Entry} {lanes : List Lane} {counts : List ℕ} {nodes : L
           ];
       claims = λ r x a f.
           elim (eqb_tells p r) [
-            | inl e ↦ absurd (let same : gone u ≡ x = cc (set-here units p u (gone u) at_p, a, e.1) in let none : is_none x.claim ≡ true = ap (λ (y : Entry). is_none y.claim) (sym same) in both_ways (is_none x.claim) f none)
+            | inl e ↦ absurd (let same : gone u ≡ x = cc (set-here units p u (gone u) at_p, a, e.1) in let none : is_none x.claim
+                ≡ true = ap (λ (y : Entry). is_none y.claim) (sym same) in both_ways (is_none x.claim) f none)
             | inr e ↦ let old = it.claims r x (sym (set-there units p r (gone u) e.1) ∙ a) f in (old.0, heads-stay r x a old.1)
           ];
     }
@@ -191,13 +216,18 @@ module _ {units : List Entry} {lanes : List Lane} {counts : List ℕ} {nodes : L
           let key : x.0.key ≡ w.key = (keeps.keeps q w x.0 at_q x.1).0 in
           let first_q = first.first u q at_p h in
           let before : head_of w.key (seen units lanes) ≡ Some (seen_unit lanes u) =
-          head-line it q w at_q ∙ ap (λ o. option_map (seen_unit lanes) (option_and_then (λ i. slice_get units i) o)) (ap (λ l. slice_get l 0) (it.counted.lines q w at_q) ∙ first_q)
+          head-line it q w at_q ∙ ap (λ o. option_map (seen_unit lanes) (option_and_then (λ i. slice_get units i) o))
+          (ap (λ l. slice_get l 0) (it.counted.lines q w at_q) ∙ first_q)
           ∙ ap (λ (o : Option Entry). option_map (seen_unit lanes) o) at_p in
           let shorter : slice_get (standing q 0 (slice_set units p (gone u))) 0 ≡ slice_get (standing q 0 units) 1 =
-          ap (λ l. slice_get l 0) (standing-gone q 0 units p u (gone u) at_p refl (first_q ∙ ap (λ i. Some i) (zero-in p))) ∙ get-drop_one (standing q 0 units) in
-          let later : head_of w.key (finished u.tid (seen units lanes)) ≡ option_map (seen_unit after) (option_and_then (λ i. slice_get (slice_set units p (gone u)) i) (slice_get (standing q 0 units) 1)) =
-          ap (λ (queues : QueuesOf). head_of w.key queues) (sym seen-finished) ∙ ap (λ (k : QueueKey). head_of k (seen (slice_set units p (gone u)) after)) (sym key)
-          ∙ head-line now q x.0 x.1 ∙ ap (λ o. option_map (seen_unit after) (option_and_then (λ i. slice_get (slice_set units p (gone u)) i) o)) (ap (λ l. slice_get l 0) (now.counted.lines q x.0 x.1) ∙ shorter) in
+          ap (λ l. slice_get l 0) (standing-gone q 0 units p u (gone u) at_p refl (first_q ∙ ap (λ i. Some i) (zero-in p)))
+          ∙ get-drop_one (standing q 0 units) in
+          let later : head_of w.key (finished u.tid (seen units lanes))
+          ≡ option_map (seen_unit after) (option_and_then (λ i. slice_get (slice_set units p (gone u)) i) (slice_get (standing q 0 units) 1)) =
+          ap (λ (queues : QueuesOf). head_of w.key queues) (sym seen-finished)
+          ∙ ap (λ (k : QueueKey). head_of k (seen (slice_set units p (gone u)) after)) (sym key)
+          ∙ head-line now q x.0 x.1 ∙ ap (λ o. option_map (seen_unit after) (option_and_then (λ i. slice_get (slice_set units p (gone u)) i) o))
+          (ap (λ l. slice_get l 0) (now.counted.lines q x.0 x.1) ∙ shorter) in
           ap (λ (o : Option QueuedUnit). is_new_head o (head_of w.key (finished u.tid (seen units lanes)))) before
           ∙ ap (λ (o : Option QueuedUnit). is_new_head (Some (seen_unit lanes u)) o) later
           ∙ by (slice_get (standing q 0 units) 1) more shorter
@@ -214,7 +244,8 @@ module _ {units : List Entry} {lanes : List Lane} {counts : List ℕ} {nodes : L
               let z : r - 0 ≡ r = omega arith in
               let at_r : slice_get (slice_set units p (gone u)) r ≡ Some v = ap (λ i. slice_get (slice_set units p (gone u)) i) (sym z) ∙ there.1.1 in
               let old = other-unit r q v at_r there.1.2 in
-              let other : is_tid u.tid v.tid ≡ false = tid-place it r p v u old.1 at_p (queued-live it r q v old.1 there.1.2) live ∙ false_from_ne_true (eqb r p) (λ e. old.0 (sym (eqb-true r p e))) in
+              let other : is_tid u.tid v.tid ≡ false = tid-place it r p v u old.1 at_p (queued-live it r q v old.1 there.1.2) live
+              ∙ false_from_ne_true (eqb r p) (λ e. old.0 (sym (eqb-true r p e))) in
               ap (λ (o : Option Entry). is_new_head (Some (seen_unit lanes u)) (option_map (seen_unit after) o)) at_r
               ∙ ap (λ b. not b) other
 
@@ -226,5 +257,6 @@ module _ {units : List Entry} {lanes : List Lane} {counts : List ℕ} {nodes : L
           let most = looks-most units lanes test u.queues known (λ q w h at_q more. new-head q w h at_q more) in
           let cost_is : cost_at p units ≡ cost units u.queues = ap (λ (o : Option Entry). cost_of units o) at_p in
           let found = unit_of-here u.tid units lanes places p u it.placed (it.placed.placed p u at_p live) at_p live in
-          subst (λ (o : Option QueuedUnit). cost_at p units ≤ option_map_or (λ (unit : QueuedUnit). length unit.keys + new_heads (seen units lanes) (finished u.tid (seen units lanes)) unit.keys) o 0) (sym found)
+          subst (λ (o : Option QueuedUnit). cost_at p units ≤ option_map_or
+          (λ (unit : QueuedUnit). length unit.keys + new_heads (seen units lanes) (finished u.tid (seen units lanes)) unit.keys) o 0) (sym found)
           (subst (λ (n : ℕ). n ≤ length (filter_map (key_at lanes) u.queues) + count_by test (filter_map (key_at lanes) u.queues)) (sym cost_is) most)

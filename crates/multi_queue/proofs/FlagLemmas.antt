@@ -17,7 +17,8 @@ record Was (units : List Entry) (r : ℕ) (x : Entry) : Type 0 where
   stood : slice_get units r ≡ Some unit
   flag : IsFlag unit x
 
-flag-back : (units : List Entry) (p r : ℕ) (u v x : Entry) → slice_get units p ≡ Some u → IsFlag u v → slice_get (slice_set units p v) r ≡ Some x → Was units r x
+flag-back : (units : List Entry) (p r : ℕ) (u v x : Entry) → slice_get units p ≡ Some u → IsFlag u v → slice_get (slice_set units p v) r ≡ Some x →
+    Was units r x
 flag-back units p r u v x got flag now = elim (eqb_tells p r) [
   | inl e ↦
       let same : v ≡ x = cc (set-here units p u v got, now, e.1) in
@@ -31,7 +32,8 @@ record WasIn (units : List Entry) (r : ℕ) (x : Entry) : Type 0 where
   stood : slice_get units r ≡ Some unit
   queues : x.queues ≡ unit.queues
 
-back-in : (units : List Entry) (p r : ℕ) (u v x : Entry) → slice_get units p ≡ Some u → v.queues ≡ u.queues → slice_get (slice_set units p v) r ≡ Some x → WasIn units r x
+back-in : (units : List Entry) (p r : ℕ) (u v x : Entry) → slice_get units p ≡ Some u → v.queues ≡ u.queues → slice_get (slice_set units p v) r ≡ Some x →
+    WasIn units r x
 back-in units p r u v x got same now = elim (eqb_tells p r) [
   | inl e ↦
       let here : v ≡ x = cc (set-here units p u v got, now, e.1) in
@@ -54,17 +56,23 @@ same-counted units lanes heads p u v got same it = record {
 pub flag-heads : (units : List Entry) (p r : ℕ) (u v : Entry) → slice_get units p ≡ Some u → IsFlag u v → HeadsAll r units → HeadsAll r (slice_set units p v)
 flag-heads units p r u v got flag it = record {
   first = λ x q a h. let y = flag-back units p r u v x got flag a in
-      ap (λ l. slice_get l 0) (standing-same q 0 units p u v got (ap (λ l. has q l) flag.queues)) ∙ it.first y.unit q y.stood (ap (λ l. has q l) (sym y.flag.queues) ∙ h);
+      ap (λ l. slice_get l 0) (standing-same q 0 units p u v got (ap (λ l. has q l) flag.queues))
+      ∙ it.first y.unit q y.stood (ap (λ l. has q l) (sym y.flag.queues) ∙ h);
 }
 
-flag-placed : (units : List Entry) (places : ℕ × ℕ → Option ℕ) (p : ℕ) (u v : Entry) → slice_get units p ≡ Some u → IsFlag u v → IsPlaced units places → IsPlaced (slice_set units p v) places
+flag-placed : (units : List Entry) (places : ℕ × ℕ → Option ℕ) (p : ℕ) (u v : Entry) → slice_get units p ≡ Some u → IsFlag u v → IsPlaced units places →
+    IsPlaced (slice_set units p v) places
 flag-placed units places p u v got flag it = record {
   there = λ number r names.
       let old = it.there number r names in
       elim (eqb_tells p r) [
         | inl e ↦
-            let same : u ≡ old.0 = cc (got, old.1, e.1) in
-            (v, subst (λ i. slice_get (slice_set units p v) i ≡ Some v) e.1 (set-here units p u v got), ap number_of flag.tid ∙ ap (λ (y : Entry). number_of y.tid) same ∙ old.2)
+            let same : u ≡ old.0 = cc (got, old.1, e.1) in (
+              v,
+              subst (λ i. slice_get (slice_set units p v) i ≡ Some v) e.1 (set-here units p u v got),
+              ap number_of flag.tid
+                  ∙ ap (λ (y : Entry). number_of y.tid) same ∙ old.2,
+            )
         | inr e ↦ (old.0, set-there units p r v e.1 ∙ old.1, old.2)
       ];
   placed = λ r x a l. let y = flag-back units p r u v x got flag a in

@@ -4,7 +4,8 @@ use Rattle.std.specs.List.{filter_map, cons_option}
 use Rattle.std.specs.Option.{option_map}
 use Rattle.std.specs.Cmp.Lexicographic.{slice_cmp, lists_ties, bytes_decides, pointwise}
 use Rattle.std.specs.Ordering.{nat_cmp, is_eq, eq_by_cmp}
-use Rattle.std.proofs.Common.{◌≡◌, ◌<◌, ◌≤◌, ◌+◌, ℕ, zero, suc, nat_eq, Bool, true, false, ◌||◌, cond, Option, Some, None, List, [], ◌∷◌, ◌++◌, length, map, inl, inr, ◌⊎◌, refl, sym, ap, subst, ◌∙◌, arith, append_assoc, append-nil, length-append}
+use Rattle.std.proofs.Common.{◌≡◌, ◌<◌, ◌≤◌, ◌+◌, ℕ, zero, suc, nat_eq, Bool, true, false, ◌||◌, cond, Option, Some, None, List, [], ◌∷◌, ◌++◌, length, map}
+use Rattle.std.proofs.Common.{inl, inr, ◌⊎◌, refl, sym, ap, subst, ◌∙◌, arith, append_assoc, append-nil, length-append}
 use Rattle.std.proofs.lemmas.Bool.{cases_Bool, both_ways, false_from_ne_true}
 use Rattle.std.proofs.lemmas.Bool.Decides.{eqb_tells, nat_tests}
 use Rattle.std.proofs.lemmas.Option.{slice_get_within}
@@ -67,7 +68,8 @@ units-kept lanes after keeps us =
 pub lane-of_key : (lanes : List Lane) (q : ℕ) (key : QueueKey) → key_at lanes q ≡ Some key → (w : Lane) × (slice_get lanes q ≡ Some w) × (w.key ≡ key)
 lane-of_key lanes q key is = by (slice_get lanes q) refl is
   where
-    by : (o : Option Lane) → slice_get lanes q ≡ o → option_map (λ (lane : Lane). lane.key) o ≡ Some key → (w : Lane) × (slice_get lanes q ≡ Some w) × (w.key ≡ key)
+    by : (o : Option Lane) → slice_get lanes q ≡ o → option_map (λ (lane : Lane). lane.key) o ≡ Some key →
+        (w : Lane) × (slice_get lanes q ≡ Some w) × (w.key ≡ key)
     by None at is = absurd (cc)
     by (Some w) at is = (w, at, (let same : w.key ≡ key = cc in same))
 
@@ -102,20 +104,24 @@ stops-other other (x ∷ xs) zero w v at_q differs same =
     without v (ap (λ (k : QueueKey). is_key k other) same ∙ differs) ∙ sym (without x (ap (λ (l : Lane). is_key l.key other) e ∙ differs))
   where
     without : (y : Lane) → is_key y.key other ≡ false → has_key other (stopped_keys (y ∷ xs)) ≡ has_key other (stopped_keys xs)
-    without y differs = elim y.stopped as (λ b. has_key other (map (λ (lane : Lane). lane.key) (cond b (y ∷ filter (λ (lane : Lane). lane.stopped) xs) (filter (λ (lane : Lane). lane.stopped) xs))) ≡ has_key other (stopped_keys xs)) [
-      | true ↦ ap (λ b. b || has_key other (stopped_keys xs)) differs
-      | false ↦ refl
-    ]
+    without y differs = elim y.stopped as (λ b.
+        has_key other (map (λ (lane : Lane). lane.key) (cond b (y ∷ filter (λ (lane : Lane). lane.stopped) xs) (filter (λ (lane : Lane). lane.stopped) xs)))
+        ≡ has_key other (stopped_keys xs)) [
+          | true ↦ ap (λ b. b || has_key other (stopped_keys xs)) differs
+          | false ↦ refl
+        ]
 stops-other other (x ∷ xs) (suc q) w v at_q differs same =
     let rest = stops-other other xs q w v at_q differs same in
-    elim x.stopped as (λ b. has_key other (map (λ (lane : Lane). lane.key) (cond b (x ∷ filter (λ (lane : Lane). lane.stopped) (slice_set xs q v)) (filter (λ (lane : Lane). lane.stopped) (slice_set xs q v))))
+    elim x.stopped as (λ b. has_key other (map (λ (lane : Lane). lane.key)
+    (cond b (x ∷ filter (λ (lane : Lane). lane.stopped) (slice_set xs q v)) (filter (λ (lane : Lane). lane.stopped) (slice_set xs q v))))
     ≡ has_key other (map (λ (lane : Lane). lane.key) (cond b (x ∷ filter (λ (lane : Lane). lane.stopped) xs) (filter (λ (lane : Lane). lane.stopped) xs)))) [
       | true ↦ ap (λ b. is_key x.key other || b) rest
       | false ↦ rest
     ]
 
 -- what is seen of a stop
-pub seen-stop : (units : List Entry) (lanes after : List Lane) (names : ℕ × List ℕ → Option ℕ) (q : ℕ) (w : Lane) → IsNamed lanes names → slice_get lanes q ≡ Some w
+pub seen-stop : (units : List Entry) (lanes after : List Lane) (names : ℕ × List ℕ → Option ℕ) (q : ℕ) (w : Lane) → IsNamed lanes names →
+    slice_get lanes q ≡ Some w
     → SetsStop q true lanes after → Stops w.key (seen units lanes) (seen units after)
 seen-stop units lanes after names q w it at_q sets = record {
   units = units-kept lanes after (stop-keys q true lanes after w at_q sets) (filter is_live units);
@@ -124,13 +130,15 @@ seen-stop units lanes after names q w it at_q sets = record {
       let v : Lane = record w { stopped = true } in
       ap (λ (l : List Lane). has_key other (stopped_keys l)) e
       ∙ elim (cases_Bool (is_key w.key other)) [
-        | inl its ↦ stops-there other (slice_set lanes q v) q v (set-here lanes q w v at_q) its refl ∙ sym (ap (λ b. b || has_key other (stopped_keys lanes)) its)
+        | inl its ↦ stops-there other (slice_set lanes q v) q v (set-here lanes q w v at_q) its refl
+            ∙ sym (ap (λ b. b || has_key other (stopped_keys lanes)) its)
         | inr differs ↦ stops-other other lanes q w v at_q differs refl ∙ sym (ap (λ b. b || has_key other (stopped_keys lanes)) differs)
       ];
 }
 
 -- what is seen of a start
-pub seen-start : (units : List Entry) (lanes after : List Lane) (names : ℕ × List ℕ → Option ℕ) (q : ℕ) (w : Lane) → IsNamed lanes names → slice_get lanes q ≡ Some w
+pub seen-start : (units : List Entry) (lanes after : List Lane) (names : ℕ × List ℕ → Option ℕ) (q : ℕ) (w : Lane) → IsNamed lanes names →
+    slice_get lanes q ≡ Some w
     → SetsStop q false lanes after → Starts w.key (seen units lanes) (seen units after)
 seen-start units lanes after names q w it at_q sets = record {
   units = units-kept lanes after (stop-keys q false lanes after w at_q sets) (filter is_live units);
@@ -158,7 +166,8 @@ pub start-nothing : (key : QueueKey) (units : List Entry) (lanes : List Lane) �
 start-nothing key units lanes none = record {
   units = refl;
   stops = λ other. elim (cases_Bool (is_key key other)) [
-    | inl its ↦ stops-none other lanes (λ r x at_r same. absurd (both_ways (is_key x.key key) (none r x at_r) (subst (λ (k : QueueKey). is_key x.key k ≡ true) (sym (is_key-true key other its)) same)))
+    | inl its ↦ stops-none other lanes (λ r x at_r same.
+        absurd (both_ways (is_key x.key key) (none r x at_r) (subst (λ (k : QueueKey). is_key x.key k ≡ true) (sym (is_key-true key other its)) same)))
         ∙ sym (ap (λ b. not b && has_key other (stopped_keys lanes)) its)
     | inr differs ↦ sym (ap (λ b. not b && has_key other (stopped_keys lanes)) differs)
   ];
@@ -170,7 +179,8 @@ pub none-counted : (q : ℕ) (b : Bool) (units : List Entry) (lanes after : List
 none-counted q b units lanes after counts w empty at_q sets it =
     let v : Lane = record w { stopped = b } in
     let e = sets.sets w at_q in
-    let nobody : (p : ℕ) (u : Entry) → slice_get units p ≡ Some u → ⊥ = λ p u at_p. let no : slice_get [] p ≡ Some u = ap (λ (l : List Entry). slice_get l p) (sym empty) ∙ at_p in cc in
+    let nobody : (p : ℕ) (u : Entry) → slice_get units p ≡ Some u → ⊥ = λ p u at_p.
+    let no : slice_get [] p ≡ Some u = ap (λ (l : List Entry). slice_get l p) (sym empty) ∙ at_p in cc in
     record {
       all = it.all;
       lines = λ r x at_r.
@@ -232,7 +242,8 @@ grows-length lanes after it = omega (arith, ap (λ (l : List Lane). length l) it
 -- names that compare as equal are equal
 names-equal : (a b : ℕ × List ℕ) → is_eq (names_cmp a b) ≡ true → a ≡ b
 names-equal (a, ms) (b, ns) same =
-    let ties : pointwise nat_eq (a ∷ ms) (b ∷ ns) ≡ eq_by_cmp (slice_cmp nat_cmp) (a ∷ ms) (b ∷ ns) = lists_ties nat_cmp (λ x y. ties-one x y) (a ∷ ms) (b ∷ ns) in
+    let ties : pointwise nat_eq (a ∷ ms) (b ∷ ns) ≡ eq_by_cmp (slice_cmp nat_cmp) (a ∷ ms) (b ∷ ns) = lists_ties nat_cmp (λ x y. ties-one x y) (a ∷ ms)
+    (b ∷ ns) in
     let e : (a ∷ ms) ≡ (b ∷ ns) = (bytes_decides (a ∷ ms) (b ∷ ns)).0 (ties ∙ same) in
     let first : a ≡ b = cc in
     let rest : ms ≡ ns = cc in
@@ -242,8 +253,10 @@ names-equal (a, ms) (b, ns) same =
     ties-one x y = grind (arith, nat_tests)
 
 -- a queue that gets its number is named, and all others are as before
-pub named-new : (lanes : List Lane) (names after : ℕ × List ℕ → Option ℕ) (w : Lane) → IsNamed lanes names → names (name_of w.key) ≡ None → IsQueueName w.key.name
-    → ((name : ℕ × List ℕ) → after name ≡ cond (is_eq (names_cmp (name_of w.key) name)) (Some (length lanes)) (names name)) → after (name_of w.key) ≡ Some (length lanes)
+pub named-new : (lanes : List Lane) (names after : ℕ × List ℕ → Option ℕ) (w : Lane) → IsNamed lanes names → names (name_of w.key) ≡ None →
+    IsQueueName w.key.name
+    → ((name : ℕ × List ℕ) → after name ≡ cond (is_eq (names_cmp (name_of w.key) name)) (Some (length lanes)) (names name)) →
+    after (name_of w.key) ≡ Some (length lanes)
     → IsNamed (lanes ++ w ∷ []) after
 named-new lanes names after w it new proper others here = record {
   known = λ name q h.
@@ -310,20 +323,25 @@ units-front : (lanes more : List Lane) (units : List Entry) → ((p : ℕ) (u : 
 units-front lanes more [] known = refl
 units-front lanes more (u ∷ us) known =
     let rest = units-front lanes more us (λ p v at. known (suc p) v at) in
-    elim u.live as (λ b. map (seen_unit (lanes ++ more)) (cond b (u ∷ filter is_live us) (filter is_live us)) ≡ map (seen_unit lanes) (cond b (u ∷ filter is_live us) (filter is_live us))) [
-      | true ↦ ap (λ (keys : List QueueKey). record { tid = u.tid; keys = keys; claim = u.claim; mark = u.mark } ∷ map (seen_unit (lanes ++ more)) (filter is_live us)) (keys-front lanes more u.queues (known 0 u refl))
+    elim u.live as (λ b. map (seen_unit (lanes ++ more)) (cond b (u ∷ filter is_live us) (filter is_live us))
+    ≡ map (seen_unit lanes) (cond b (u ∷ filter is_live us) (filter is_live us))) [
+      | true ↦ ap (λ (keys : List QueueKey). record { tid = u.tid; keys = keys; claim = u.claim; mark = u.mark }
+          ∷ map (seen_unit (lanes ++ more)) (filter is_live us)) (keys-front lanes more u.queues (known 0 u refl))
           ∙ ap (λ (l : List QueuedUnit). seen_unit lanes u ∷ l) rest
       | false ↦ rest
     ]
 
-stops-front : (lanes more : List Lane) → ((i : ℕ) (w : Lane) → slice_get more i ≡ Some w → (w.stopped ≡ false) × (w.line ≡ [])) → stopped_keys (lanes ++ more) ≡ stopped_keys lanes
+stops-front : (lanes more : List Lane) → ((i : ℕ) (w : Lane) → slice_get more i ≡ Some w → (w.stopped ≡ false) × (w.line ≡ [])) →
+    stopped_keys (lanes ++ more) ≡ stopped_keys lanes
 stops-front [] [] fresh = refl
 stops-front [] (w ∷ ws) fresh =
-    ap (λ b. map (λ (lane : Lane). lane.key) (cond b (w ∷ filter (λ (lane : Lane). lane.stopped) ws) (filter (λ (lane : Lane). lane.stopped) ws))) (fresh 0 w refl).0
+    ap (λ b. map (λ (lane : Lane). lane.key) (cond b (w ∷ filter (λ (lane : Lane). lane.stopped) ws) (filter (λ (lane : Lane). lane.stopped) ws)))
+    (fresh 0 w refl).0
     ∙ stops-front [] ws (λ i v at. fresh (suc i) v at)
 stops-front (x ∷ xs) more fresh =
     let rest = stops-front xs more fresh in
-    elim x.stopped as (λ b. map (λ (lane : Lane). lane.key) (cond b (x ∷ filter (λ (lane : Lane). lane.stopped) (xs ++ more)) (filter (λ (lane : Lane). lane.stopped) (xs ++ more)))
+    elim x.stopped as (λ b. map (λ (lane : Lane). lane.key)
+    (cond b (x ∷ filter (λ (lane : Lane). lane.stopped) (xs ++ more)) (filter (λ (lane : Lane). lane.stopped) (xs ++ more)))
     ≡ map (λ (lane : Lane). lane.key) (cond b (x ∷ filter (λ (lane : Lane). lane.stopped) xs) (filter (λ (lane : Lane). lane.stopped) xs))) [
       | true ↦ ap (λ (l : List QueueKey). x.key ∷ l) rest
       | false ↦ rest
@@ -332,8 +350,10 @@ stops-front (x ∷ xs) more fresh =
 module _ {units : List Entry} {lanes : List Lane} {counts : List ℕ} {nodes : List Bool} {height : ℕ} {places : ℕ × ℕ → Option ℕ} {names : ℕ × List ℕ → Option ℕ}
     (it : IsQueues units lanes counts nodes height places names) where
   -- what the lists keep where a queue is stopped or started
-  pub stop-keeps : (q : ℕ) (b : Bool) (w : Lane) (after : List Lane) (counts2 : List ℕ) (nodes2 : List Bool) → slice_get lanes q ≡ Some w → SetsStop q b lanes after
-      → IsCounted None units after counts2 → (0 < length units → IsBoardBut None height units counts2 nodes2) → IsQueues units after counts2 nodes2 height places names
+  pub stop-keeps : (q : ℕ) (b : Bool) (w : Lane) (after : List Lane) (counts2 : List ℕ) (nodes2 : List Bool) → slice_get lanes q ≡ Some w →
+      SetsStop q b lanes after
+      → IsCounted None units after counts2 → (0 < length units → IsBoardBut None height units counts2 nodes2) →
+      IsQueues units after counts2 nodes2 height places names
   stop-keeps q b w after counts2 nodes2 at_q sets counted board = record {
     counted = counted;
     board = board;
@@ -345,7 +365,8 @@ module _ {units : List Entry} {lanes : List Lane} {counts : List ℕ} {nodes : L
   }
 
   -- what the lists keep where queues get numbers
-  pub grow-keeps : (after : List Lane) (names2 : ℕ × List ℕ → Option ℕ) → Grows lanes after → IsNamed after names2 → IsQueues units after counts nodes height places names2
+  pub grow-keeps : (after : List Lane) (names2 : ℕ × List ℕ → Option ℕ) → Grows lanes after → IsNamed after names2 →
+      IsQueues units after counts nodes height places names2
   grow-keeps after names2 grows named = record {
     counted = record {
       all = it.counted.all;
@@ -355,7 +376,8 @@ module _ {units : List Entry} {lanes : List Lane} {counts : List ℕ} {nodes : L
             let within : q < length lanes = it.counted.known p u q at_p h in absurd (omega (arith, within, e)))))
       ];
       counts = λ p u h at_p at_h. it.counted.counts p u h at_p at_h
-          ∙ sym (ap (λ (l : List Lane). count_but None l p u.queues) grows.all ∙ count-front lanes grows.more p u.queues (λ q k. it.counted.known p u q at_p k));
+          ∙ sym (ap (λ (l : List Lane). count_but None l p u.queues) grows.all
+          ∙ count-front lanes grows.more p u.queues (λ q k. it.counted.known p u q at_p k));
       differ = it.counted.differ;
       few = it.counted.few;
       known = λ p u q at_p h. omega (arith, it.counted.known p u q at_p h, grows-length lanes after grows);

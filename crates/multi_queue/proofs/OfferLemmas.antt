@@ -2,7 +2,8 @@
 use Rattle.std.specs.Prelude.{filter, find, slice_get, not, ◌&&◌}
 use Rattle.std.specs.List.{filter_map, list_all, cons_option}
 use Rattle.std.specs.Option.{option_map, option_map_or, option_and_then, is_none}
-use Rattle.std.proofs.Common.{◌≡◌, ◌<◌, ◌≤◌, ◌+◌, ◌-◌, ℕ, zero, suc, Bool, true, false, ◌||◌, eqb, cond, Option, Some, None, List, [], ◌∷◌, length, map, inl, inr, refl, sym, ap, subst, ◌∙◌, arith}
+use Rattle.std.proofs.Common.{◌≡◌, ◌<◌, ◌≤◌, ◌+◌, ◌-◌, ℕ, zero, suc, Bool, true, false, ◌||◌, eqb, cond, Option, Some, None, List, [], ◌∷◌, length, map, inl}
+use Rattle.std.proofs.Common.{inr, refl, sym, ap, subst, ◌∙◌, arith}
 use Rattle.std.proofs.lemmas.Bool.{cases_Bool, both_ways, and_parts, false_from_ne_true, cond-true, cond-false, eqb-true, eq-eqb}
 use Rattle.std.proofs.lemmas.Bool.Decides.{eqb_tells, nat_tests}
 use Rattle.std.proofs.lemmas.Option.{same_Some, slice_get_within}
@@ -29,7 +30,8 @@ pub stops-none : (key : QueueKey) (lanes : List Lane) → ((r : ℕ) (v : Lane) 
 stops-none key [] moves = refl
 stops-none key (w ∷ ws) moves =
     let rest = stops-none key ws (λ r v got. moves (suc r) v got) in
-    elim w.stopped as (λ b. w.stopped ≡ b → has_key key (map (λ (lane : Lane). lane.key) (cond b (w ∷ filter (λ (lane : Lane). lane.stopped) ws) (filter (λ (lane : Lane). lane.stopped) ws))) ≡ false) [
+    elim w.stopped as (λ b. w.stopped ≡ b → has_key key
+    (map (λ (lane : Lane). lane.key) (cond b (w ∷ filter (λ (lane : Lane). lane.stopped) ws) (filter (λ (lane : Lane). lane.stopped) ws))) ≡ false) [
       | true ↦ λ e. let other = false_from_ne_true (is_key w.key key) (λ same. both_ways w.stopped (moves 0 w refl same) e) in
           ap (λ b. b || has_key key (map (λ (lane : Lane). lane.key) (filter (λ (lane : Lane). lane.stopped) ws))) other ∙ rest
       | false ↦ λ e. rest
@@ -41,11 +43,13 @@ stops-there key [] r v got same stopped = cc
 stops-there key (w ∷ ws) zero v got same stopped =
     let e : w ≡ v = cc in
     let key_is : is_key w.key key ≡ true = ap (λ (l : Lane). is_key l.key key) e ∙ same in
-    ap (λ b. has_key key (map (λ (lane : Lane). lane.key) (cond b (w ∷ filter (λ (lane : Lane). lane.stopped) ws) (filter (λ (lane : Lane). lane.stopped) ws)))) (ap (λ (l : Lane). l.stopped) e ∙ stopped)
+    ap (λ b. has_key key (map (λ (lane : Lane). lane.key) (cond b (w ∷ filter (λ (lane : Lane). lane.stopped) ws) (filter (λ (lane : Lane). lane.stopped) ws))))
+    (ap (λ (l : Lane). l.stopped) e ∙ stopped)
     ∙ ap (λ b. b || has_key key (map (λ (lane : Lane). lane.key) (filter (λ (lane : Lane). lane.stopped) ws))) key_is
 stops-there key (w ∷ ws) (suc r) v got same stopped =
     let rest = stops-there key ws r v got same stopped in
-    elim w.stopped as (λ b. has_key key (map (λ (lane : Lane). lane.key) (cond b (w ∷ filter (λ (lane : Lane). lane.stopped) ws) (filter (λ (lane : Lane). lane.stopped) ws))) ≡ true) [
+    elim w.stopped as (λ b. has_key key (map (λ (lane : Lane). lane.key)
+    (cond b (w ∷ filter (λ (lane : Lane). lane.stopped) ws) (filter (λ (lane : Lane). lane.stopped) ws))) ≡ true) [
       | true ↦ ap (λ b. is_key w.key key || b) rest ∙ either (is_key w.key key)
       | false ↦ rest
     ]
@@ -78,7 +82,8 @@ none-seen q n (x ∷ xs) h =
     ] refl h
 
 -- what the lists keep, of one unit and one queue
-pub queued-live : {units : List Entry} {lanes : List Lane} {counts : List ℕ} {nodes : List Bool} {height : ℕ} {places : ℕ × ℕ → Option ℕ} {names : ℕ × List ℕ → Option ℕ}
+pub queued-live : {units : List Entry} {lanes : List Lane} {counts : List ℕ} {nodes : List Bool} {height : ℕ} {places : ℕ × ℕ → Option ℕ}
+    {names : ℕ × List ℕ → Option ℕ}
     → IsQueues units lanes counts nodes height places names → (p q : ℕ) (u : Entry) → slice_get units p ≡ Some u → has q u.queues ≡ true → u.live ≡ true
 queued-live it p q u got h =
     elim (cases_Bool u.live) [
@@ -87,7 +92,8 @@ queued-live it p q u got h =
     ]
 
 -- the unit that heads a queue is the one at the first place of its line
-pub head-line : {units : List Entry} {lanes : List Lane} {counts : List ℕ} {nodes : List Bool} {height : ℕ} {places : ℕ × ℕ → Option ℕ} {names : ℕ × List ℕ → Option ℕ}
+pub head-line : {units : List Entry} {lanes : List Lane} {counts : List ℕ} {nodes : List Bool} {height : ℕ} {places : ℕ × ℕ → Option ℕ}
+    {names : ℕ × List ℕ → Option ℕ}
     → IsQueues units lanes counts nodes height places names → (q : ℕ) (w : Lane) → slice_get lanes q ≡ Some w
     → head_of w.key (seen units lanes) ≡ option_map (seen_unit lanes) (option_and_then (λ p. slice_get units p) (slice_get w.line 0))
 head-line {units} {lanes} {counts} {nodes} {height} {places} {names} it q w got =
@@ -102,14 +108,17 @@ head-line {units} {lanes} {counts} {nodes} {height} {places} {names} it q w got 
     ∙ ap (option_map (seen_unit lanes)) (found (slice_get w.line 0) (sym first))
 
 -- two units that are not finished and have one id are at one place
-pub one-place : {units : List Entry} {lanes : List Lane} {counts : List ℕ} {nodes : List Bool} {height : ℕ} {places : ℕ × ℕ → Option ℕ} {names : ℕ × List ℕ → Option ℕ}
+pub one-place : {units : List Entry} {lanes : List Lane} {counts : List ℕ} {nodes : List Bool} {height : ℕ} {places : ℕ × ℕ → Option ℕ}
+    {names : ℕ × List ℕ → Option ℕ}
     → IsQueues units lanes counts nodes height places names → (p r : ℕ) (u v : Entry) → slice_get units p ≡ Some u → slice_get units r ≡ Some v
     → u.live ≡ true → v.live ≡ true → is_tid v.tid u.tid ≡ true → p ≡ r
 one-place {places = places} it p r u v at_p at_r live_u live_v same =
-    same_Some p r (sym (it.placed.placed p u at_p live_u) ∙ ap (λ (t : TidOf). places (number_of t)) (sym (is_tid-true v.tid u.tid same)) ∙ it.placed.placed r v at_r live_v)
+    same_Some p r (sym (it.placed.placed p u at_p live_u) ∙ ap (λ (t : TidOf). places (number_of t)) (sym (is_tid-true v.tid u.tid same))
+    ∙ it.placed.placed r v at_r live_v)
 
 -- of two units that are not finished, one has the id of the other exactly where it is at its place
-pub tid-place : {units : List Entry} {lanes : List Lane} {counts : List ℕ} {nodes : List Bool} {height : ℕ} {places : ℕ × ℕ → Option ℕ} {names : ℕ × List ℕ → Option ℕ}
+pub tid-place : {units : List Entry} {lanes : List Lane} {counts : List ℕ} {nodes : List Bool} {height : ℕ} {places : ℕ × ℕ → Option ℕ}
+    {names : ℕ × List ℕ → Option ℕ}
     → IsQueues units lanes counts nodes height places names → (p r : ℕ) (u v : Entry) → slice_get units p ≡ Some u → slice_get units r ≡ Some v
     → u.live ≡ true → v.live ≡ true → is_tid v.tid u.tid ≡ eqb p r
 tid-place it p r u v at_p at_r live_u live_v =
@@ -125,14 +134,18 @@ first-no [] p e = refl
 first-no (x ∷ xs) p e = absurd (cc)
 
 -- a unit heads a queue exactly where it is the first of its line
-pub heads-is : {units : List Entry} {lanes : List Lane} {counts : List ℕ} {nodes : List Bool} {height : ℕ} {places : ℕ × ℕ → Option ℕ} {names : ℕ × List ℕ → Option ℕ}
-    → IsQueues units lanes counts nodes height places names → (p q : ℕ) (u : Entry) (w : Lane) → slice_get units p ≡ Some u → u.live ≡ true → slice_get lanes q ≡ Some w
+pub heads-is : {units : List Entry} {lanes : List Lane} {counts : List ℕ} {nodes : List Bool} {height : ℕ} {places : ℕ × ℕ → Option ℕ}
+    {names : ℕ × List ℕ → Option ℕ}
+    → IsQueues units lanes counts nodes height places names → (p q : ℕ) (u : Entry) (w : Lane) → slice_get units p ≡ Some u → u.live ≡ true →
+    slice_get lanes q ≡ Some w
     → heads u.tid (seen units lanes) w.key ≡ is_first p w.line
 heads-is {units} {lanes} it p q u w at_p live at_q =
     let head = head-line it q w at_q in
     let line = it.counted.lines q w at_q in
-    let by : (o : Option ℕ) → slice_get w.line 0 ≡ o → has_tid u.tid (option_map (seen_unit lanes) (option_and_then (λ i. slice_get units i) o)) ≡ is_first p w.line =
-    λ o. elim o as (λ o. slice_get w.line 0 ≡ o → has_tid u.tid (option_map (seen_unit lanes) (option_and_then (λ i. slice_get units i) o)) ≡ is_first p w.line) [
+    let by : (o : Option ℕ) → slice_get w.line 0 ≡ o → has_tid u.tid (option_map (seen_unit lanes) (option_and_then (λ i. slice_get units i) o))
+    ≡ is_first p w.line =
+    λ o. elim o as (λ o. slice_get w.line 0 ≡ o → has_tid u.tid (option_map (seen_unit lanes) (option_and_then (λ i. slice_get units i) o))
+    ≡ is_first p w.line) [
       | None ↦ λ e. sym (first-no w.line p e)
       | Some r ↦ λ e.
           let there = first-stands q 0 units r (ap (λ l. slice_get l 0) (sym line) ∙ e) in
@@ -152,8 +165,10 @@ turned false true = refl
 turned false false = refl
 
 -- a queue lets a unit go exactly where it counts for it
-pub lets-is : {units : List Entry} {lanes : List Lane} {counts : List ℕ} {nodes : List Bool} {height : ℕ} {places : ℕ × ℕ → Option ℕ} {names : ℕ × List ℕ → Option ℕ}
-    → IsQueues units lanes counts nodes height places names → (p q : ℕ) (u : Entry) (w : Lane) → slice_get units p ≡ Some u → u.live ≡ true → slice_get lanes q ≡ Some w
+pub lets-is : {units : List Entry} {lanes : List Lane} {counts : List ℕ} {nodes : List Bool} {height : ℕ} {places : ℕ × ℕ → Option ℕ}
+    {names : ℕ × List ℕ → Option ℕ}
+    → IsQueues units lanes counts nodes height places names → (p q : ℕ) (u : Entry) (w : Lane) → slice_get units p ≡ Some u → u.live ≡ true →
+    slice_get lanes q ≡ Some w
     → lets_go u.tid (seen units lanes) w.key ≡ tells p (Some w)
 lets-is {units} {lanes} {names = names} it p q u w at_p live at_q =
     ap (λ b. b && not (is_stopped w.key (seen units lanes))) (heads-is it p q u w at_p live at_q)
@@ -178,7 +193,8 @@ known-later q r qs h = ap (λ b. eqb r q || b) h ∙ either (eqb r q)
 
 -- a test of keys of all queues, as a count of those that pass
 pub all-count : (test : QueueKey → Bool) (lanes : List Lane) (p : ℕ) (qs : List ℕ) → ((r : ℕ) → has r qs ≡ true → r < length lanes)
-    → ((q : ℕ) (w : Lane) → slice_get lanes q ≡ Some w → test w.key ≡ tells p (Some w)) → list_all test (filter_map (key_at lanes) qs) ≡ eqb (count_but None lanes p qs) (length qs)
+    → ((q : ℕ) (w : Lane) → slice_get lanes q ≡ Some w → test w.key ≡ tells p (Some w)) → list_all test (filter_map (key_at lanes) qs)
+    ≡ eqb (count_but None lanes p qs) (length qs)
 all-count test lanes p [] known is = refl
 all-count test lanes p (q ∷ qs) known is =
     let at = slice_get_some lanes q (known q (known-here q qs)) in
@@ -191,7 +207,8 @@ all-count test lanes p (q ∷ qs) known is =
     ∙ ap (λ o. eqb (cond (tells p o) 1 0 + count_but None lanes p qs) (suc (length qs))) (sym at.1)
 
 -- a unit that is not finished may be claimed exactly where its count says so
-pub ready-is : {units : List Entry} {lanes : List Lane} {counts : List ℕ} {nodes : List Bool} {height : ℕ} {places : ℕ × ℕ → Option ℕ} {names : ℕ × List ℕ → Option ℕ}
+pub ready-is : {units : List Entry} {lanes : List Lane} {counts : List ℕ} {nodes : List Bool} {height : ℕ} {places : ℕ × ℕ → Option ℕ}
+    {names : ℕ × List ℕ → Option ℕ}
     → IsQueues units lanes counts nodes height places names → (p : ℕ) (u : Entry) → slice_get units p ≡ Some u → u.live ≡ true
     → may_go (seen units lanes) (seen_unit lanes u) ≡ is_ready (slice_get units p) (slice_get counts p)
 ready-is {units} {lanes} {counts} it p u at_p live =
@@ -199,20 +216,24 @@ ready-is {units} {lanes} {counts} it p u at_p live =
     let at = slice_get_some counts p (omega (arith, within, it.counted.all)) in
     let h : ℕ = at.0 in
     let count = it.counted.counts p u h at_p at.1 in
-    let all = all-count (lets_go u.tid (seen units lanes)) lanes p u.queues (λ r k. it.counted.known p u r at_p k) (λ q w at_q. lets-is it p q u w at_p live at_q) in
+    let all = all-count (lets_go u.tid (seen units lanes)) lanes p u.queues (λ r k. it.counted.known p u r at_p k)
+    (λ q w at_q. lets-is it p q u w at_p live at_q) in
     ap (λ b. is_none u.claim && is_none u.mark && b) (all ∙ ap (λ n. eqb n (length u.queues)) (sym count))
     ∙ ap (λ b. b && is_none u.claim && is_none u.mark && eqb h (length u.queues)) (sym live)
     ∙ ap (λ o. is_ready (Some u) o) (sym at.1)
     ∙ ap (λ o. is_ready o (slice_get counts p)) (sym at_p)
 
-pub offered-at : {units : List Entry} {lanes : List Lane} {counts : List ℕ} {nodes : List Bool} {height : ℕ} {places : ℕ × ℕ → Option ℕ} {names : ℕ × List ℕ → Option ℕ}
-    → IsQueues units lanes counts nodes height places names → (tid : TidOf) (p : ℕ) (u : Entry) → places (number_of tid) ≡ Some p → slice_get units p ≡ Some u → u.live ≡ true
+pub offered-at : {units : List Entry} {lanes : List Lane} {counts : List ℕ} {nodes : List Bool} {height : ℕ} {places : ℕ × ℕ → Option ℕ}
+    {names : ℕ × List ℕ → Option ℕ}
+    → IsQueues units lanes counts nodes height places names → (tid : TidOf) (p : ℕ) (u : Entry) → places (number_of tid) ≡ Some p → slice_get units p ≡ Some u →
+    u.live ≡ true
     → is_offered tid (seen units lanes) ≡ is_ready (slice_get units p) (slice_get counts p)
 offered-at {units} {lanes} {places = places} it tid p u names at_p live =
     ap (λ (o : Option QueuedUnit). option_map_or (may_go (seen units lanes)) o false) (unit_of-here tid units lanes places p u it.placed names at_p live)
     ∙ ready-is it p u at_p live
 
-pub offered-nowhere : {units : List Entry} {lanes : List Lane} {counts : List ℕ} {nodes : List Bool} {height : ℕ} {places : ℕ × ℕ → Option ℕ} {names : ℕ × List ℕ → Option ℕ}
+pub offered-nowhere : {units : List Entry} {lanes : List Lane} {counts : List ℕ} {nodes : List Bool} {height : ℕ} {places : ℕ × ℕ → Option ℕ}
+    {names : ℕ × List ℕ → Option ℕ}
     → IsQueues units lanes counts nodes height places names → (tid : TidOf) → IsNowhere tid units places → is_offered tid (seen units lanes) ≡ false
 offered-nowhere {units} {lanes} {places = places} it tid none =
     ap (λ (o : Option QueuedUnit). option_map_or (may_go (seen units lanes)) o false) (unit_of-gone tid units lanes places it.placed none.nowhere)
@@ -239,16 +260,20 @@ first-told w p told = by w.line (and_parts (not w.stopped) (is_first p w.line) t
     by [] first = absurd (cc)
     by (x ∷ xs) first = ap (λ i. Some i) (sym (eqb-true p x first))
 
-heads-told : {units : List Entry} {lanes : List Lane} {counts : List ℕ} {nodes : List Bool} {height : ℕ} {places : ℕ × ℕ → Option ℕ} {names : ℕ × List ℕ → Option ℕ}
-    → IsQueues units lanes counts nodes height places names → (p q : ℕ) → q < length lanes → tells p (slice_get lanes q) ≡ true → slice_get (standing q 0 units) 0 ≡ Some p
+heads-told : {units : List Entry} {lanes : List Lane} {counts : List ℕ} {nodes : List Bool} {height : ℕ} {places : ℕ × ℕ → Option ℕ}
+    {names : ℕ × List ℕ → Option ℕ}
+    → IsQueues units lanes counts nodes height places names → (p q : ℕ) → q < length lanes → tells p (slice_get lanes q) ≡ true →
+    slice_get (standing q 0 units) 0 ≡ Some p
 heads-told {units} {lanes} it p q known told = by (slice_get_some lanes q known)
   where
     by : (w : Lane) × (slice_get lanes q ≡ Some w) → slice_get (standing q 0 units) 0 ≡ Some p
     by (w, at_q) = ap (λ (l : List ℕ). slice_get l 0) (sym (it.counted.lines q w at_q)) ∙ first-told w p (ap (λ (o : Option Lane). tells p o) (sym at_q) ∙ told)
 
 -- a unit that may be claimed heads all its queues
-pub ready-heads : {units : List Entry} {lanes : List Lane} {counts : List ℕ} {nodes : List Bool} {height : ℕ} {places : ℕ × ℕ → Option ℕ} {names : ℕ × List ℕ → Option ℕ}
-    → IsQueues units lanes counts nodes height places names → (p : ℕ) (u : Entry) → slice_get units p ≡ Some u → is_ready (slice_get units p) (slice_get counts p) ≡ true
+pub ready-heads : {units : List Entry} {lanes : List Lane} {counts : List ℕ} {nodes : List Bool} {height : ℕ} {places : ℕ × ℕ → Option ℕ}
+    {names : ℕ × List ℕ → Option ℕ}
+    → IsQueues units lanes counts nodes height places names → (p : ℕ) (u : Entry) → slice_get units p ≡ Some u →
+    is_ready (slice_get units p) (slice_get counts p) ≡ true
     → HeadsAll p units
 ready-heads {units} {lanes} {counts} it p u at_p ready =
     let within = slice_get_within units p u at_p in
@@ -272,14 +297,17 @@ ready-live (Some u) None ready = absurd (cc)
 ready-live (Some u) (Some h) ready =
     elim (cases_Bool u.live) [
       | inl live ↦ (u, refl, live)
-      | inr dead ↦ absurd (let no = ap (λ b. b && is_none u.claim && is_none u.mark && eqb h (length u.queues)) dead in both_ways (is_ready (Some u) (Some h)) no ready)
+      | inr dead ↦ absurd (let no = ap (λ b. b && is_none u.claim && is_none u.mark && eqb h (length u.queues)) dead in both_ways
+          (is_ready (Some u) (Some h)) no ready)
     ]
 
 -- the unit that may go is there, and is not finished
-pub ready-unit : (units : List Entry) (counts : List ℕ) (p : ℕ) → is_ready (slice_get units p) (slice_get counts p) ≡ true → (u : Entry) × (slice_get units p ≡ Some u) × (u.live ≡ true)
+pub ready-unit : (units : List Entry) (counts : List ℕ) (p : ℕ) → is_ready (slice_get units p) (slice_get counts p) ≡ true →
+    (u : Entry) × (slice_get units p ≡ Some u) × (u.live ≡ true)
 ready-unit units counts p ready = ready-live (slice_get units p) (slice_get counts p) ready
 
-pub find-none : (test : Entry → Bool) (units : List Entry) → ((p : ℕ) (u : Entry) → slice_get units p ≡ Some u → u.live ≡ true → test u ≡ false) → find test (filter is_live units) ≡ None
+pub find-none : (test : Entry → Bool) (units : List Entry) → ((p : ℕ) (u : Entry) → slice_get units p ≡ Some u → u.live ≡ true → test u ≡ false) →
+    find test (filter is_live units) ≡ None
 find-none test [] none = refl
 find-none test (u ∷ us) none =
     let rest = find-none test us (λ p v at_p. none (suc p) v at_p) in
@@ -293,7 +321,8 @@ find-first : (test : Entry → Bool) (units : List Entry) (p : ℕ) (u : Entry) 
 find-first test [] p u at_p live pass none = cc
 find-first test (v ∷ vs) zero u at_p live pass none =
     let e : v ≡ u = cc in
-    rw e (subst (λ b. find test (cond b (u ∷ filter is_live vs) (filter is_live vs)) ≡ Some u) (sym live) (cond-true (test u) (Some u) (find test (filter is_live vs)) pass))
+    rw e (subst (λ b. find test (cond b (u ∷ filter is_live vs) (filter is_live vs)) ≡ Some u) (sym live)
+    (cond-true (test u) (Some u) (find test (filter is_live vs)) pass))
 find-first test (v ∷ vs) (suc p) u at_p live pass none =
     let rest = find-first test vs p u at_p live pass (λ r x less at_r. none (suc r) x (omega arith) at_r) in
     elim v.live as (λ b. v.live ≡ b → find test (cond b (v ∷ filter is_live vs) (filter is_live vs)) ≡ Some u) [
@@ -302,28 +331,35 @@ find-first test (v ∷ vs) (suc p) u at_p live pass none =
     ] refl
 
 -- the first unit by place that may go is the offered unit that was added first
-pub first-offer : {units : List Entry} {lanes : List Lane} {counts : List ℕ} {nodes : List Bool} {height : ℕ} {places : ℕ × ℕ → Option ℕ} {names : ℕ × List ℕ → Option ℕ}
-    → IsQueues units lanes counts nodes height places names → (p : ℕ) (u : Entry) → slice_get units p ≡ Some u → is_ready (slice_get units p) (slice_get counts p) ≡ true
+pub first-offer : {units : List Entry} {lanes : List Lane} {counts : List ℕ} {nodes : List Bool} {height : ℕ} {places : ℕ × ℕ → Option ℕ}
+    {names : ℕ × List ℕ → Option ℕ}
+    → IsQueues units lanes counts nodes height places names → (p : ℕ) (u : Entry) → slice_get units p ≡ Some u →
+    is_ready (slice_get units p) (slice_get counts p) ≡ true
     → ((r : ℕ) → r < p → is_ready (slice_get units r) (slice_get counts r) ≡ false) → first_offered (seen units lanes) ≡ Some u.tid
 first-offer {units} {lanes} {counts} it p u at_p ready none =
     let there = ready-unit units counts p ready in
     let same : there.0 ≡ u = cc (there.1, at_p) in
     let live : u.live ≡ true = ap (λ (v : Entry). v.live) (sym same) ∙ there.2 in
     ap (option_map (λ (unit : QueuedUnit). unit.tid)) (find-map (may_go (seen units lanes)) (seen_unit lanes) (filter is_live units)
-    ∙ ap (option_map (seen_unit lanes)) (find-first (λ (v : Entry). may_go (seen units lanes) (seen_unit lanes v)) units p u at_p live (ready-is it p u at_p live ∙ ready)
+    ∙ ap (option_map (seen_unit lanes)) (find-first (λ (v : Entry). may_go (seen units lanes) (seen_unit lanes v)) units p u at_p live
+    (ready-is it p u at_p live ∙ ready)
     (λ r v less at_r live_v. ready-is it r v at_r live_v ∙ none r less)))
 
 -- where no place may go, no unit is found that may
-pub no-offer : {units : List Entry} {lanes : List Lane} {counts : List ℕ} {nodes : List Bool} {height : ℕ} {places : ℕ × ℕ → Option ℕ} {names : ℕ × List ℕ → Option ℕ}
+pub no-offer : {units : List Entry} {lanes : List Lane} {counts : List ℕ} {nodes : List Bool} {height : ℕ} {places : ℕ × ℕ → Option ℕ}
+    {names : ℕ × List ℕ → Option ℕ}
     → IsQueues units lanes counts nodes height places names → ((r : ℕ) → is_ready (slice_get units r) (slice_get counts r) ≡ false)
     → find (may_go (seen units lanes)) (seen units lanes).units ≡ None
 no-offer {units} {lanes} it none =
     find-map (may_go (seen units lanes)) (seen_unit lanes) (filter is_live units)
-    ∙ ap (option_map (seen_unit lanes)) (find-none (λ (v : Entry). may_go (seen units lanes) (seen_unit lanes v)) units (λ r v at_r live. ready-is it r v at_r live ∙ none r))
+    ∙ ap (option_map (seen_unit lanes)) (find-none (λ (v : Entry). may_go (seen units lanes) (seen_unit lanes v)) units
+    (λ r v at_r live. ready-is it r v at_r live ∙ none r))
 
 -- the unit at a place that may go is offered
-pub offered-place : {units : List Entry} {lanes : List Lane} {counts : List ℕ} {nodes : List Bool} {height : ℕ} {places : ℕ × ℕ → Option ℕ} {names : ℕ × List ℕ → Option ℕ}
-    → IsQueues units lanes counts nodes height places names → (p : ℕ) (u : Entry) → slice_get units p ≡ Some u → is_ready (slice_get units p) (slice_get counts p) ≡ true
+pub offered-place : {units : List Entry} {lanes : List Lane} {counts : List ℕ} {nodes : List Bool} {height : ℕ} {places : ℕ × ℕ → Option ℕ}
+    {names : ℕ × List ℕ → Option ℕ}
+    → IsQueues units lanes counts nodes height places names → (p : ℕ) (u : Entry) → slice_get units p ≡ Some u →
+    is_ready (slice_get units p) (slice_get counts p) ≡ true
     → is_offered u.tid (seen units lanes) ≡ true
 offered-place {units} {counts = counts} it p u at_p ready =
     let there = ready-unit units counts p ready in

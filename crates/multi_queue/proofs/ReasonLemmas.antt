@@ -11,7 +11,8 @@ use Rattle.plain_queues.specs.Queues.{head_of, is_stopped}
 use Rattle.plain_queues.specs.Offered.{behind_head, first_stopped, first_behind, why_not_unit, why_not}
 use Rattle.multi_queue.specs.declared.entry.Entry.{Entry}
 use Rattle.multi_queue.specs.declared.entry.Lane.{Lane}
-use Rattle.multi_queue.specs.Seen.{key_at, seen_unit, seen, number_of, IsQueues, IsNowhere, AreKnown, AreHeaded, stopped_reason, first_stopped_of, head_reason, behind_reason, first_behind_of, why_not_of}
+use Rattle.multi_queue.specs.Seen.{key_at, seen_unit, seen, number_of, IsQueues, IsNowhere, AreKnown, AreHeaded, stopped_reason, first_stopped_of, head_reason}
+use Rattle.multi_queue.specs.Seen.{behind_reason, first_behind_of, why_not_of}
 use Rattle.multi_queue.proofs.CountedLemmas.{slice_get_some, first-stands}
 use Rattle.multi_queue.proofs.SeenLemmas.{unit_of-here, unit_of-gone}
 use Rattle.multi_queue.proofs.OfferLemmas.{stopped-is, head-line, tid-place, queued-live, known-here, known-later}
@@ -37,7 +38,8 @@ module _ {units : List Entry} {lanes : List Lane} {counts : List ℕ} {nodes : L
       let by : (b : Bool) → is_stopped w.key (seen units lanes) ≡ b
       → option_map Stopped (cond b (Some w.key) (find (λ key. is_stopped key (seen units lanes)) (filter_map (key_at lanes) qs)))
       ≡ option_or (cond b (Some (Stopped w.key)) None) (first_stopped_of lanes qs) =
-      λ b. elim b as (λ b. is_stopped w.key (seen units lanes) ≡ b → option_map Stopped (cond b (Some w.key) (find (λ key. is_stopped key (seen units lanes)) (filter_map (key_at lanes) qs)))
+      λ b. elim b as (λ b. is_stopped w.key (seen units lanes) ≡ b →
+      option_map Stopped (cond b (Some w.key) (find (λ key. is_stopped key (seen units lanes)) (filter_map (key_at lanes) qs)))
       ≡ option_or (cond b (Some (Stopped w.key)) None) (first_stopped_of lanes qs))
       [ true ↦ λ e. refl | false ↦ λ e. rest ] in
       ap (λ o. first_stopped (seen units lanes) (cons_option (option_map (λ (lane : Lane). lane.key) o) (filter_map (key_at lanes) qs))) at.1
@@ -51,7 +53,8 @@ module _ {units : List Entry} {lanes : List Lane} {counts : List ℕ} {nodes : L
   behind-one p q u w at_p live at_q =
       let by : (o : Option ℕ) → slice_get w.line 0 ≡ o
       → behind_head u.tid w.key (option_map (seen_unit lanes) (option_and_then (λ i. slice_get units i) o)) ≡ head_reason units p w.key o =
-      λ o. elim o as (λ o. slice_get w.line 0 ≡ o → behind_head u.tid w.key (option_map (seen_unit lanes) (option_and_then (λ i. slice_get units i) o)) ≡ head_reason units p w.key o) [
+      λ o. elim o as (λ o. slice_get w.line 0 ≡ o → behind_head u.tid w.key (option_map (seen_unit lanes) (option_and_then (λ i. slice_get units i) o))
+      ≡ head_reason units p w.key o) [
         | None ↦ λ e. refl
         | Some r ↦ λ e.
             let there = first-stands q 0 units r (ap (λ l. slice_get l 0) (sym (it.counted.lines q w at_q)) ∙ e) in
@@ -81,12 +84,15 @@ module _ {units : List Entry} {lanes : List Lane} {counts : List ℕ} {nodes : L
   pub why-at : (tid : TidOf) (p : ℕ) (u : Entry) → places (number_of tid) ≡ Some p → slice_get units p ≡ Some u → u.live ≡ true
       → why_not tid (seen units lanes) ≡ why_not_of units lanes p u
   why-at tid p u names at_p live =
-      ap (λ (o : Option QueuedUnit). option_map_or (why_not_unit (seen units lanes)) o (Some Unknown)) (unit_of-here tid units lanes places p u it.placed names at_p live)
-      ∙ ap (λ o. option_or (option_map Running u.claim) (option_or (option_map Failed u.mark) (option_or o (first_behind u.tid (seen units lanes) (filter_map (key_at lanes) u.queues)))))
+      ap (λ (o : Option QueuedUnit). option_map_or (why_not_unit (seen units lanes)) o (Some Unknown))
+      (unit_of-here tid units lanes places p u it.placed names at_p live)
+      ∙ ap (λ o. option_or (option_map Running u.claim)
+      (option_or (option_map Failed u.mark) (option_or o (first_behind u.tid (seen units lanes) (filter_map (key_at lanes) u.queues)))))
       (first-stopped u.queues (known-of p u at_p))
       ∙ ap (λ o. option_or (option_map Running u.claim) (option_or (option_map Failed u.mark) (option_or (first_stopped_of lanes u.queues) o)))
       (first-behind p u u.queues at_p live (known-of p u at_p))
 
   pub why-nowhere : (tid : TidOf) → IsNowhere tid units places → why_not tid (seen units lanes) ≡ Some Unknown
   why-nowhere tid none =
-      ap (λ (o : Option QueuedUnit). option_map_or (why_not_unit (seen units lanes)) o (Some Unknown)) (unit_of-gone tid units lanes places it.placed none.nowhere)
+      ap (λ (o : Option QueuedUnit). option_map_or (why_not_unit (seen units lanes)) o (Some Unknown))
+      (unit_of-gone tid units lanes places it.placed none.nowhere)

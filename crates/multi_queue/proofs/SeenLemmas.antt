@@ -2,7 +2,8 @@
 use Rattle.std.specs.Prelude.{filter, find, slice_get, slice_set}
 use Rattle.std.specs.List.{filter_map, cons_option}
 use Rattle.std.specs.Option.{option_map}
-use Rattle.std.proofs.Common.{◌≡◌, ◌<◌, ◌+◌, ℕ, zero, suc, Bool, true, false, ◌||◌, eqb, cond, Option, Some, None, List, [], ◌∷◌, length, map, inl, inr, refl, sym, ap, subst, ◌∙◌, arith}
+use Rattle.std.proofs.Common.{◌≡◌, ◌<◌, ◌+◌, ℕ, zero, suc, Bool, true, false, ◌||◌, eqb, cond, Option, Some, None, List, [], ◌∷◌, length, map, inl, inr, refl}
+use Rattle.std.proofs.Common.{sym, ap, subst, ◌∙◌, arith}
 use Rattle.std.proofs.lemmas.Bool.{cases_Bool, false_from_ne_true, cond-true, cond-false, eq-eqb}
 use Rattle.std.proofs.lemmas.Bool.Decides.{eqb_tells}
 use Rattle.std.proofs.lemmas.Option.{same_Some}
@@ -23,7 +24,8 @@ use Rattle.multi_queue.proofs.CountedLemmas.{slice_get_some}
 -- ---- keys and numbers of queues
 
 -- queues of one key have one number
-pub one_number : (lanes : List Lane) (names : ℕ × List ℕ → Option ℕ) (q r : ℕ) (w v : Lane) → IsNamed lanes names → slice_get lanes q ≡ Some w → slice_get lanes r ≡ Some v
+pub one_number : (lanes : List Lane) (names : ℕ × List ℕ → Option ℕ) (q r : ℕ) (w v : Lane) → IsNamed lanes names → slice_get lanes q ≡ Some w →
+    slice_get lanes r ≡ Some v
     → is_key w.key v.key ≡ true → q ≡ r
 one_number lanes names q r w v it at_q at_r same =
     let first = it.named q w at_q in
@@ -31,7 +33,8 @@ one_number lanes names q r w v it at_q at_r same =
     let key : w.key ≡ v.key = is_key-true w.key v.key same in
     same_Some q r (sym first ∙ ap (λ (k : QueueKey). names (name_of k)) key ∙ second)
 
-same_key : (lanes : List Lane) (names : ℕ × List ℕ → Option ℕ) (q x : ℕ) (w v : Lane) → IsNamed lanes names → slice_get lanes q ≡ Some w → slice_get lanes x ≡ Some v
+same_key : (lanes : List Lane) (names : ℕ × List ℕ → Option ℕ) (q x : ℕ) (w v : Lane) → IsNamed lanes names → slice_get lanes q ≡ Some w →
+    slice_get lanes x ≡ Some v
     → is_key v.key w.key ≡ eqb q x
 same_key lanes names q x w v it at_q at_x =
     elim (eqb_tells q x) [
@@ -73,7 +76,8 @@ pub unit_of-seen : (tid : TidOf) (units : List Entry) (lanes : List Lane)
     → unit_of tid (seen units lanes) ≡ option_map (seen_unit lanes) (find (λ (u : Entry). is_tid u.tid tid) (filter is_live units))
 unit_of-seen tid units lanes = find-map (λ (u : QueuedUnit). is_tid u.tid tid) (seen_unit lanes) (filter is_live units)
 
-find-agree : (p q : Entry → Bool) (units : List Entry) → ((k : ℕ) (u : Entry) → slice_get units k ≡ Some u → p u ≡ q u) → find p (filter is_live units) ≡ find q (filter is_live units)
+find-agree : (p q : Entry → Bool) (units : List Entry) → ((k : ℕ) (u : Entry) → slice_get units k ≡ Some u → p u ≡ q u) →
+    find p (filter is_live units) ≡ find q (filter is_live units)
 find-agree p q [] agree = refl
 find-agree p q (u ∷ us) agree =
     let rest = find-agree p q us (λ k v at_k. agree (suc k) v at_k) in
@@ -83,7 +87,8 @@ find-agree p q (u ∷ us) agree =
     ]
 
 -- the head of a queue, as it is seen
-pub head_of-seen : (units : List Entry) (lanes : List Lane) (names : ℕ × List ℕ → Option ℕ) (q : ℕ) (w : Lane) → IsNamed lanes names → slice_get lanes q ≡ Some w
+pub head_of-seen : (units : List Entry) (lanes : List Lane) (names : ℕ × List ℕ → Option ℕ) (q : ℕ) (w : Lane) → IsNamed lanes names →
+    slice_get lanes q ≡ Some w
     → ((k : ℕ) (u : Entry) (r : ℕ) → slice_get units k ≡ Some u → has r u.queues ≡ true → r < length lanes)
     → head_of w.key (seen units lanes) ≡ option_map (seen_unit lanes) (find (is_in q) (filter is_live units))
 head_of-seen units lanes names q w it at_q known =
@@ -103,7 +108,8 @@ alone-later tid n u us place it = record {
       let e : n + suc p ≡ n + 1 + p = omega arith in it.alone (suc p) v got live same ∙ ap (λ i. Some i) e;
 }
 
-found-at : (tid : TidOf) (n : ℕ) (units : List Entry) (place : Option ℕ) (p : ℕ) (u : Entry) → Alone tid n units place → slice_get units p ≡ Some u → u.live ≡ true
+found-at : (tid : TidOf) (n : ℕ) (units : List Entry) (place : Option ℕ) (p : ℕ) (u : Entry) → Alone tid n units place → slice_get units p ≡ Some u →
+    u.live ≡ true
     → is_tid u.tid tid ≡ true → find (λ (v : Entry). is_tid v.tid tid) (filter is_live units) ≡ Some u
 found-at tid n [] place p u it got live its = cc
 found-at tid n (v ∷ us) place zero u it got live its =
@@ -152,7 +158,8 @@ unit_of-here tid units lanes places p u it names got live =
     let same : there.0 ≡ u = cc (there.1, got) in
     let number : number_of u.tid ≡ number_of tid = subst (λ (v : Entry). number_of v.tid ≡ number_of tid) same there.2 in
     let its : is_tid u.tid tid ≡ true = is_tid-from u.tid tid (λ i. record { system = (number i).0; unit = (number i).1 }) in
-    unit_of-seen tid units lanes ∙ ap (option_map (seen_unit lanes)) (found-at tid 0 units (places (number_of tid)) p u (alone-at tid units places it) got live its)
+    unit_of-seen tid units lanes ∙ ap (option_map (seen_unit lanes))
+    (found-at tid 0 units (places (number_of tid)) p u (alone-at tid units places it) got live its)
 
 -- where the table names a unit that is not live, or none, there is no unit of the id
 pub unit_of-gone : (tid : TidOf) (units : List Entry) (lanes : List Lane) (places : ℕ × ℕ → Option ℕ) → IsPlaced units places
@@ -188,7 +195,8 @@ seen-unchanged change tid lanes (v ∷ us) nowhere =
     ] refl
 
 -- the live unit at a place is changed, and so is the one of its id as it is seen
-seen-set : (change : QueuedUnit → QueuedUnit) (lanes : List Lane) (n : ℕ) (units : List Entry) (p : ℕ) (u v : Entry) (place : Option ℕ) → Alone u.tid n units place
+seen-set : (change : QueuedUnit → QueuedUnit) (lanes : List Lane) (n : ℕ) (units : List Entry) (p : ℕ) (u v : Entry) (place : Option ℕ) →
+    Alone u.tid n units place
     → slice_get units p ≡ Some u → u.live ≡ true → IsFlag u v → seen_unit lanes v ≡ change (seen_unit lanes u)
     → map (seen_unit lanes) (filter is_live (slice_set units p v)) ≡ map (changed_if change u.tid) (map (seen_unit lanes) (filter is_live units))
 seen-set change lanes n [] p u v place it got live flag is = cc
@@ -200,7 +208,8 @@ seen-set change lanes n (w ∷ us) zero u v place it got live flag is =
     let b = it.alone (suc q) x g l s in
     let c : n + 0 ≡ n + suc q = cc in omega arith) in
     ap (λ b. map (seen_unit lanes) (cond b (v ∷ filter is_live us) (filter is_live us))) alive
-    ∙ ap (λ first. first ∷ map (seen_unit lanes) (filter is_live us)) (is ∙ sym (cond-true (is_tid u.tid u.tid) (change (seen_unit lanes u)) (seen_unit lanes u) (is_tid-same u.tid)))
+    ∙ ap (λ first. first ∷ map (seen_unit lanes) (filter is_live us))
+    (is ∙ sym (cond-true (is_tid u.tid u.tid) (change (seen_unit lanes u)) (seen_unit lanes u) (is_tid-same u.tid)))
     ∙ ap (λ l. changed_if change u.tid (seen_unit lanes u) ∷ l) (sym others)
     ∙ sym (ap (λ b. map (changed_if change u.tid) (map (seen_unit lanes) (cond b (u ∷ filter is_live us) (filter is_live us)))) live)
     ∙ ap (λ (y : Entry). map (changed_if change u.tid) (map (seen_unit lanes) (filter is_live (y ∷ us)))) (sym e)
@@ -209,7 +218,8 @@ seen-set change lanes n (w ∷ us) (suc p) u v place it got live flag is =
     elim w.live as (λ b. w.live ≡ b → map (seen_unit lanes) (cond b (w ∷ filter is_live (slice_set us p v)) (filter is_live (slice_set us p v)))
     ≡ map (changed_if change u.tid) (map (seen_unit lanes) (cond b (w ∷ filter is_live us) (filter is_live us)))) [
       | true ↦ λ e. elim (cases_Bool (is_tid w.tid u.tid)) [
-        | inl its ↦ absurd (let a = it.alone 0 w refl e its in let b = it.alone (suc p) u got live (is_tid-same u.tid) in let c : n + 0 ≡ n + suc p = cc in omega arith)
+        | inl its ↦ absurd (let a = it.alone 0 w refl e its in let b = it.alone (suc p) u got live (is_tid-same u.tid) in let c : n + 0
+            ≡ n + suc p = cc in omega arith)
         | inr other ↦ ap (λ l. seen_unit lanes w ∷ l) rest
             ∙ ap (λ first. first ∷ map (changed_if change u.tid) (map (seen_unit lanes) (filter is_live us)))
             (sym (cond-false (is_tid w.tid u.tid) (change (seen_unit lanes w)) (seen_unit lanes w) other))
@@ -218,7 +228,8 @@ seen-set change lanes n (w ∷ us) (suc p) u v place it got live flag is =
     ] refl
 
 -- what is seen after the claim or the mark of a live unit was written
-pub seen-flag : (change : QueuedUnit → QueuedUnit) (units : List Entry) (lanes : List Lane) (places : ℕ × ℕ → Option ℕ) (p : ℕ) (u v : Entry) → IsPlaced units places
+pub seen-flag : (change : QueuedUnit → QueuedUnit) (units : List Entry) (lanes : List Lane) (places : ℕ × ℕ → Option ℕ) (p : ℕ) (u v : Entry) →
+    IsPlaced units places
     → slice_get units p ≡ Some u → u.live ≡ true → IsFlag u v → seen_unit lanes v ≡ change (seen_unit lanes u)
     → seen (slice_set units p v) lanes ≡ changed change u.tid (seen units lanes)
 seen-flag change units lanes places p u v it got live flag is =

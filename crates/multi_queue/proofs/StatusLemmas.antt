@@ -20,7 +20,8 @@ use Rattle.plain_queues.proofs.OfferedLemmas.{is_key-true}
 use Rattle.multi_queue.specs.declared.entry.Entry.{Entry}
 use Rattle.multi_queue.specs.declared.entry.Lane.{Lane}
 use Rattle.multi_queue.specs.Counted.{is_live}
-use Rattle.multi_queue.specs.Seen.{key_at, seen_unit, seen, name_of, IsNamed, IsQueues, AreKnown, first_stopped_of, stopped_reason, status_by_count, status_of_head, status_by_place, status_of_lane}
+use Rattle.multi_queue.specs.Seen.{key_at, seen_unit, seen, name_of, IsNamed, IsQueues, AreKnown, first_stopped_of, stopped_reason, status_by_count}
+use Rattle.multi_queue.specs.Seen.{status_of_head, status_by_place, status_of_lane}
 use Rattle.multi_queue.proofs.CountedLemmas.{slice_get_some, first-stands}
 use Rattle.multi_queue.proofs.SeenLemmas.{find-map}
 use Rattle.multi_queue.proofs.OfferLemmas.{stopped-is, head-line, lets-is, queued-live, known-here, known-later, all-count, find-none}
@@ -56,7 +57,8 @@ no-key : (key : QueueKey) (lanes : List Lane) (qs : List ℕ) → ((q : ℕ) (w 
 no-key key lanes [] none = refl
 no-key key lanes (q ∷ qs) none =
     let rest = no-key key lanes qs none in
-    let by : (o : Option Lane) → slice_get lanes q ≡ o → has_key key (cons_option (option_map (λ (lane : Lane). lane.key) o) (filter_map (key_at lanes) qs)) ≡ false =
+    let by : (o : Option Lane) → slice_get lanes q ≡ o → has_key key (cons_option (option_map (λ (lane : Lane). lane.key) o) (filter_map (key_at lanes) qs))
+    ≡ false =
     λ o. elim o as (λ o. slice_get lanes q ≡ o → has_key key (cons_option (option_map (λ (lane : Lane). lane.key) o) (filter_map (key_at lanes) qs)) ≡ false) [
       | None ↦ λ e. rest
       | Some w ↦ λ e. ap (λ b. b || has_key key (filter_map (key_at lanes) qs)) (none q w e) ∙ rest
@@ -68,12 +70,14 @@ pub no-head : (units : List Entry) (lanes : List Lane) (key : QueueKey) → ((q 
     → head_of key (seen units lanes) ≡ None
 no-head units lanes key none =
     find-map (λ (u : QueuedUnit). has_key key u.keys) (seen_unit lanes) (filter is_live units)
-    ∙ ap (option_map (seen_unit lanes)) (find-none (λ (u : Entry). has_key key (filter_map (key_at lanes) u.queues)) units (λ p u at_p live. no-key key lanes u.queues none))
+    ∙ ap (option_map (seen_unit lanes)) (find-none (λ (u : Entry). has_key key (filter_map (key_at lanes) u.queues)) units
+    (λ p u at_p live. no-key key lanes u.queues none))
 
 -- ---- statuses
 
 -- where no queue is stopped, a unit heads all that let it go
-free-heads : (head stop : QueueKey → Bool) (keys : List QueueKey) → list_any stop keys ≡ false → list_all head keys ≡ list_all (λ key. head key && not (stop key)) keys
+free-heads : (head stop : QueueKey → Bool) (keys : List QueueKey) → list_any stop keys ≡ false →
+    list_all head keys ≡ list_all (λ key. head key && not (stop key)) keys
 free-heads head stop [] none = refl
 free-heads head stop (key ∷ keys) none =
     let parts = or_parts (stop key) (list_any stop keys) none in
@@ -86,7 +90,8 @@ free-heads head stop (key ∷ keys) none =
 
 module _ {units : List Entry} {lanes : List Lane} {counts : List ℕ} {nodes : List Bool} {height : ℕ} {places : ℕ × ℕ → Option ℕ} {names : ℕ × List ℕ → Option ℕ}
     (it : IsQueues units lanes counts nodes height places names) where
-  any-stopped : (qs : List ℕ) → AreKnown qs lanes → list_any (λ key. is_stopped key (seen units lanes)) (filter_map (key_at lanes) qs) ≡ is_some (first_stopped_of lanes qs)
+  any-stopped : (qs : List ℕ) → AreKnown qs lanes → list_any (λ key. is_stopped key (seen units lanes)) (filter_map (key_at lanes) qs)
+      ≡ is_some (first_stopped_of lanes qs)
   any-stopped [] known = refl
   any-stopped (q ∷ qs) known =
       let at = slice_get_some lanes q (known q (known-here q qs)) in
@@ -111,8 +116,10 @@ module _ {units : List Entry} {lanes : List Lane} {counts : List ℕ} {nodes : L
       let head : QueueKey → Bool = λ key. heads u.tid (seen units lanes) key in
       let full = all-count (lets_go u.tid (seen units lanes)) lanes p u.queues known (λ q w at_q. lets-is it p q u w at_p live at_q) in
       let count = it.counted.counts p u n at_p at_n in
-      let by : (b : Bool) → list_any stop keys ≡ b → cond b Waitstop (cond (list_all head keys) Ready Waiting) ≡ cond b Waitstop (cond (eqb n (length u.queues)) Ready Waiting) =
-      λ b. elim b as (λ b. list_any stop keys ≡ b → cond b Waitstop (cond (list_all head keys) Ready Waiting) ≡ cond b Waitstop (cond (eqb n (length u.queues)) Ready Waiting)) [
+      let by : (b : Bool) → list_any stop keys ≡ b → cond b Waitstop (cond (list_all head keys) Ready Waiting)
+      ≡ cond b Waitstop (cond (eqb n (length u.queues)) Ready Waiting) =
+      λ b. elim b as (λ b. list_any stop keys ≡ b → cond b Waitstop (cond (list_all head keys) Ready Waiting)
+      ≡ cond b Waitstop (cond (eqb n (length u.queues)) Ready Waiting)) [
         | true ↦ λ e. refl
         | false ↦ λ e. ap (λ t. cond t Ready Waiting) (free-heads head stop keys e ∙ full ∙ ap (λ i. eqb i (length u.queues)) (sym count))
       ] in
@@ -121,16 +128,19 @@ module _ {units : List Entry} {lanes : List Lane} {counts : List ℕ} {nodes : L
   status-head : (p q n : ℕ) (u : Entry) (w : Lane) → slice_get units p ≡ Some u → slice_get counts p ≡ Some n → u.live ≡ true → slice_get lanes q ≡ Some w
       → status_by_head w.key (seen units lanes) (seen_unit lanes u) ≡ status_of_head lanes w.stopped n u
   status-head p q n u w at_p at_n live at_q =
-      ap (λ b. cond b Stop (cond (is_some u.claim) Running (option_map_or status_of_mark u.mark (status_of_free (seen units lanes) (seen_unit lanes u))))) (stopped-is units lanes names q w it.named at_q)
+      ap (λ b. cond b Stop (cond (is_some u.claim) Running (option_map_or status_of_mark u.mark (status_of_free (seen units lanes) (seen_unit lanes u)))))
+      (stopped-is units lanes names q w it.named at_q)
       ∙ ap (λ s. cond w.stopped Stop (cond (is_some u.claim) Running (option_map_or status_of_mark u.mark s))) (status-free p n u at_p at_n live)
 
   -- the status of the queue of a number
   pub status-lane : (q : ℕ) (w : Lane) → slice_get lanes q ≡ Some w → status_of w.key (seen units lanes) ≡ status_of_lane units lanes counts (Some w)
   status-lane q w at_q =
       let by : (o : Option ℕ) → slice_get w.line 0 ≡ o
-      → option_map (status_by_head w.key (seen units lanes)) (option_map (seen_unit lanes) (option_and_then (λ i. slice_get units i) o)) ≡ option_and_then (status_by_place units lanes counts w.stopped) o =
+      → option_map (status_by_head w.key (seen units lanes)) (option_map (seen_unit lanes) (option_and_then (λ i. slice_get units i) o))
+      ≡ option_and_then (status_by_place units lanes counts w.stopped) o =
       λ o. elim o as (λ o. slice_get w.line 0 ≡ o
-      → option_map (status_by_head w.key (seen units lanes)) (option_map (seen_unit lanes) (option_and_then (λ i. slice_get units i) o)) ≡ option_and_then (status_by_place units lanes counts w.stopped) o) [
+      → option_map (status_by_head w.key (seen units lanes)) (option_map (seen_unit lanes) (option_and_then (λ i. slice_get units i) o))
+      ≡ option_and_then (status_by_place units lanes counts w.stopped) o) [
         | None ↦ λ e. refl
         | Some r ↦ λ e.
             let there = first-stands q 0 units r (ap (λ l. slice_get l 0) (sym (it.counted.lines q w at_q)) ∙ e) in

@@ -1,5 +1,6 @@
 use Rattle.std.specs.Option.{is_none}
-use Rattle.std.specs.Prelude.{◌≡◌, ◌<◌, ◌≤◌, ◌+◌, ℕ, Bool, true, false, not, ◌&&◌, ◌||◌, eqb, cond, slice_set, Option, Some, None, List, [], ◌∷◌, ◌++◌, length, slice_get, is_some, find, take, ◌-◌}
+use Rattle.std.specs.Prelude.{◌≡◌, ◌<◌, ◌≤◌, ◌+◌, ℕ, Bool, true, false, not, ◌&&◌, ◌||◌, eqb, cond, slice_set, Option, Some, None, List, [], ◌∷◌, ◌++◌, length}
+use Rattle.std.specs.Prelude.{slice_get, is_some, find, take, ◌-◌}
 use Rattle.std.specs.Prelude.{◌^◌}
 use Rattle.ale_base.specs.Tid.{TidOf}
 use Rattle.multi_queue.specs.Bits.{IsTreeBut, bit}

@@ -3,7 +3,8 @@ use Rattle.std.specs.Prelude.{nat_eq, slice_get}
 use Rattle.std.specs.List.{AllByRecursion, IsDistinct, list_any}
 use Rattle.std.specs.Option.{option_map}
 use Rattle.std.specs.Cmp.Lexicographic.{bytes_decides}
-use Rattle.std.proofs.Common.{◌≡◌, ℕ, zero, suc, ◌+◌, ◌<◌, ◌&&◌, ◌||◌, not, Bool, true, false, Some, List, [], ◌∷◌, ◌++◌, length, map, take, get_or, refl, sym, ap, ◌∙◌, inl, inr, append_assoc, arith}
+use Rattle.std.proofs.Common.{◌≡◌, ℕ, zero, suc, ◌+◌, ◌<◌, ◌&&◌, ◌||◌, not, Bool, true, false, Some, List, [], ◌∷◌, ◌++◌, length, map, take, get_or, refl, sym}
+use Rattle.std.proofs.Common.{ap, ◌∙◌, inl, inr, append_assoc, arith}
 use Rattle.std.proofs.lemmas.Bool.{cases_Bool, false≢true}
 use Rattle.std.proofs.lemmas.Bool.Decides.{nat_tests}
 use Rattle.std.proofs.lemmas.List.{map_push, take_more, take-map}
@@ -29,14 +30,16 @@ or_false_parts : (a b : Bool) → (a || b) ≡ false → (a ≡ false) × (b ≡
 or_false_parts false b none = (refl, none)
 or_false_parts true b none = absurd (false≢true (sym none))
 
-apart_from : {K : Type 0} (same : K → K → Bool) → Symmetric same → (k : K) (ks : List K) → list_any (same k) ks ≡ false → AllByRecursion (λ other. AllByRecursion (λ y. same other y ≡ false) (k ∷ [])) ks
+apart_from : {K : Type 0} (same : K → K → Bool) → Symmetric same → (k : K) (ks : List K) → list_any (same k) ks ≡ false →
+    AllByRecursion (λ other. AllByRecursion (λ y. same other y ≡ false) (k ∷ [])) ks
 apart_from same symmetric k [] none = tt
 apart_from same symmetric k (other ∷ ks) none =
     let parts = or_false_parts (same k other) (list_any (same k) ks) none in
     ((symmetric k other parts.0, tt), apart_from same symmetric k ks parts.1)
 
 -- keys that differ, and one more that none of them is
-pub IsDistinct-push : {K : Type 0} (same : K → K → Bool) → Symmetric same → (ks : List K) (k : K) → IsDistinct same ks → list_any (same k) ks ≡ false → IsDistinct same (ks ++ k ∷ [])
+pub IsDistinct-push : {K : Type 0} (same : K → K → Bool) → Symmetric same → (ks : List K) (k : K) → IsDistinct same ks → list_any (same k) ks ≡ false →
+    IsDistinct same (ks ++ k ∷ [])
 unfolding IsDistinct
 IsDistinct-push same symmetric ks k apart new = IsDistinct-append same ks (k ∷ []) apart (apart_from same symmetric k ks new) (tt, tt)
 
@@ -64,7 +67,8 @@ module _ {K : Type 0} (same : K → K → Bool) (symmetric : Symmetric same) whe
       rw (symmetric first k (AllByRecursion-at (λ other. same first other ≡ false) ks i k apart.0 here)) (new_at ks i k apart.1 here)
 
   -- nor any of those before the list
-  pub new_behind : (before ks : List K) (i : ℕ) (k : K) → IsDistinct same (before ++ ks) → slice_get ks i ≡ Some k → list_any (same k) (before ++ take i ks) ≡ false
+  pub new_behind : (before ks : List K) (i : ℕ) (k : K) → IsDistinct same (before ++ ks) → slice_get ks i ≡ Some k →
+      list_any (same k) (before ++ take i ks) ≡ false
   unfolding IsDistinct
   new_behind [] ks i k apart here = new_at ks i k apart here
   new_behind (first ∷ before) ks i k apart here =
@@ -72,11 +76,13 @@ module _ {K : Type 0} (same : K → K → Bool) (symmetric : Symmetric same) whe
       rw (symmetric first k (AllByRecursion-at (λ other. same first other ≡ false) ks i k all here)) (new_behind before ks i k apart.1 here)
 
 -- the keys of one more item of a list
-pub keys_more : {A K : Type 0} (key : A → K) (xs : List A) (i : ℕ) (x : A) → x ≡ get_or xs i x → i < length xs → map key (take (i + 1) xs) ≡ map key (take i xs) ++ key x ∷ []
+pub keys_more : {A K : Type 0} (key : A → K) (xs : List A) (i : ℕ) (x : A) → x ≡ get_or xs i x → i < length xs → map key (take (i + 1) xs) ≡ map key (take i xs)
+    ++ key x ∷ []
 keys_more key xs i x is within = ap (map key) (take_more xs i x within ∙ ap (λ y. take i xs ++ y ∷ []) (sym is)) ∙ map_push key (take i xs) x
 
 -- a table of the keys so far, behind others, to which the key of the next item is added
-pub added_next : {A K : Type 0} (same : K → K → Bool) → Symmetric same → (key : A → K) (xs : List A) (i : ℕ) (x : A) (k : K) (before old new : List K) (is_new : Bool)
+pub added_next : {A K : Type 0} (same : K → K → Bool) → Symmetric same →
+    (key : A → K) (xs : List A) (i : ℕ) (x : A) (k : K) (before old new : List K) (is_new : Bool)
     → IsDistinct same (before ++ map key xs) → x ≡ get_or xs i x → k ≡ key x → i < length xs → old ≡ before ++ map key (take i xs)
     → is_new ≡ not (list_any (same k) old) → (is_new ≡ true → new ≡ old ++ k ∷ []) → new ≡ before ++ map key (take (i + 1) xs)
 added_next same symmetric key xs i x k before old new is_new apart is keyed within so_far tells adds =
@@ -84,5 +90,6 @@ added_next same symmetric key xs i x k before old new is_new apart is keyed with
     slice_get-map key xs i ∙ ap (λ o. option_map key o) (slice_get-get_or xs i x within) ∙ ap (λ y. Some (key y)) (sym is) ∙ ap Some (sym keyed) in
     let fresh : list_any (same k) old ≡ false =
     ap (list_any (same k)) (so_far ∙ ap (λ ks. before ++ ks) (sym (take-map key i xs))) ∙ new_behind same symmetric before (map key xs) i k apart here in
-    let more : map key (take (i + 1) xs) ≡ map key (take i xs) ++ k ∷ [] = keys_more key xs i x is within ∙ ap (λ y. map key (take i xs) ++ y ∷ []) (sym keyed) in
+    let more : map key (take (i + 1) xs) ≡ map key (take i xs) ++ k ∷ [] = keys_more key xs i x is within
+    ∙ ap (λ y. map key (take i xs) ++ y ∷ []) (sym keyed) in
     adds (tells ∙ ap not fresh) ∙ ap (λ ks. ks ++ k ∷ []) so_far ∙ append_assoc before (map key (take i xs)) (k ∷ []) ∙ ap (λ ks. before ++ ks) (sym more)

@@ -35,7 +35,8 @@ module _ {K X : Type 0} (f : K → List ℕ) where
   pub remove-by_text : (text : List ℕ) (entries : List (K × X))
       → by_text (remove_entry (is_at (λ key. slice_cmp nat_cmp text (f key))) entries) ≡ without_entry text (by_text entries)
   remove-by_text text [] = refl
-  remove-by_text text (entry ∷ entries) = step (is_at (λ key. slice_cmp nat_cmp text (f key)) entry.0) (is_text text (f entry.0)) (is_eq-slice_cmp text (f entry.0)) (remove-by_text text entries)
+  remove-by_text text (entry ∷ entries) = step (is_at (λ key. slice_cmp nat_cmp text (f key)) entry.0) (is_text text (f entry.0))
+      (is_eq-slice_cmp text (f entry.0)) (remove-by_text text entries)
     where
       step : (at its : Bool) → at ≡ its
           → by_text (remove_entry (is_at (λ key. slice_cmp nat_cmp text (f key))) entries) ≡ without_entry text (by_text entries)
@@ -54,8 +55,10 @@ module _ {K X : Type 0} (f : K → List ℕ) where
     where
       step : (order : Ordering)
           → by_text (insert_entry (λ a b. slice_cmp nat_cmp (f a) (f b)) entries key value) ≡ with_entry (f key) value (by_text entries)
-          → by_text (match_ordering order ((key, value) ∷ entry ∷ entries) ((entry.0, value) ∷ entries) (entry ∷ insert_entry (λ a b. slice_cmp nat_cmp (f a) (f b)) entries key value))
-          ≡ match_ordering order ((f key, value) ∷ (f entry.0, entry.1) ∷ by_text entries) ((f entry.0, value) ∷ by_text entries) ((f entry.0, entry.1) ∷ with_entry (f key) value (by_text entries))
+          → by_text (match_ordering order ((key, value) ∷ entry ∷ entries) ((entry.0, value) ∷ entries)
+          (entry ∷ insert_entry (λ a b. slice_cmp nat_cmp (f a) (f b)) entries key value))
+          ≡ match_ordering order ((f key, value) ∷ (f entry.0, entry.1) ∷ by_text entries) ((f entry.0, value) ∷ by_text entries)
+          ((f entry.0, entry.1) ∷ with_entry (f key) value (by_text entries))
       step Less rest = refl
       step Equal rest = refl
       step Greater rest = ap (λ others. (f entry.0, entry.1) ∷ others) rest
@@ -66,7 +69,8 @@ module _ {K X : Type 0} (f : K → List ℕ) where
       → lookup (is_at (λ key. slice_cmp nat_cmp text (f key))) entries ≡ None
   not-after text first [] less all = refl
   not-after text first (entry ∷ entries) less all =
-      ap (λ order. cond (is_eq order) (Some entry.1) (lookup (is_at (λ key. slice_cmp nat_cmp text (f key))) entries)) (texts_total.trans text first (f entry.0) less all.0)
+      ap (λ order. cond (is_eq order) (Some entry.1) (lookup (is_at (λ key. slice_cmp nat_cmp text (f key))) entries))
+      (texts_total.trans text first (f entry.0) less all.0)
       ∙ not-after text first entries less all.1
 
   -- what is written at a text that is there is an entry in the place of that, since those before it are below it
@@ -76,7 +80,8 @@ module _ {K X : Type 0} (f : K → List ℕ) where
       → by_text (set_value (is_at (λ key. slice_cmp nat_cmp text (f key))) entries value) ≡ with_entry text value (by_text entries)
   set-by_text text value [] sorted there = absurd (cc)
   set-by_text text value (entry ∷ entries) sorted there =
-      step (slice_cmp nat_cmp text (f entry.0)) refl (set-by_text text value entries (sorted_tail (λ a b. slice_cmp nat_cmp (f a) (f b)) entry.0 (keys_of entries) sorted)) there
+      step (slice_cmp nat_cmp text (f entry.0)) refl
+      (set-by_text text value entries (sorted_tail (λ a b. slice_cmp nat_cmp (f a) (f b)) entry.0 (keys_of entries) sorted)) there
     where
       its : K → Bool
       its = is_at (λ key. slice_cmp nat_cmp text (f key))
@@ -85,7 +90,8 @@ module _ {K X : Type 0} (f : K → List ℕ) where
           → (IsSome (lookup its entries) → by_text (set_value its entries value) ≡ with_entry text value (by_text entries))
           → IsSome (cond (is_eq order) (Some entry.1) (lookup its entries))
           → by_text (cond (is_eq order) ((entry.0, value) ∷ entries) (entry ∷ set_value its entries value))
-          ≡ match_ordering order ((text, value) ∷ (f entry.0, entry.1) ∷ by_text entries) ((f entry.0, value) ∷ by_text entries) ((f entry.0, entry.1) ∷ with_entry text value (by_text entries))
+          ≡ match_ordering order ((text, value) ∷ (f entry.0, entry.1) ∷ by_text entries) ((f entry.0, value) ∷ by_text entries)
+          ((f entry.0, entry.1) ∷ with_entry text value (by_text entries))
       step Less less rest there =
           let none = not-after text (f entry.0) entries less (sorted_head (λ a b. slice_cmp nat_cmp (f a) (f b)) entry.0 (keys_of entries) sorted) in
           let there_is : IsSome {T = X} None = subst IsSome none there in
@@ -118,6 +124,7 @@ module _ {K X : Type 0} (f : K → List ℕ) where
   map-by_text g [] = refl
   map-by_text g (entry ∷ entries) = ap (λ rest. g (f entry.0, entry.1) ∷ rest) (map-by_text g entries)
 
-  pub flat_map-by_text : {Y : Type 0} (g : List ℕ × X → List Y) (entries : List (K × X)) → flat_map (λ entry. g (f entry.0, entry.1)) entries ≡ flat_map g (by_text entries)
+  pub flat_map-by_text : {Y : Type 0} (g : List ℕ × X → List Y) (entries : List (K × X)) → flat_map (λ entry. g (f entry.0, entry.1)) entries
+      ≡ flat_map g (by_text entries)
   flat_map-by_text g [] = refl
   flat_map-by_text g (entry ∷ entries) = ap (λ rest. g (f entry.0, entry.1) ++ rest) (flat_map-by_text g entries)

@@ -2,7 +2,8 @@
 use Rattle.std.specs.Prelude.{fold, nat_eq, ◌&&◌}
 use Rattle.std.specs.List.{AllByRecursion, flat_map}
 use Rattle.std.specs.Option.{option_map_or}
-use Rattle.std.proofs.Common.{◌≡◌, ◌⊎◌, inl, inr, ℕ, suc, ◌+◌, ◌<◌, ◌≤◌, Option, Some, None, List, [], ◌∷◌, ◌++◌, length, take, false, refl, ap, sym, ◌∙◌, subst, arith, Bool, length-append, get_or}
+use Rattle.std.proofs.Common.{◌≡◌, ◌⊎◌, inl, inr, ℕ, suc, ◌+◌, ◌<◌, ◌≤◌, Option, Some, None, List, [], ◌∷◌, ◌++◌, length, take, false, refl, ap, sym, ◌∙◌}
+use Rattle.std.proofs.Common.{subst, arith, Bool, length-append, get_or}
 use Rattle.std.proofs.lemmas.List.{take_more, map-append}
 use Rattle.std.proofs.lemmas.Bool.Decides.{leb_tells}
 use Rattle.std.proofs.lemmas.Bool.{cond-false, eqb-true, false_from_ne_true}
@@ -21,7 +22,8 @@ use Rattle.outbound_build.specs.declared.added.OutUnit.{OutUnit}
 use Rattle.outbound_build.specs.declared.batch.Batch.{Batch}
 use Rattle.outbound_build.specs.declared.committing.Behind.{Behind}
 use Rattle.outbound_build.specs.declared.outbox.Outbox.{Outbox}
-use Rattle.outbound_build.specs.Added.{added_by, after, batch_of, master_of, no_batch, numbered, packed_for, rows_of, sent_of, units_with, with_master, with_row, with_rows, Master}
+use Rattle.outbound_build.specs.Added.{added_by, after, batch_of, master_of, no_batch, numbered, packed_for, rows_of, sent_of, units_with, with_master}
+use Rattle.outbound_build.specs.Added.{with_row, with_rows, Master}
 use Rattle.outbound_build.specs.Committed.{Past, IsFirstAbove, adds, no_more, past_after, past_of, units_behind, units_of}
 use Rattle.outbound_build.specs.steps.Behind.{begun, kept_of, more_of, with_more}
 use Rattle.outbound_build.proofs.NumberLemmas.{length-numbered}

@@ -3,7 +3,8 @@ use Rattle.std.specs.Prelude.{slice_get, option_and_then, IsTrue, nat_le, ◌&&�
 use Rattle.std.specs.Char.{is_ascii_digit}
 use Rattle.std.specs.List.{AllByRecursion, list_all}
 use Rattle.std.specs.Option.{option_map_or}
-use Rattle.std.proofs.Common.{◌≡◌, ◌⊎◌, inl, inr, ℕ, zero, suc, ◌≤◌, Option, Some, None, Bool, List, [], ◌∷◌, ◌++◌, length, take, get_or, true, refl, ap, sym, ◌∙◌, arith}
+use Rattle.std.proofs.Common.{◌≡◌, ◌⊎◌, inl, inr, ℕ, zero, suc, ◌≤◌, Option, Some, None, Bool, List, [], ◌∷◌, ◌++◌, length, take, get_or, true, refl, ap, sym}
+use Rattle.std.proofs.Common.{◌∙◌, arith}
 use Rattle.std.proofs.lemmas.Bool.{leb-true, and_parts, cases_Bool, cond-true, cond-false}
 use Rattle.std.proofs.lemmas.Bool.Decides.{nat_tests}
 use Rattle.std.proofs.lemmas.List.{take_more}
@@ -11,7 +12,8 @@ use Rattle.std.proofs.lemmas.List.Folds.{list_all-append}
 use Rattle.std.proofs.lemmas.List.Sums.{fold_push}
 use Rattle.ale_base.specs.Blanks.{trimmed, before_trimmed}
 use Rattle.idoc_record.specs.declared.control_field.ControlField.{ControlField}
-use Rattle.idoc_record.specs.declared.control_field.ControlField.TheVariants.{Tabnam, Mandt, Docnum, Direct, Idoctyp, Mestyp, Mescod, Mesfct, Sndprn, Rcvpor, Rcvprn, Credat, Cretim, Refint, Refgrp, Refmes, Arckey, Serial}
+use Rattle.idoc_record.specs.declared.control_field.ControlField.TheVariants.{Tabnam, Mandt, Docnum, Direct, Idoctyp, Mestyp, Mescod, Mesfct, Sndprn, Rcvpor}
+use Rattle.idoc_record.specs.declared.control_field.ControlField.TheVariants.{Rcvprn, Credat, Cretim, Refint, Refgrp, Refmes, Arckey, Serial}
 use Rattle.idoc_record.specs.declared.control_field.TheConstants.ControlField.{ALL}
 use Rattle.idoc_record.specs.ControlField.{span_of, all_fields}
 use Rattle.idoc_record.specs.Parts.{with_text}

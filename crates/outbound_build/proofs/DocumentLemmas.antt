@@ -1,7 +1,8 @@
 -- Every outbound document of a log: its number.
 use Rattle.std.specs.Prelude.{⊤, fold, slice_get, ◌==◌, if◌then◌else◌}
 use Rattle.std.specs.Option.{option_map_or}
-use Rattle.std.proofs.Common.{◌≡◌, ℕ, zero, suc, ◌+◌, Bool, true, false, Option, Some, None, Result, Ok, Err, List, [], ◌∷◌, ◌++◌, length, refl, ◌∙◌, subst, arith}
+use Rattle.std.proofs.Common.{◌≡◌, ℕ, zero, suc, ◌+◌, Bool, true, false, Option, Some, None, Result, Ok, Err, List, [], ◌∷◌, ◌++◌, length, refl, ◌∙◌, subst}
+use Rattle.std.proofs.Common.{arith}
 use Rattle.ale_base.specs.declared.queue_name.NameFault.{NameFault}
 use Rattle.dist_model.specs.declared.lists.Lists.{Lists}
 use Rattle.dist_model.specs.declared.outbound.Outbound.{Outbound}
@@ -20,7 +21,8 @@ use Rattle.outbound_build.specs.declared.queue_lists.QueueLists.{QueueLists}
 use Rattle.outbound_build.specs.Document.{Document, carried}
 use Rattle.outbound_build.specs.QueueNames.{queues_by}
 use Rattle.outbound_build.specs.Sent.{sent}
-use Rattle.outbound_build.specs.Added.{Master, added_by, batch_of, master_of, no_batch, parcel_of, with_document, with_master, with_row, with_rows, with_sent, with_unit}
+use Rattle.outbound_build.specs.Added.{Master, added_by, batch_of, master_of, no_batch, parcel_of, with_document, with_master, with_row, with_rows, with_sent}
+use Rattle.outbound_build.specs.Added.{with_unit}
 use Rattle.outbound_build.specs.Committed.{Past, adds, documents_of, no_more, past_of}
 use Rattle.outbound_build.proofs.LogLemmas.{IsCounted, counted-after, past-keeps}
 

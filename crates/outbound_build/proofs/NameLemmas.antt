@@ -1,7 +1,8 @@
 -- Names of queues: which texts are names, and the first fault of others.
 use Rattle.std.specs.Prelude.{◌&&◌, not, nat_le, nat_lt, position}
 use Rattle.std.specs.Option.{option_map, option_map_or, option_or}
-use Rattle.std.proofs.Common.{◌≡◌, inl, inr, ℕ, zero, suc, ◌<◌, Bool, true, false, get_or, Option, Some, None, Ok, Err, List, [], ◌∷◌, ◌++◌, length, refl, ap, ◌∙◌, arith}
+use Rattle.std.proofs.Common.{◌≡◌, inl, inr, ℕ, zero, suc, ◌<◌, Bool, true, false, get_or, Option, Some, None, Ok, Err, List, [], ◌∷◌, ◌++◌, length, refl, ap}
+use Rattle.std.proofs.Common.{◌∙◌, arith}
 use Rattle.std.proofs.lemmas.Bool.{le-ltb, lt-ltb, le-leb, leb-true, cases_Bool, cond-true, cond-false}
 use Rattle.ale_base.specs.QueueName.{IsNameByte, IsQueueName, HasFault}
 use Rattle.ale_base.specs.declared.queue_name.NameFault.{NameFault}

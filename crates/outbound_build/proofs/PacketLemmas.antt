@@ -1,7 +1,8 @@
 -- Documents cut in packets.
 use Rattle.std.specs.Prelude.{◌/◌, ◌*◌, ◌==◌, slice_get, slice_set}
 use Rattle.std.specs.List.{range_with_len}
-use Rattle.std.proofs.Common.{◌≡◌, ◌⊎◌, inl, inr, ℕ, zero, suc, ◌+◌, ◌-◌, ◌<◌, ◌≤◌, List, [], ◌∷◌, length, take, drop, map, refl, ap, sym, ◌∙◌, arith, ◌++◌, Some, get_or, length-drop, length-set, nat_le, true, false, subst}
+use Rattle.std.proofs.Common.{◌≡◌, ◌⊎◌, inl, inr, ℕ, zero, suc, ◌+◌, ◌-◌, ◌<◌, ◌≤◌, List, [], ◌∷◌, length, take, drop, map, refl, ap, sym, ◌∙◌, arith, ◌++◌}
+use Rattle.std.proofs.Common.{Some, get_or, length-drop, length-set, nat_le, true, false, subst}
 use Rattle.std.proofs.lemmas.Bool.{eqb-false}
 use Rattle.std.proofs.lemmas.Bool.Decides.{leb_tells, eqb_tells}
 use Rattle.std.proofs.lemmas.Option.{same_Some}

@@ -2,7 +2,8 @@
 use Rattle.std.specs.Prelude.{fold, nat_eq, map, Contains, ◌==◌, if◌then◌else◌}
 use Rattle.std.specs.List.{AllByRecursion}
 use Rattle.std.specs.Option.{option_map_or}
-use Rattle.std.proofs.Common.{◌≡◌, ℕ, zero, suc, ◌+◌, ◌≤◌, Bool, true, false, Option, Some, None, Result, Ok, Err, List, [], ◌∷◌, ◌++◌, length, drop, refl, ap, sym, ◌∙◌, subst, arith, length-drop}
+use Rattle.std.proofs.Common.{◌≡◌, ℕ, zero, suc, ◌+◌, ◌≤◌, Bool, true, false, Option, Some, None, Result, Ok, Err, List, [], ◌∷◌, ◌++◌, length, drop, refl, ap}
+use Rattle.std.proofs.Common.{sym, ◌∙◌, subst, arith, length-drop}
 use Rattle.std.proofs.lemmas.Bool.{and_parts, eqb-true}
 use Rattle.std.proofs.lemmas.List.{length-take, length-map}
 use Rattle.ale_base.proofs.ListLemmas.{AllByRecursion-append, AllByRecursion-flat_map, AllByRecursion-map, AllByRecursion-weaker}
@@ -25,7 +26,8 @@ use Rattle.outbound_build.specs.declared.added.Fate.TheVariants.{Waits}
 use Rattle.outbound_build.specs.Document.{Document, carried}
 use Rattle.outbound_build.specs.QueueNames.{first_fault, named_by, named_once, queues_by, queues_named}
 use Rattle.outbound_build.specs.Sent.{sent}
-use Rattle.outbound_build.specs.Added.{Master, batch_of, collected_queues, dispatched, master_of, no_batch, packed, packed_for, packets, parcel_of, rows_of, unit_of, waiting_for, with_document, with_master, with_row, with_rows, with_sent, with_unit}
+use Rattle.outbound_build.specs.Added.{Master, batch_of, collected_queues, dispatched, master_of, no_batch, packed, packed_for, packets, parcel_of, rows_of}
+use Rattle.outbound_build.specs.Added.{unit_of, waiting_for, with_document, with_master, with_row, with_rows, with_sent, with_unit}
 use Rattle.outbound_build.specs.Units.{AreQueues, IsModelOf, IsSendable}
 use Rattle.outbound_build.proofs.OnceLemmas.{once-AreQueues}
 use Rattle.outbound_build.proofs.PacketLemmas.{packets-first, packets-none}

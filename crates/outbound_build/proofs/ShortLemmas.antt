@@ -2,7 +2,8 @@
 use Rattle.std.specs.Prelude.{fold, map, filter, take, drop, slice_get, ◌==◌, ◌*◌, option_and_then, if◌then◌else◌}
 use Rattle.std.specs.List.{AllByRecursion, cons_option, range_with_len}
 use Rattle.std.specs.Option.{option_map_or}
-use Rattle.std.proofs.Common.{◌≡◌, ℕ, zero, suc, ◌+◌, ◌≤◌, Bool, true, false, Option, Some, None, Result, Ok, Err, List, [], ◌∷◌, length, refl, ap, subst, arith}
+use Rattle.std.proofs.Common.{◌≡◌, ℕ, zero, suc, ◌+◌, ◌≤◌, Bool, true, false, Option, Some, None, Result, Ok, Err, List, [], ◌∷◌, length, refl, ap, subst}
+use Rattle.std.proofs.Common.{arith}
 use Rattle.std.proofs.lemmas.List.{length-map}
 use Rattle.ale_base.proofs.ListLemmas.{AllByRecursion-append, AllByRecursion-at, AllByRecursion-flat_map, AllByRecursion-map, AllByRecursion-of}
 use Rattle.ale_base.specs.declared.queue_name.NameFault.{NameFault}
@@ -34,7 +35,9 @@ use Rattle.outbound_build.specs.ControlRecord.{type_name}
 use Rattle.outbound_build.specs.Document.{Document, carried}
 use Rattle.outbound_build.specs.QueueNames.{queues_by}
 use Rattle.outbound_build.specs.Sent.{sent}
-use Rattle.outbound_build.specs.Added.{Master, added_by, batch_of, built_master, dispatched, may_be_of, no_batch, numbered, packed, packed_for, packet_count, packets, read_as, rows_of, still_waiting, waiting_for, waits_as, waits_of, with_document, with_master, with_row, with_rows, with_sent, with_unit}
+use Rattle.outbound_build.specs.Added.{Master, added_by, batch_of, built_master, dispatched, may_be_of, no_batch, numbered, packed, packed_for, packet_count}
+use Rattle.outbound_build.specs.Added.{packets, read_as, rows_of, still_waiting, waiting_for, waits_as, waits_of, with_document, with_master, with_row}
+use Rattle.outbound_build.specs.Added.{with_rows, with_sent, with_unit}
 use Rattle.outbound_build.specs.Committed.{Past, adds, no_more, no_past, past_after, past_of, units_of}
 use Rattle.outbound_build.specs.Units.{HasShort, IsShort}
 use Rattle.outbound_build.proofs.SizeLemmas.{size, size-built, size-sent}

@@ -3,7 +3,9 @@
 use Rattle.std.specs.Prelude.{ℕ, ◌+◌, ◌-◌, List, [], ◌∷◌, Option, option_and_then, slice_get, codes}
 use Rattle.std.specs.Option.{option_map_or}
 use Rattle.idoc_record.specs.declared.control_field.ControlField.{ControlField}
-use Rattle.idoc_record.specs.declared.control_field.ControlField.TheVariants.{Tabnam, Mandt, Docnum, Status, Direct, Outmod, Idoctyp, Mestyp, Mescod, Mesfct, Sndprt, Sndprn, Rcvpor, Rcvprt, Rcvprn, Credat, Cretim, Refint, Refgrp, Refmes, Arckey, Serial}
+use Rattle.idoc_record.specs.declared.control_field.ControlField.TheVariants.{Tabnam, Mandt, Docnum, Status, Direct, Outmod, Idoctyp, Mestyp, Mescod, Mesfct}
+use Rattle.idoc_record.specs.declared.control_field.ControlField.TheVariants.{Sndprt, Sndprn, Rcvpor, Rcvprt, Rcvprn, Credat, Cretim, Refint, Refgrp, Refmes}
+use Rattle.idoc_record.specs.declared.control_field.ControlField.TheVariants.{Arckey, Serial}
 use Rattle.idoc_record.specs.Control.{field_of}
 use Rattle.idoc_record.specs.Digits.{decimal_digits}
 use Rattle.dist_model.specs.declared.lists.Lists.{Lists}

@@ -1,6 +1,7 @@
 -- The queues that a document is in, by the rules of its profile. Queues are those of SAP's queued RFC; the rules are this
 -- project's own.
-use Rattle.std.specs.Prelude.{ℕ, ◌==◌, ◌&&◌, ◌||◌, Bool, true, false, not, List, [], ◌∷◌, ◌++◌, length, map, find, fold, position, nat_le, nat_lt, Option, Some, None, Result, Ok, Err, if◌then◌else◌}
+use Rattle.std.specs.Prelude.{ℕ, ◌==◌, ◌&&◌, ◌||◌, Bool, true, false, not, List, [], ◌∷◌, ◌++◌, length, map, find, fold, position, nat_le, nat_lt, Option, Some}
+use Rattle.std.specs.Prelude.{None, Result, Ok, Err, if◌then◌else◌}
 use Rattle.std.specs.Option.{option_map, option_map_or, option_or}
 use Rattle.ale_base.specs.declared.queue_name.NameFault.{NameFault}
 use Rattle.ale_base.specs.declared.queue_name.NameFault.TheVariants.{TooLong, BadByte}

@@ -11,7 +11,8 @@ pub Gets-nothing : (table : List (List Status)) → Gets (λ doc. []) table tabl
 Gets-nothing table = record { got = λ doc. sym (append-nil (statuses_of doc table)) }
 
 -- the same, told otherwise
-pub Gets-same : (more others : ℕ → List Status) (before after : List (List Status)) → ((doc : ℕ) → more doc ≡ others doc) → Gets more before after → Gets others before after
+pub Gets-same : (more others : ℕ → List Status) (before after : List (List Status)) → ((doc : ℕ) → more doc ≡ others doc) → Gets more before after →
+    Gets others before after
 Gets-same more others before after same gets = record { got = λ doc. gets.got doc ∙ ap (λ (m : List Status). statuses_of doc before ++ m) (same doc) }
 
 -- documents get some, and then others
@@ -27,5 +28,6 @@ one_of true had more = refl
 one_of false had more = sym (append-nil had)
 
 -- one document gets some
-pub Gets-one : (number : ℕ) (more : List Status) (before after : List (List Status)) → AddsAll number more before after → Gets (λ doc. if_of doc number more) before after
+pub Gets-one : (number : ℕ) (more : List Status) (before after : List (List Status)) → AddsAll number more before after →
+    Gets (λ doc. if_of doc number more) before after
 Gets-one number more before after adds = record { got = λ doc. adds.added doc ∙ one_of (doc == number) (statuses_of doc before) more }

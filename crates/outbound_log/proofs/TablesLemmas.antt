@@ -26,7 +26,8 @@ taken-tables tracked tables next added outbox between later are grown made passe
     record {
       outbox = grown ∙ ap (after next added) are.outbox;
       documents = ap (λ (ds : List OutDocument). ds ++ added.documents) are.documents;
-      carried = ap (λ (cs : List (List DocNum)). cs ++ carried_in added.units) are.carried ∙ sym (map-append (λ (one : OutUnit). one.documents) tracked.past.units added.units);
+      carried = ap (λ (cs : List (List DocNum)). cs ++ carried_in added.units) are.carried
+          ∙ sym (map-append (λ (one : OutUnit). one.documents) tracked.past.units added.units);
       statuses = λ doc. both.got doc ∙ ap (λ (had : List Status). had ++ gets tables.carried added next doc) (are.statuses doc)
           ∙ ap (λ (cs : List (List DocNum)). tracked.statuses doc ++ gets cs added next doc) are.carried;
     }

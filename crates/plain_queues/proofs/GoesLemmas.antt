@@ -106,7 +106,8 @@ found-outstanding tids tid (u ∷ us) =
     ]
 
 -- the unit of an id in the queues: that of the log, unless it is through
-pub unit_of-log : (way : Way) (all : List AleUnit) (log : List Record) (claims : TidOf → Option ℕ) (queues : QueuesOf) (tid : TidOf) → AreQueuesOver way all log claims queues
+pub unit_of-log : (way : Way) (all : List AleUnit) (log : List Record) (claims : TidOf → Option ℕ) (queues : QueuesOf) (tid : TidOf) →
+    AreQueuesOver way all log claims queues
     → unit_of tid queues ≡ option_map (queued way log claims) (cond (not (is_listed tid (through way log))) (unit_named tid all) None)
 unit_of-log way all log claims queues tid are =
     ap (find (λ (u : QueuedUnit). is_tid u.tid tid)) are.units
@@ -121,7 +122,8 @@ not_among tid (u ∷ us) none =
     cond-false (is_tid u.tid tid) (Some u) (unit_named tid us) parts.0 ∙ not_among tid us parts.1
 
 -- an id that is not among those of the log is not in the queues, so its unit may be added
-pub unit_of-new : (way : Way) (all : List AleUnit) (log : List Record) (claims : TidOf → Option ℕ) (queues : QueuesOf) (tid : TidOf) → AreQueuesOver way all log claims queues
+pub unit_of-new : (way : Way) (all : List AleUnit) (log : List Record) (claims : TidOf → Option ℕ) (queues : QueuesOf) (tid : TidOf) →
+    AreQueuesOver way all log claims queues
     → is_among tid all ≡ false → unit_of tid queues ≡ None
 unit_of-new way all log claims queues tid are new =
     unit_of-log way all log claims queues tid are
@@ -129,7 +131,8 @@ unit_of-new way all log claims queues tid are new =
     ∙ ap (option_map (queued way log claims)) (none_of (not (is_listed tid (through way log))))
 
 -- the claim on an outstanding unit is that of the caller, so it may be finished, marked and released under its number
-pub claim_of-log : (way : Way) (all : List AleUnit) (log : List Record) (claims : TidOf → Option ℕ) (queues : QueuesOf) (unit : AleUnit) → AreQueuesOver way all log claims queues
+pub claim_of-log : (way : Way) (all : List AleUnit) (log : List Record) (claims : TidOf → Option ℕ) (queues : QueuesOf) (unit : AleUnit) →
+    AreQueuesOver way all log claims queues
     → unit_named unit.tid all ≡ Some unit → is_outstanding (through way log) unit ≡ true → claim_of unit.tid queues ≡ claims unit.tid
 claim_of-log way all log claims queues unit are named open_ =
     ap (λ (found : Option QueuedUnit). option_and_then (λ (u : QueuedUnit). u.claim) found) (unit_of-log way all log claims queues unit.tid are
@@ -168,7 +171,8 @@ inbound_keys : (u : AleUnit) (name : List ℕ) → has_key (record { partner = 0
 inbound_keys u name = any-map (λ (other : QueueKey). is_key other (record { partner = 0; name = name })) (λ n. record { partner = 0; name = n }) u.inq
 
 -- the queues of a unit let it go exactly where it heads them by the log and none is stopped there
-go-log : (way : Way) (all : List AleUnit) (log : List Record) (claims : TidOf → Option ℕ) (queues : QueuesOf) (unit : AleUnit) → HaveOneSender way all → Contains all unit
+go-log : (way : Way) (all : List AleUnit) (log : List Record) (claims : TidOf → Option ℕ) (queues : QueuesOf) (unit : AleUnit) → HaveOneSender way all →
+    Contains all unit
     → AreQueuesOver way all log claims queues
     → list_all (lets_go unit.tid queues) (keys_of way unit) ≡ (heads_all way (through way log) all unit && not (is_held_up way log unit))
 go-log Outgoing all log claims queues unit one has are =
@@ -189,7 +193,8 @@ go-log Incoming all log claims queues unit one has are =
 
 -- ---- what is offered
 
-ready-log : (way : Way) (all : List AleUnit) (log : List Record) (claims : TidOf → Option ℕ) (queues : QueuesOf) (unit : AleUnit) → HaveOneSender way all → Contains all unit
+ready-log : (way : Way) (all : List AleUnit) (log : List Record) (claims : TidOf → Option ℕ) (queues : QueuesOf) (unit : AleUnit) → HaveOneSender way all →
+    Contains all unit
     → AreQueuesOver way all log claims queues
     → (is_outstanding (through way log) unit && is_ready queues (queued way log claims unit)) ≡ may_go way all log claims unit
 ready-log way all log claims queues unit one has are =
@@ -208,7 +213,8 @@ offered-log way all log claims queues tid one are =
     by_named : (found : Option AleUnit) → unit_named tid all ≡ found
         → option_map_or (is_ready queues) (option_map (queued way log claims) (cond (not (is_listed tid (through way log))) found None)) false
         ≡ option_map_or (may_go way all log claims) found false
-    by_named None at = ap (λ found. option_map_or (is_ready queues) (option_map (queued way log claims) found) false) (none_of (not (is_listed tid (through way log))))
+    by_named None at = ap (λ found. option_map_or (is_ready queues) (option_map (queued way log claims) found) false)
+        (none_of (not (is_listed tid (through way log))))
     by_named (Some unit) at =
         let there = find-Some (λ (u : AleUnit). is_tid u.tid tid) all unit at in
         let same : unit.tid ≡ tid = is_tid-true unit.tid tid there.1 in
@@ -265,13 +271,15 @@ keys_of-differ Incoming unit = differ 0 unit.inq
 -- ---- something goes, where nothing holds it up
 
 -- the earliest unit heads all its queues
-pub earliest-heads : (queues : QueuesOf) (unit : QueuedUnit) (behind : List QueuedUnit) → queues.units ≡ unit ∷ behind → list_all (heads unit.tid queues) unit.keys ≡ true
+pub earliest-heads : (queues : QueuesOf) (unit : QueuedUnit) (behind : List QueuedUnit) → queues.units ≡ unit ∷ behind →
+    list_all (heads unit.tid queues) unit.keys ≡ true
 earliest-heads queues unit behind first = each unit.keys (λ key has. has)
   where
     head : (key : QueueKey) → Contains unit.keys key → heads unit.tid queues key ≡ true
     head key has =
         ap (λ us. has_tid unit.tid (find (λ (u : QueuedUnit). has_key key u.keys) us)) first
-        ∙ ap (has_tid unit.tid) (cond-true (has_key key unit.keys) (Some unit) (find (λ (u : QueuedUnit). has_key key u.keys) behind) (has_key-Contains key unit.keys has))
+        ∙ ap (has_tid unit.tid) (cond-true (has_key key unit.keys) (Some unit) (find (λ (u : QueuedUnit). has_key key u.keys) behind)
+        (has_key-Contains key unit.keys has))
         ∙ is_tid-same unit.tid
 
     each : (keys : List QueueKey) → ((key : QueueKey) → Contains keys key → Contains unit.keys key) → list_all (heads unit.tid queues) keys ≡ true

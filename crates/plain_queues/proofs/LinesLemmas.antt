@@ -33,14 +33,16 @@ not-above key (k ∷ ks) above =
     (not-above key ks above.1)
 
 -- a key among those that are above one is above it
-above-one : (low key : QueueKey) (keys : List QueueKey) → AllByRecursion (λ other. key_cmp low other ≡ Less) keys → has_key key keys ≡ true → key_cmp low key ≡ Less
+above-one : (low key : QueueKey) (keys : List QueueKey) → AllByRecursion (λ other. key_cmp low other ≡ Less) keys → has_key key keys ≡ true →
+    key_cmp low key ≡ Less
 above-one low key keys above has =
     let found = list_any-found (λ (other : QueueKey). is_key other key) keys has in
     ap (key_cmp low) (sym (is_key-true found.0 key found.2))
     ∙ All-contains (λ other. key_cmp low other ≡ Less) keys found.0 (All-from_recursion (λ other. key_cmp low other ≡ Less) keys above) found.1
 
 -- ascending keys that are the same ones are the same list
-same-keys : (xs ys : List QueueKey) → IsStrictlySortedBy key_cmp xs → IsStrictlySortedBy key_cmp ys → ((key : QueueKey) → has_key key xs ≡ has_key key ys) → xs ≡ ys
+same-keys : (xs ys : List QueueKey) → IsStrictlySortedBy key_cmp xs → IsStrictlySortedBy key_cmp ys → ((key : QueueKey) → has_key key xs ≡ has_key key ys) →
+    xs ≡ ys
 same-keys [] [] up_x up_y same = refl
 same-keys [] (y ∷ ys) up_x up_y same = absurd (both_ways (has_key y (y ∷ ys)) (sym (same y)) (or_left (is_key y y) (has_key y ys) (is_key-same y)))
 same-keys (x ∷ xs) [] up_x up_y same = absurd (both_ways (has_key x (x ∷ xs)) (same x) (or_left (is_key x x) (has_key x xs) (is_key-same x)))
@@ -66,7 +68,8 @@ same-keys (x ∷ xs) (y ∷ ys) up_x up_y same =
     let rest = same-keys xs ys (sorted_tail key_cmp x xs up_x) (sorted_tail key_cmp y ys up_y) behind in
     ap (λ k. k ∷ xs) first ∙ ap (λ ks. y ∷ ks) rest
 
-same-lines : (queues : QueuesOf) (xs ys : List QueueCount) → keys_of xs ≡ keys_of ys → AllByRecursion (IsLineOf queues) xs → AllByRecursion (IsLineOf queues) ys → xs ≡ ys
+same-lines : (queues : QueuesOf) (xs ys : List QueueCount) → keys_of xs ≡ keys_of ys → AllByRecursion (IsLineOf queues) xs →
+    AllByRecursion (IsLineOf queues) ys → xs ≡ ys
 same-lines queues [] [] same each_x each_y = refl
 same-lines queues [] (y ∷ ys) same each_x each_y = absurd (cc)
 same-lines queues (x ∷ xs) [] same each_x each_y = absurd (cc)

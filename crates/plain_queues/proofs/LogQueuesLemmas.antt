@@ -17,7 +17,8 @@ use Rattle.ale_base.proofs.ListLemmas.{AllByRecursion-weaker}
 use Rattle.ale_base.proofs.MemberLemmas.{filter_map-None, filter_map-Some}
 use Rattle.unit_core.specs.declared.ale_unit.AleUnit.{AleUnit}
 use Rattle.unit_core.specs.declared.records.Record.{Record}
-use Rattle.unit_core.specs.declared.records.Record.TheVariants.{Genesis, Commit, Dispatch, Mark, Done, Ended, Accept, Execute, Direct, Fail, Forget, Stop, Start, Retry, Put, App, Repost, Model}
+use Rattle.unit_core.specs.declared.records.Record.TheVariants.{Genesis, Commit, Dispatch, Mark, Done, Ended, Accept, Execute, Direct, Fail, Forget, Stop}
+use Rattle.unit_core.specs.declared.records.Record.TheVariants.{Start, Retry, Put, App, Repost, Model}
 use Rattle.unit_core.specs.Filters.{done_by, executed_by, mark_of, mark_after, stopped_after, is_way, is_queue}
 use Rattle.unit_core.specs.Filters.{is_stopped as is_stopped_by}
 use Rattle.unit_core.specs.Queues.{is_listed, is_among, is_outstanding}
@@ -27,7 +28,8 @@ use Rattle.plain_queues.specs.declared.queued_unit.QueuedUnit.{QueuedUnit}
 use Rattle.plain_queues.specs.Keys.{is_key, has_key}
 use Rattle.plain_queues.specs.Queues.{QueuesOf, is_stopped}
 use Rattle.plain_queues.specs.Changes.{added, changed_if, new_unit, claimed, released, marked, retried, finished, Stops, Starts}
-use Rattle.plain_queues.specs.LogQueues.{through, through_by, keys_of, queued, AreQueuesOver, added_all, IsNew, LeavesMarks, LeavesStops, LeavesQueues, Claims, SetsMark, is_silent}
+use Rattle.plain_queues.specs.LogQueues.{through, through_by, keys_of, queued, AreQueuesOver, added_all, IsNew, LeavesMarks, LeavesStops, LeavesQueues, Claims}
+use Rattle.plain_queues.specs.LogQueues.{SetsMark, is_silent}
 
 -- ---- lists
 
@@ -73,7 +75,8 @@ through-none : (way : Way) (log : List Record) (next : Record) → through_by wa
 through-none Outgoing log next none = filter_map-None done_by log next none
 through-none Incoming log next none = filter_map-None executed_by log next none
 
-through-some : (way : Way) (log : List Record) (next : Record) (tid : TidOf) → through_by way next ≡ Some tid → through way (log ++ next ∷ []) ≡ through way log ++ tid ∷ []
+through-some : (way : Way) (log : List Record) (next : Record) (tid : TidOf) → through_by way next ≡ Some tid → through way (log ++ next ∷ []) ≡ through way log
+    ++ tid ∷ []
 through-some Outgoing log next tid some = filter_map-Some done_by log next tid some
 through-some Incoming log next tid some = filter_map-Some executed_by log next tid some
 
@@ -93,7 +96,8 @@ stops-stay : (way : Way) (log : List Record) (next : Record) (queues : QueuesOf)
 stops-stay way log next queues leaves stops key =
     stops key ∙ sym (leaves key.partner key.name (is_stopped_by way key.partner key.name log)) ∙ sym (stop-push way key.partner key.name log next)
 
-units-stay : (way : Way) (all : List AleUnit) (log : List Record) (next : Record) (claims : TidOf → Option ℕ) → through_by way next ≡ None → LeavesMarks way next
+units-stay : (way : Way) (all : List AleUnit) (log : List Record) (next : Record) (claims : TidOf → Option ℕ) → through_by way next ≡ None →
+    LeavesMarks way next
     → map (queued way log claims) (filter (is_outstanding (through way log)) all)
     ≡ map (queued way (log ++ next ∷ []) claims) (filter (is_outstanding (through way (log ++ next ∷ []))) all)
 units-stay way all log next claims none leaves =
@@ -112,7 +116,8 @@ AreQueuesOver-other way all log next claims queues leaves are = record {
 
 -- ---- units are added
 
-added-units : (way : Way) (more : List AleUnit) (queues : QueuesOf) → (added_all way more queues).units ≡ queues.units ++ map (λ (unit : AleUnit). new_unit unit.tid (keys_of way unit)) more
+added-units : (way : Way) (more : List AleUnit) (queues : QueuesOf) → (added_all way more queues).units ≡ queues.units
+    ++ map (λ (unit : AleUnit). new_unit unit.tid (keys_of way unit)) more
 added-units way [] queues = sym (append-nil queues.units)
 added-units way (unit ∷ more) queues =
     added-units way more (record queues { units = queues.units ++ new_unit unit.tid (keys_of way unit) ∷ [] })
@@ -126,9 +131,11 @@ new-kept : (way : Way) (log : List Record) (claims : TidOf → Option ℕ) (more
     → map (λ (unit : AleUnit). new_unit unit.tid (keys_of way unit)) more ≡ map (queued way log claims) (filter (is_outstanding (through way log)) more)
 new-kept way log claims [] new = refl
 new-kept way log claims (unit ∷ more) new =
-    ap (λ first. first ∷ map (λ (u : AleUnit). new_unit u.tid (keys_of way u)) more) (queued_as way unit None None log claims (sym new.0.unclaimed) (sym new.0.unmarked))
+    ap (λ first. first ∷ map (λ (u : AleUnit). new_unit u.tid (keys_of way u)) more)
+    (queued_as way unit None None log claims (sym new.0.unclaimed) (sym new.0.unmarked))
     ∙ ap (λ rest. queued way log claims unit ∷ rest) (new-kept way log claims more new.1)
-    ∙ sym (ap (λ b. map (queued way log claims) (cond b (unit ∷ filter (is_outstanding (through way log)) more) (filter (is_outstanding (through way log)) more))) (ap not new.0.outstanding))
+    ∙ sym (ap (λ b. map (queued way log claims)
+    (cond b (unit ∷ filter (is_outstanding (through way log)) more) (filter (is_outstanding (through way log)) more))) (ap not new.0.outstanding))
 
 -- a unit that is new stays so, where a record says nothing of the queues
 pub new-then : (way : Way) (log : List Record) (next : Record) (claims : TidOf → Option ℕ) (unit : AleUnit) → LeavesQueues way next → IsNew way log claims unit
@@ -141,7 +148,8 @@ new-then way log next claims unit leaves new = record {
 
 -- new units are added behind all others, in order: those of a Commit or a Dispatch, the one of an Accept
 pub AreQueuesOver-added : (way : Way) (all more : List AleUnit) (log : List Record) (claims : TidOf → Option ℕ) (queues : QueuesOf)
-    → AllByRecursion (IsNew way log claims) more → AreQueuesOver way all log claims queues → AreQueuesOver way (all ++ more) log claims (added_all way more queues)
+    → AllByRecursion (IsNew way log claims) more → AreQueuesOver way all log claims queues →
+    AreQueuesOver way (all ++ more) log claims (added_all way more queues)
 AreQueuesOver-added way all more log claims queues new are = record {
   units = added-units way more queues
       ∙ ap (λ us. us ++ map (λ (unit : AleUnit). new_unit unit.tid (keys_of way unit)) more) are.units
@@ -159,14 +167,16 @@ with_one true false = refl
 with_one false true = refl
 with_one false false = refl
 
-outstanding-push : (tids : List TidOf) (tid : TidOf) (unit : AleUnit) → is_outstanding (tids ++ tid ∷ []) unit ≡ (is_outstanding tids unit && not (is_tid unit.tid tid))
+outstanding-push : (tids : List TidOf) (tid : TidOf) (unit : AleUnit) →
+    is_outstanding (tids ++ tid ∷ []) unit ≡ (is_outstanding tids unit && not (is_tid unit.tid tid))
 outstanding-push tids tid unit =
     ap not (list_any-append (λ (t : TidOf). is_tid t unit.tid) tids (tid ∷ []))
     ∙ with_one (is_tid tid unit.tid) (is_listed unit.tid tids)
     ∙ ap (λ b. is_outstanding tids unit && not b) (is_tid-turned tid unit.tid)
 
 -- a record that brings a unit through finishes it: a Done of an outbound one, an Execute of an inbound one
-pub AreQueuesOver-through : (way : Way) (all : List AleUnit) (log : List Record) (next : Record) (tid : TidOf) (claims after : TidOf → Option ℕ) (queues : QueuesOf)
+pub AreQueuesOver-through : (way : Way) (all : List AleUnit) (log : List Record) (next : Record) (tid : TidOf) (claims after : TidOf → Option ℕ)
+    (queues : QueuesOf)
     → through_by way next ≡ Some tid → LeavesMarks way next → LeavesStops way next → Claims tid None claims after
     → AreQueuesOver way all log claims queues → AreQueuesOver way all (log ++ next ∷ []) after (finished tid queues)
 AreQueuesOver-through way all log next tid claims after queues brings leaves_marks leaves_stops change are =
@@ -209,14 +219,16 @@ goes_at_once tids unit =
     and_false false = refl
 
 -- a Direct leaves the inbound queues: its unit is received and executed at once
-pub AreQueuesOver-direct : (all : List AleUnit) (log : List Record) (unit : AleUnit) (claims : TidOf → Option ℕ) (queues : QueuesOf) → is_among unit.tid all ≡ false
+pub AreQueuesOver-direct : (all : List AleUnit) (log : List Record) (unit : AleUnit) (claims : TidOf → Option ℕ) (queues : QueuesOf) →
+    is_among unit.tid all ≡ false
     → AreQueuesOver Incoming all log claims queues → AreQueuesOver Incoming (all ++ unit ∷ []) (log ++ Direct unit ∷ []) claims queues
 AreQueuesOver-direct all log unit claims queues new are =
     let tids = through Incoming log in
     record {
       units = are.units
           ∙ ap (λ f. map f (filter (is_outstanding tids) all)) (λ i u.
-          queued_as Incoming u (claims u.tid) (mark_of Incoming u.tid log) (log ++ Direct unit ∷ []) claims refl (sym (mark-push Incoming u.tid log (Direct unit))) i)
+          queued_as Incoming u (claims u.tid) (mark_of Incoming u.tid log) (log ++ Direct unit ∷ []) claims refl
+          (sym (mark-push Incoming u.tid log (Direct unit))) i)
           ∙ ap (map (queued Incoming (log ++ Direct unit ∷ []) claims)) (
           sym (none_has tids unit all new)
           ∙ sym (append-nil (filter (is_outstanding (tids ++ unit.tid ∷ [])) all))
@@ -229,35 +241,43 @@ AreQueuesOver-direct all log unit claims queues new are =
 -- ---- claims and marks
 
 -- what the parts of a unit are, where those of the unit of an id are changed
-record Becomes (claims after : TidOf → Option ℕ) (marks later : TidOf → Option Cause) (claim : Option ℕ → Option ℕ) (mark : Option Cause → Option Cause) (tid : TidOf) : Type 0 where
+record Becomes (claims after : TidOf → Option ℕ) (marks later : TidOf → Option Cause) (claim : Option ℕ → Option ℕ) (mark : Option Cause → Option Cause)
+    (tid : TidOf) : Type 0 where
   its_claim : (other : TidOf) → is_tid other tid ≡ true → after other ≡ claim (claims other)
   other_claims : (other : TidOf) → is_tid other tid ≡ false → after other ≡ claims other
   its_mark : (other : TidOf) → is_tid other tid ≡ true → later other ≡ mark (marks other)
   other_marks : (other : TidOf) → is_tid other tid ≡ false → later other ≡ marks other
 
-changed-queued : (way : Way) (log later : List Record) (claims after : TidOf → Option ℕ) (claim : Option ℕ → Option ℕ) (mark : Option Cause → Option Cause) (tid : TidOf)
+changed-queued : (way : Way) (log later : List Record) (claims after : TidOf → Option ℕ) (claim : Option ℕ → Option ℕ) (mark : Option Cause → Option Cause)
+    (tid : TidOf)
     → Becomes claims after (λ t. mark_of way t log) (λ t. mark_of way t later) claim mark tid → (unit : AleUnit)
     → changed_if (λ (u : QueuedUnit). record u { claim = claim u.claim; mark = mark u.mark }) tid (queued way log claims unit) ≡ queued way later after unit
 changed-queued way log later claims after claim mark tid becomes unit =
     let change = λ (u : QueuedUnit). record u { claim = claim u.claim; mark = mark u.mark } in
     elim (cases_Bool (is_tid unit.tid tid)) [
       | inl its ↦ cond-true (is_tid unit.tid tid) (change (queued way log claims unit)) (queued way log claims unit) its
-          ∙ queued_as way unit (claim (claims unit.tid)) (mark (mark_of way unit.tid log)) later after (sym (becomes.its_claim unit.tid its)) (sym (becomes.its_mark unit.tid its))
+          ∙ queued_as way unit (claim (claims unit.tid)) (mark (mark_of way unit.tid log)) later after (sym (becomes.its_claim unit.tid its))
+          (sym (becomes.its_mark unit.tid its))
       | inr other ↦ cond-false (is_tid unit.tid tid) (change (queued way log claims unit)) (queued way log claims unit) other
-          ∙ queued_as way unit (claims unit.tid) (mark_of way unit.tid log) later after (sym (becomes.other_claims unit.tid other)) (sym (becomes.other_marks unit.tid other))
+          ∙ queued_as way unit (claims unit.tid) (mark_of way unit.tid log) later after (sym (becomes.other_claims unit.tid other))
+          (sym (becomes.other_marks unit.tid other))
     ]
 
-changed-units : (way : Way) (all : List AleUnit) (log later : List Record) (claims after : TidOf → Option ℕ) (claim : Option ℕ → Option ℕ) (mark : Option Cause → Option Cause)
+changed-units : (way : Way) (all : List AleUnit) (log later : List Record) (claims after : TidOf → Option ℕ) (claim : Option ℕ → Option ℕ)
+    (mark : Option Cause → Option Cause)
     (tid : TidOf) → through way later ≡ through way log → Becomes claims after (λ t. mark_of way t log) (λ t. mark_of way t later) claim mark tid
-    → map (changed_if (λ (u : QueuedUnit). record u { claim = claim u.claim; mark = mark u.mark }) tid) (map (queued way log claims) (filter (is_outstanding (through way log)) all))
+    → map (changed_if (λ (u : QueuedUnit). record u { claim = claim u.claim; mark = mark u.mark }) tid)
+    (map (queued way log claims) (filter (is_outstanding (through way log)) all))
     ≡ map (queued way later after) (filter (is_outstanding (through way later)) all)
 changed-units way all log later claims after claim mark tid same becomes =
-    map-map (changed_if (λ (u : QueuedUnit). record u { claim = claim u.claim; mark = mark u.mark }) tid) (queued way log claims) (filter (is_outstanding (through way log)) all)
+    map-map (changed_if (λ (u : QueuedUnit). record u { claim = claim u.claim; mark = mark u.mark }) tid) (queued way log claims)
+    (filter (is_outstanding (through way log)) all)
     ∙ ap (λ f. map f (filter (is_outstanding (through way log)) all)) (λ i unit. changed-queued way log later claims after claim mark tid becomes unit i)
     ∙ ap (λ tids. map (queued way later after) (filter (is_outstanding tids) all)) (sym same)
 
 -- a claim is no record: the log stays, and the unit is claimed
-pub AreQueuesOver-claimed : (way : Way) (all : List AleUnit) (log : List Record) (tid : TidOf) (number : ℕ) (claims after : TidOf → Option ℕ) (queues : QueuesOf)
+pub AreQueuesOver-claimed : (way : Way) (all : List AleUnit) (log : List Record) (tid : TidOf) (number : ℕ) (claims after : TidOf → Option ℕ)
+    (queues : QueuesOf)
     → Claims tid (Some number) claims after → AreQueuesOver way all log claims queues → AreQueuesOver way all log after (claimed number tid queues)
 AreQueuesOver-claimed way all log tid number claims after queues change are = record {
   units = ap (map (changed_if (λ (u : QueuedUnit). record u { claim = Some number }) tid)) are.units
@@ -276,20 +296,23 @@ AreQueuesOver-released way all log tid claims after queues change are = record {
   stops = are.stops;
 }
 
-sets-its : (way : Way) (log : List Record) (next : Record) (tid : TidOf) (mark : Option Cause) → SetsMark way next tid mark → (other : TidOf) → is_tid other tid ≡ true
+sets-its : (way : Way) (log : List Record) (next : Record) (tid : TidOf) (mark : Option Cause) → SetsMark way next tid mark → (other : TidOf) →
+    is_tid other tid ≡ true
     → mark_of way other (log ++ next ∷ []) ≡ mark
 sets-its way log next tid mark sets other its =
     mark-push way other log next ∙ sets.marks other (mark_of way other log)
     ∙ cond-true (is_tid tid other) mark (mark_of way other log) (is_tid-turned tid other ∙ its)
 
-sets-other : (way : Way) (log : List Record) (next : Record) (tid : TidOf) (mark : Option Cause) → SetsMark way next tid mark → (other : TidOf) → is_tid other tid ≡ false
+sets-other : (way : Way) (log : List Record) (next : Record) (tid : TidOf) (mark : Option Cause) → SetsMark way next tid mark → (other : TidOf) →
+    is_tid other tid ≡ false
     → mark_of way other (log ++ next ∷ []) ≡ mark_of way other log
 sets-other way log next tid mark sets other differs =
     mark-push way other log next ∙ sets.marks other (mark_of way other log)
     ∙ cond-false (is_tid tid other) mark (mark_of way other log) (is_tid-turned tid other ∙ differs)
 
 -- a record that marks a unit releases and marks it: a Mark of an outbound one, a Fail of an inbound one
-pub AreQueuesOver-marked : (way : Way) (all : List AleUnit) (log : List Record) (next : Record) (tid : TidOf) (cause : Cause) (claims after : TidOf → Option ℕ) (queues : QueuesOf)
+pub AreQueuesOver-marked : (way : Way) (all : List AleUnit) (log : List Record) (next : Record) (tid : TidOf) (cause : Cause) (claims after : TidOf → Option ℕ)
+    (queues : QueuesOf)
     → through_by way next ≡ None → SetsMark way next tid (Some cause) → LeavesStops way next → Claims tid None claims after
     → AreQueuesOver way all log claims queues → AreQueuesOver way all (log ++ next ∷ []) after (marked cause tid queues)
 AreQueuesOver-marked way all log next tid cause claims after queues none sets leaves change are =
@@ -358,13 +381,15 @@ unsets true r = refl
 unsets false r = refl
 
 -- a Stop of this direction stops the queue
-pub AreQueuesOver-stopped : (way : Way) (all : List AleUnit) (log : List Record) (destination : ℕ) (name : List ℕ) (claims : TidOf → Option ℕ) (queues after : QueuesOf)
+pub AreQueuesOver-stopped : (way : Way) (all : List AleUnit) (log : List Record) (destination : ℕ) (name : List ℕ) (claims : TidOf → Option ℕ)
+    (queues after : QueuesOf)
     → Stops (record { partner = destination; name = name }) queues after → AreQueuesOver way all log claims queues
     → AreQueuesOver way all (log ++ Stop way destination name ∷ []) claims after
 AreQueuesOver-stopped way all log destination name claims queues after stops are =
     let key_of : QueueKey = record { partner = destination; name = name } in
     record {
-      units = stops.units ∙ are.units ∙ units-stay way all log (Stop way destination name) claims (stop-none way destination name) (stop-marks way destination name);
+      units = stops.units ∙ are.units ∙ units-stay way all log (Stop way destination name) claims (stop-none way destination name)
+          (stop-marks way destination name);
       stops = λ key.
           stops.stops key
           ∙ ap (λ b. is_key key_of key || b) (are.stops key)
@@ -374,13 +399,15 @@ AreQueuesOver-stopped way all log destination name claims queues after stops are
     }
 
 -- a Start of this direction starts it
-pub AreQueuesOver-started : (way : Way) (all : List AleUnit) (log : List Record) (destination : ℕ) (name : List ℕ) (claims : TidOf → Option ℕ) (queues after : QueuesOf)
+pub AreQueuesOver-started : (way : Way) (all : List AleUnit) (log : List Record) (destination : ℕ) (name : List ℕ) (claims : TidOf → Option ℕ)
+    (queues after : QueuesOf)
     → Starts (record { partner = destination; name = name }) queues after → AreQueuesOver way all log claims queues
     → AreQueuesOver way all (log ++ Start way destination name ∷ []) claims after
 AreQueuesOver-started way all log destination name claims queues after starts are =
     let key_of : QueueKey = record { partner = destination; name = name } in
     record {
-      units = starts.units ∙ are.units ∙ units-stay way all log (Start way destination name) claims (start-none way destination name) (start-marks way destination name);
+      units = starts.units ∙ are.units ∙ units-stay way all log (Start way destination name) claims (start-none way destination name)
+          (start-marks way destination name);
       stops = λ key.
           starts.stops key
           ∙ ap (λ b. not (is_key key_of key) && b) (are.stops key)
@@ -393,33 +420,41 @@ AreQueuesOver-started way all log destination name claims queues after starts ar
 
 -- a Done is the end of an outbound unit, an Execute that of an inbound one
 pub AreQueuesOver-Done : (all : List AleUnit) (log : List Record) (tid : TidOf) (claims after : TidOf → Option ℕ) (queues : QueuesOf)
-    → Claims tid None claims after → AreQueuesOver Outgoing all log claims queues → AreQueuesOver Outgoing all (log ++ Done tid ∷ []) after (finished tid queues)
+    → Claims tid None claims after → AreQueuesOver Outgoing all log claims queues →
+    AreQueuesOver Outgoing all (log ++ Done tid ∷ []) after (finished tid queues)
 AreQueuesOver-Done all log tid claims after queues change are =
     AreQueuesOver-through Outgoing all log (Done tid) tid claims after queues refl (λ other before. refl) (λ destination name before. refl) change are
 
 pub AreQueuesOver-Execute : (all : List AleUnit) (log : List Record) (tid : TidOf) (claims after : TidOf → Option ℕ) (queues : QueuesOf)
-    → Claims tid None claims after → AreQueuesOver Incoming all log claims queues → AreQueuesOver Incoming all (log ++ Execute tid ∷ []) after (finished tid queues)
+    → Claims tid None claims after → AreQueuesOver Incoming all log claims queues →
+    AreQueuesOver Incoming all (log ++ Execute tid ∷ []) after (finished tid queues)
 AreQueuesOver-Execute all log tid claims after queues change are =
     AreQueuesOver-through Incoming all log (Execute tid) tid claims after queues refl (λ other before. refl) (λ destination name before. refl) change are
 
 -- a Mark marks an outbound unit, a Fail an inbound one
 pub AreQueuesOver-Mark : (all : List AleUnit) (log : List Record) (tid : TidOf) (cause : Cause) (claims after : TidOf → Option ℕ) (queues : QueuesOf)
-    → Claims tid None claims after → AreQueuesOver Outgoing all log claims queues → AreQueuesOver Outgoing all (log ++ Mark tid cause ∷ []) after (marked cause tid queues)
+    → Claims tid None claims after → AreQueuesOver Outgoing all log claims queues →
+    AreQueuesOver Outgoing all (log ++ Mark tid cause ∷ []) after (marked cause tid queues)
 AreQueuesOver-Mark all log tid cause claims after queues change are =
-    AreQueuesOver-marked Outgoing all log (Mark tid cause) tid cause claims after queues refl (record { marks = λ other before. refl }) (λ destination name before. refl) change are
+    AreQueuesOver-marked Outgoing all log (Mark tid cause) tid cause claims after queues refl (record { marks = λ other before. refl })
+    (λ destination name before. refl) change are
 
 pub AreQueuesOver-Fail : (all : List AleUnit) (log : List Record) (tid : TidOf) (claims after : TidOf → Option ℕ) (queues : QueuesOf)
-    → Claims tid None claims after → AreQueuesOver Incoming all log claims queues → AreQueuesOver Incoming all (log ++ Fail tid ∷ []) after (marked Sysfail tid queues)
+    → Claims tid None claims after → AreQueuesOver Incoming all log claims queues →
+    AreQueuesOver Incoming all (log ++ Fail tid ∷ []) after (marked Sysfail tid queues)
 AreQueuesOver-Fail all log tid claims after queues change are =
-    AreQueuesOver-marked Incoming all log (Fail tid) tid Sysfail claims after queues refl (record { marks = λ other before. refl }) (λ destination name before. refl) change are
+    AreQueuesOver-marked Incoming all log (Fail tid) tid Sysfail claims after queues refl (record { marks = λ other before. refl })
+    (λ destination name before. refl) change are
 
 -- a Retry removes the mark of a unit of its direction
 pub AreQueuesOver-Retry : (way : Way) (all : List AleUnit) (log : List Record) (tid : TidOf) (claims : TidOf → Option ℕ) (queues : QueuesOf)
     → AreQueuesOver way all log claims queues → AreQueuesOver way all (log ++ Retry way tid ∷ []) claims (retried tid queues)
 AreQueuesOver-Retry Outgoing all log tid claims queues are =
-    AreQueuesOver-retried Outgoing all log (Retry Outgoing tid) tid claims queues refl (record { marks = λ other before. refl }) (λ destination name before. refl) are
+    AreQueuesOver-retried Outgoing all log (Retry Outgoing tid) tid claims queues refl (record { marks = λ other before. refl })
+    (λ destination name before. refl) are
 AreQueuesOver-Retry Incoming all log tid claims queues are =
-    AreQueuesOver-retried Incoming all log (Retry Incoming tid) tid claims queues refl (record { marks = λ other before. refl }) (λ destination name before. refl) are
+    AreQueuesOver-retried Incoming all log (Retry Incoming tid) tid claims queues refl (record { marks = λ other before. refl })
+    (λ destination name before. refl) are
 
 -- an Accept adds its unit to the inbound queues
 pub AreQueuesOver-Accept : (all : List AleUnit) (log : List Record) (unit : AleUnit) (claims : TidOf → Option ℕ) (queues : QueuesOf)
@@ -436,7 +471,8 @@ pub AreQueuesOver-committed : (all more : List AleUnit) (log : List Record) (nex
     → AreQueuesOver Outgoing (all ++ more) (log ++ next ∷ []) claims (added_all Outgoing more queues)
 AreQueuesOver-committed all more log next claims queues leaves new are =
     AreQueuesOver-added Outgoing all more (log ++ next ∷ []) claims queues
-    (AllByRecursion-weaker (IsNew Outgoing log claims) (IsNew Outgoing (log ++ next ∷ []) claims) more (λ unit. new-then Outgoing log next claims unit leaves) new)
+    (AllByRecursion-weaker (IsNew Outgoing log claims) (IsNew Outgoing (log ++ next ∷ []) claims) more (λ unit. new-then Outgoing log next claims unit leaves)
+    new)
     (AreQueuesOver-other Outgoing all log next claims queues leaves are)
 
 -- every other record leaves them

@@ -14,7 +14,8 @@ queue letter = record { partner = 2; name = letter ∷ [] }
 
 abbrev four_units : QueuesOf
 four_units = record {
-  units = new_unit (unit 1) (queue 88 ∷ queue 89 ∷ []) ∷ new_unit (unit 2) (queue 88 ∷ []) ∷ new_unit (unit 3) (queue 89 ∷ queue 90 ∷ []) ∷ new_unit (unit 4) (queue 90 ∷ []) ∷ [];
+  units = new_unit (unit 1) (queue 88 ∷ queue 89 ∷ []) ∷ new_unit (unit 2) (queue 88 ∷ []) ∷ new_unit (unit 3) (queue 89 ∷ queue 90 ∷ [])
+      ∷ new_unit (unit 4) (queue 90 ∷ []) ∷ [];
   stops = [];
 }
 

@@ -96,7 +96,8 @@ none_stopped queues (key ∷ keys) =
       | inr moves ↦ rw moves (none_stopped queues keys)
     ]
 
-none_behind_head : (tid : TidOf) (key : QueueKey) (found : Option QueuedUnit) → (head : QueuedUnit) × (found ≡ Some head) → is_none (behind_head tid key found) ≡ has_tid tid found
+none_behind_head : (tid : TidOf) (key : QueueKey) (found : Option QueuedUnit) → (head : QueuedUnit) × (found ≡ Some head) →
+    is_none (behind_head tid key found) ≡ has_tid tid found
 none_behind_head tid key None there = let no = there.1 in absurd (cc)
 none_behind_head tid key (Some head) there =
     elim (cases_Bool (is_tid head.tid tid)) [
@@ -104,7 +105,8 @@ none_behind_head tid key (Some head) there =
       | inr other ↦ rw other refl
     ]
 
-none_behind : (tid : TidOf) (queues : QueuesOf) (keys : List QueueKey) → ((key : QueueKey) → Contains keys key → (head : QueuedUnit) × (head_of key queues ≡ Some head))
+none_behind : (tid : TidOf) (queues : QueuesOf) (keys : List QueueKey) →
+    ((key : QueueKey) → Contains keys key → (head : QueuedUnit) × (head_of key queues ≡ Some head))
     → is_none (first_behind tid queues keys) ≡ list_all (heads tid queues) keys
 none_behind tid queues [] there = refl
 none_behind tid queues (key ∷ keys) there =
@@ -131,8 +133,10 @@ turned false b c = refl
 -- nothing speaks against a unit that is there exactly where it may be claimed
 pub why_not-ready : (queues : QueuesOf) (unit : QueuedUnit) → Contains queues.units unit → is_none (why_not_unit queues unit) ≡ is_ready queues unit
 why_not-ready queues unit here =
-    none_or (option_map Running unit.claim) (option_or (option_map Failed unit.mark) (option_or (first_stopped queues unit.keys) (first_behind unit.tid queues unit.keys)))
-    ∙ ap (λ b. b && is_none (option_or (option_map Failed unit.mark) (option_or (first_stopped queues unit.keys) (first_behind unit.tid queues unit.keys)))) (none_map Running unit.claim)
+    none_or (option_map Running unit.claim) (option_or (option_map Failed unit.mark)
+    (option_or (first_stopped queues unit.keys) (first_behind unit.tid queues unit.keys)))
+    ∙ ap (λ b. b && is_none (option_or (option_map Failed unit.mark) (option_or (first_stopped queues unit.keys) (first_behind unit.tid queues unit.keys))))
+    (none_map Running unit.claim)
     ∙ ap (λ b. is_none unit.claim && b) (
     none_or (option_map Failed unit.mark) (option_or (first_stopped queues unit.keys) (first_behind unit.tid queues unit.keys))
     ∙ ap (λ b. b && is_none (option_or (first_stopped queues unit.keys) (first_behind unit.tid queues unit.keys))) (none_map Failed unit.mark)
@@ -175,7 +179,8 @@ found_by_id (u ∷ us) unit apart here =
       | inr behind ↦ elim (cases_Bool (is_tid u.tid unit.tid)) [
         | inl its ↦ absurd (both_ways (is_listed unit.tid (tids_of us)) (subst (λ t. is_listed t (tids_of us) ≡ false) (is_tid-true u.tid unit.tid its) apart.0)
             (is_listed-Contains unit.tid (tids_of us) (Contains-map (λ (v : QueuedUnit). v.tid) us unit behind)))
-        | inr other ↦ cond-false (is_tid u.tid unit.tid) (Some u) (find (λ (v : QueuedUnit). is_tid v.tid unit.tid) us) other ∙ found_by_id us unit apart.1 behind
+        | inr other ↦ cond-false (is_tid u.tid unit.tid) (Some u) (find (λ (v : QueuedUnit). is_tid v.tid unit.tid) us) other
+            ∙ found_by_id us unit apart.1 behind
       ]
     ]
 
@@ -201,7 +206,8 @@ none_ready-offered tid queues none = by_none tid queues (unit_of tid queues) ref
 pub status-empty : (key : QueueKey) (queues : QueuesOf) → head_of key queues ≡ None → IsNone {T = QueueStatus} None ↔ (in_queue key queues ≡ [])
 status-empty key queues none = (λ no. (find-filter_none (λ (u : QueuedUnit). has_key key u.keys) queues.units).0 none, λ empty. refl)
 
-pub status-there : (key : QueueKey) (queues : QueuesOf) (head : QueuedUnit) (status : QueueStatus) → head_of key queues ≡ Some head → IsNone (Some status) ↔ (in_queue key queues ≡ [])
+pub status-there : (key : QueueKey) (queues : QueuesOf) (head : QueuedUnit) (status : QueueStatus) → head_of key queues ≡ Some head →
+    IsNone (Some status) ↔ (in_queue key queues ≡ [])
 status-there key queues head status here = (
   λ no. absurd (cc),
   λ empty. let none = (find-filter_none (λ (u : QueuedUnit). has_key key u.keys) queues.units).1 empty in absurd (cc (none, here)),
@@ -228,7 +234,8 @@ has_key-without key other [] = sym (both_false (is_key key other))
     both_false false = refl
 has_key-without key other (k ∷ ks) =
     elim (cases_Bool (is_key k key)) [
-      | inl same ↦ rw same (has_key-without key other ks ∙ left_out (is_key key other) (is_key k other) (has_key other ks) (ap (λ (j : QueueKey). is_key j other) (sym (is_key-true k key same))))
+      | inl same ↦ rw same (has_key-without key other ks
+          ∙ left_out (is_key key other) (is_key k other) (has_key other ks) (ap (λ (j : QueueKey). is_key j other) (sym (is_key-true k key same))))
       | inr differs ↦ rw differs (ap (λ b. is_key k other || b) (has_key-without key other ks)
           ∙ kept (is_key key other) (is_key k other) (has_key other ks) (λ its. false_from_ne_true (is_key key other) (λ also.
           both_ways (is_key k key) differs (subst (λ (j : QueueKey). is_key k j ≡ true) (sym (is_key-true key other also)) its))))

@@ -15,7 +15,9 @@ use Rattle.unit_core.specs.Queues.{is_among}
 use Rattle.plain_queues.specs.Queues.{QueuesOf, no_queues}
 use Rattle.plain_queues.specs.Changes.{added, claimed, released, marked, retried, finished, Stops, Starts}
 use Rattle.plain_queues.specs.LogQueues.{AreQueuesOver, AreQueuesOf, units_of, keys_of, added_all, IsNew, LeavesQueues, Claims, TakesNone, is_silent}
-use Rattle.plain_queues.proofs.LogQueuesLemmas.{AreQueuesOver-nothing, AreQueuesOver-claimed, AreQueuesOver-released, AreQueuesOver-other, AreQueuesOver-Done, AreQueuesOver-Mark, AreQueuesOver-committed, AreQueuesOver-Execute, AreQueuesOver-Fail, AreQueuesOver-Accept, AreQueuesOver-direct, AreQueuesOver-Retry, AreQueuesOver-stopped, AreQueuesOver-started, is_silent-leaves}
+use Rattle.plain_queues.proofs.LogQueuesLemmas.{AreQueuesOver-nothing, AreQueuesOver-claimed, AreQueuesOver-released, AreQueuesOver-other, AreQueuesOver-Done}
+use Rattle.plain_queues.proofs.LogQueuesLemmas.{AreQueuesOver-Mark, AreQueuesOver-committed, AreQueuesOver-Execute, AreQueuesOver-Fail, AreQueuesOver-Accept}
+use Rattle.plain_queues.proofs.LogQueuesLemmas.{AreQueuesOver-direct, AreQueuesOver-Retry, AreQueuesOver-stopped, AreQueuesOver-started, is_silent-leaves}
 
 -- a record that takes no unit in leaves the units of a direction
 units_stay : (way : Way) (committed : List AleUnit) (log : List Record) (next : Record) (claims : TidOf → Option ℕ) (queues : QueuesOf) → TakesNone way next
@@ -30,7 +32,8 @@ AreQueuesOf-nothing Outgoing claims = AreQueuesOver-nothing Outgoing claims
 AreQueuesOf-nothing Incoming claims = AreQueuesOver-nothing Incoming claims
 
 -- a claim is no record: the log stays, and the unit is claimed; where it is given up, it is released
-pub AreQueuesOf-claimed : (way : Way) (committed : List AleUnit) (log : List Record) (tid : TidOf) (number : ℕ) (claims after : TidOf → Option ℕ) (queues : QueuesOf)
+pub AreQueuesOf-claimed : (way : Way) (committed : List AleUnit) (log : List Record) (tid : TidOf) (number : ℕ) (claims after : TidOf → Option ℕ)
+    (queues : QueuesOf)
     → Claims tid (Some number) claims after → AreQueuesOf way committed log claims queues → AreQueuesOf way committed log after (claimed number tid queues)
 AreQueuesOf-claimed way committed log tid number claims after queues change are =
     AreQueuesOver-claimed way (units_of way committed log) log tid number claims after queues change are
@@ -78,13 +81,15 @@ pub AreQueuesOf-Execute : (committed : List AleUnit) (log : List Record) (tid : 
     → Claims tid None claims after → AreQueuesOf Incoming committed log claims queues
     → AreQueuesOf Incoming committed (log ++ Execute tid ∷ []) after (finished tid queues)
 AreQueuesOf-Execute committed log tid claims after queues change are =
-    units_stay Incoming committed log (Execute tid) after (finished tid queues) refl (AreQueuesOver-Execute (received log) log tid claims after queues change are)
+    units_stay Incoming committed log (Execute tid) after (finished tid queues) refl
+    (AreQueuesOver-Execute (received log) log tid claims after queues change are)
 
 pub AreQueuesOf-Fail : (committed : List AleUnit) (log : List Record) (tid : TidOf) (claims after : TidOf → Option ℕ) (queues : QueuesOf)
     → Claims tid None claims after → AreQueuesOf Incoming committed log claims queues
     → AreQueuesOf Incoming committed (log ++ Fail tid ∷ []) after (marked Sysfail tid queues)
 AreQueuesOf-Fail committed log tid claims after queues change are =
-    units_stay Incoming committed log (Fail tid) after (marked Sysfail tid queues) refl (AreQueuesOver-Fail (received log) log tid claims after queues change are)
+    units_stay Incoming committed log (Fail tid) after (marked Sysfail tid queues) refl
+    (AreQueuesOver-Fail (received log) log tid claims after queues change are)
 
 takes_none_Retry : (way other : Way) (tid : TidOf) → TakesNone way (Retry other tid)
 takes_none_Retry Outgoing other tid = tt
@@ -105,14 +110,16 @@ AreQueuesOf-Retry way committed log tid claims queues are =
     units_stay way committed log (Retry way tid) claims (retried tid queues) (takes_none_Retry way way tid)
     (AreQueuesOver-Retry way (units_of way committed log) log tid claims queues are)
 
-pub AreQueuesOf-Stop : (way : Way) (committed : List AleUnit) (log : List Record) (destination : ℕ) (name : List ℕ) (claims : TidOf → Option ℕ) (queues after : QueuesOf)
+pub AreQueuesOf-Stop : (way : Way) (committed : List AleUnit) (log : List Record) (destination : ℕ) (name : List ℕ) (claims : TidOf → Option ℕ)
+    (queues after : QueuesOf)
     → Stops (record { partner = destination; name = name }) queues after → AreQueuesOf way committed log claims queues
     → AreQueuesOf way committed (log ++ Stop way destination name ∷ []) claims after
 AreQueuesOf-Stop way committed log destination name claims queues after stops are =
     units_stay way committed log (Stop way destination name) claims after (takes_none_Stop way way destination name)
     (AreQueuesOver-stopped way (units_of way committed log) log destination name claims queues after stops are)
 
-pub AreQueuesOf-Start : (way : Way) (committed : List AleUnit) (log : List Record) (destination : ℕ) (name : List ℕ) (claims : TidOf → Option ℕ) (queues after : QueuesOf)
+pub AreQueuesOf-Start : (way : Way) (committed : List AleUnit) (log : List Record) (destination : ℕ) (name : List ℕ) (claims : TidOf → Option ℕ)
+    (queues after : QueuesOf)
     → Starts (record { partner = destination; name = name }) queues after → AreQueuesOf way committed log claims queues
     → AreQueuesOf way committed (log ++ Start way destination name ∷ []) claims after
 AreQueuesOf-Start way committed log destination name claims queues after starts are =

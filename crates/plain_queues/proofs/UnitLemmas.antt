@@ -1,7 +1,8 @@
 -- Units by their ids, and one of them changed.
 use Rattle.std.specs.Prelude.{filter, find, slice_get, slice_set, position, Contains}
 use Rattle.std.specs.List.{list_any, position_or_len}
-use Rattle.std.proofs.Common.{◌≡◌, ◌≤◌, ℕ, zero, suc, Bool, true, false, ◌||◌, Some, None, List, [], ◌∷◌, ◌++◌, map, cond, inl, inr, refl, sym, ap, subst, ◌∙◌, length, arith, ltb}
+use Rattle.std.proofs.Common.{◌≡◌, ◌≤◌, ℕ, zero, suc, Bool, true, false, ◌||◌, Some, None, List, [], ◌∷◌, ◌++◌, map, cond, inl, inr, refl, sym, ap, subst, ◌∙◌}
+use Rattle.std.proofs.Common.{length, arith, ltb}
 use Rattle.std.proofs.lemmas.Bool.{cases_Bool, both_ways, or_parts, or_from, cond-true, cond-false, cases_lt, lt-ltb}
 use Rattle.std.proofs.lemmas.List.{map-append}
 use Rattle.std.proofs.lemmas.List.Quantifiers.{position-Some}
@@ -63,7 +64,8 @@ changed-at change tid (u ∷ us) zero unit apart here its =
     sym (ap (λ first. first ∷ map (changed_if change tid) us) (cond-true (is_tid u.tid tid) (change u) u named ∙ ap change same)
     ∙ ap (λ rest. change unit ∷ rest) (changed-none change tid us others))
 changed-at change tid (u ∷ us) (suc place) unit apart here its =
-    let listed : is_listed tid (tids_of us) ≡ true = subst (λ t. is_listed t (tids_of us) ≡ true) (is_tid-true unit.tid tid its) (listed_at us place unit here) in
+    let listed : is_listed tid (tids_of us) ≡ true = subst (λ t. is_listed t (tids_of us) ≡ true) (is_tid-true unit.tid tid its)
+    (listed_at us place unit here) in
     elim (cases_Bool (is_tid u.tid tid)) [
       | inl same ↦ absurd (both_ways (is_listed tid (tids_of us)) (subst (λ t. is_listed t (tids_of us) ≡ false) (is_tid-true u.tid tid same) apart.0) listed)
       | inr other ↦ ap (λ rest. u ∷ rest) (changed-at change tid us place unit apart.1 here its)
@@ -83,7 +85,8 @@ changed-tids change tid (u ∷ us) keeps =
     ∙ ap (λ rest. u.tid ∷ rest) (changed-tids change tid us keeps)
 
 -- an id that is not among those of units is not among those of some of them
-is_listed-kept : (test : QueuedUnit → Bool) (tid : TidOf) (units : List QueuedUnit) → is_listed tid (tids_of units) ≡ false → is_listed tid (tids_of (filter test units)) ≡ false
+is_listed-kept : (test : QueuedUnit → Bool) (tid : TidOf) (units : List QueuedUnit) → is_listed tid (tids_of units) ≡ false →
+    is_listed tid (tids_of (filter test units)) ≡ false
 is_listed-kept test tid [] none = refl
 is_listed-kept test tid (u ∷ us) none =
     let parts = or_parts (is_tid u.tid tid) (is_listed tid (tids_of us)) none in
@@ -109,7 +112,8 @@ position-at tid units place unit found here =
     sym (ap (λ (u : QueuedUnit). is_tid u.tid tid) (get_or_from_slice_get units place unit unit here)) ∙ passes
 
 -- where no place is found, no unit has the id
-pub position-none : (tid : TidOf) (units : List QueuedUnit) → position (λ (u : QueuedUnit). is_tid u.tid tid) units ≡ None → is_listed tid (tids_of units) ≡ false
+pub position-none : (tid : TidOf) (units : List QueuedUnit) → position (λ (u : QueuedUnit). is_tid u.tid tid) units ≡ None →
+    is_listed tid (tids_of units) ≡ false
 position-none tid units none =
     any_listed tid units ∙ list_any_none (λ (u : QueuedUnit). is_tid u.tid tid) units
     (λ k d within. fails_before_first (λ (u : QueuedUnit). is_tid u.tid tid) units k d

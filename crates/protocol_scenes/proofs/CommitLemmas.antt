@@ -27,7 +27,8 @@ one_list P [] (suc k) all = tt
 one_list P (list ∷ lists) zero all = all.0
 one_list P (list ∷ lists) (suc k) all = one_list P lists k all.1
 
-each_listed : (P : AleUnit → Type 0) (lists : List (List AleUnit)) (system : ℕ) → AllByRecursion (AllByRecursion P) lists → AllByRecursion P (list_of lists system)
+each_listed : (P : AleUnit → Type 0) (lists : List (List AleUnit)) (system : ℕ) → AllByRecursion (AllByRecursion P) lists →
+    AllByRecursion P (list_of lists system)
 each_listed P lists zero all = tt
 each_listed P lists (suc k) all = one_list P lists k all
 
@@ -40,7 +41,8 @@ lists_writable lists all = record {
 }
 
 -- a Commit more commits the next unit of the list
-pub one_more : (list : List AleUnit) (log : List Record) (next : Record) (unit : AleUnit) → is_commit_record next ≡ true → slice_get list (commits_of log) ≡ Some unit
+pub one_more : (list : List AleUnit) (log : List Record) (next : Record) (unit : AleUnit) → is_commit_record next ≡ true →
+    slice_get list (commits_of log) ≡ Some unit
     → take (commits_of (log ++ next ∷ [])) list ≡ take (commits_of log) list ++ unit ∷ []
 one_more list log next unit is here =
     let count : commits_of (log ++ next ∷ []) ≡ suc (commits_of log) =
@@ -50,7 +52,8 @@ one_more list log next unit is here =
     ∙ ap (λ last. take (commits_of log) list ++ last ∷ []) (get_or_from_slice_get list (commits_of log) unit unit here)
 
 -- a Commit with the documents of the next unit, which is possible now, commits that unit
-pub next_commits : (world : World ListedRules) (system : ℕ) (unit : AleUnit) (docs : List RawUnitDoc) → IsNextUnit world system unit → docs ≡ unit.docs → IsUnit unit
+pub next_commits : (world : World ListedRules) (system : ℕ) (unit : AleUnit) (docs : List RawUnitDoc) → IsNextUnit world system unit → docs ≡ unit.docs →
+    IsUnit unit
     → may_keep (listed_meaning world.rules.units) world system (Commit None docs) ≡ true → IsNextCommit world system unit (Commit None docs)
 next_commits world system unit docs here same fits may = record {
   possible = ap (λ (is : Bool). record_if is system (Commit None docs)) may;
@@ -74,4 +77,5 @@ pub same_docs : (docs copies : List RawUnitDoc) → AllZip (λ doc copy. copy �
 same_docs [] [] all = refl
 same_docs [] (copy ∷ copies) all = absurd all
 same_docs (doc ∷ docs) [] all = absurd all
-same_docs (doc ∷ docs) (copy ∷ copies) all = ap (λ (first : RawUnitDoc). first ∷ copies) all.0 ∙ ap (λ (rest : List RawUnitDoc). doc ∷ rest) (same_docs docs copies all.1)
+same_docs (doc ∷ docs) (copy ∷ copies) all = ap (λ (first : RawUnitDoc). first ∷ copies) all.0
+    ∙ ap (λ (rest : List RawUnitDoc). doc ∷ rest) (same_docs docs copies all.1)

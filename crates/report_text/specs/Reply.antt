@@ -9,7 +9,8 @@ use Rattle.status_log.specs.declared.refusal.Refusal.TheVariants as refusal
 use Rattle.status_log.specs.declared.status.Status.{Status}
 use Rattle.status_log.specs.Refusal.{IsNumbered}
 use Rattle.report_text.specs.declared.reply.Reply.{Reply}
-use Rattle.report_text.specs.declared.reply.Reply.TheVariants.{Sent, Pointers, Gathered, Units, Finished, Carried, New, Known, SysFail, Down, Posted, Lines, Fault, Refused}
+use Rattle.report_text.specs.declared.reply.Reply.TheVariants.{Sent, Pointers, Gathered, Units, Finished, Carried, New, Known, SysFail, Down, Posted, Lines}
+use Rattle.report_text.specs.declared.reply.Reply.TheVariants.{Fault, Refused}
 
 -- a word and a number behind a blank
 abbrev pub counted : List ℕ → ℕ → List ℕ

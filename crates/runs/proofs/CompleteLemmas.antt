@@ -1,6 +1,7 @@
 -- Where nothing holds units up, no command does but those that stop a queue or give letters; and behind a drain each unit went its whole way.
 use Rattle.std.specs.Option.{option_map_or}
-use Rattle.std.proofs.Common.{◌≡◌, ◌<◌, ◌&&◌, ℕ, zero, suc, not, Bool, true, false, cond, length, Option, Some, None, Result, Ok, Err, List, [], ◌∷◌, ◌++◌, inl, inr, refl, sym, subst, ◌∙◌, append-nil, arith}
+use Rattle.std.proofs.Common.{◌≡◌, ◌<◌, ◌&&◌, ℕ, zero, suc, not, Bool, true, false, cond, length, Option, Some, None, Result, Ok, Err, List, [], ◌∷◌, ◌++◌, inl}
+use Rattle.std.proofs.Common.{inr, refl, sym, subst, ◌∙◌, append-nil, arith}
 use Rattle.std.specs.Prelude.{⊤, slice_get}
 use Rattle.std.proofs.lemmas.Bool.{and_parts, cases_Bool}
 use Rattle.ale_base.specs.Tid.{TidOf}
@@ -57,7 +58,8 @@ use Rattle.runs.specs.declared.answered.Answered.{Answered}
 use Rattle.runs.specs.declared.inputs.Inputs.{Inputs}
 use Rattle.runs.specs.declared.stage.Stage.{Stage}
 use Rattle.runs.specs.Complete.{AllGoThrough, HoldNothing, IsFree, OfferAll, holds_nothing}
-use Rattle.runs.specs.Does.{At, Carries, Commits, Does, Drains, Lates, Leads, Operates, Queues, Shows, asked_master, numbered, shown_gathered, shown_sent, answer_of, drained_as, shown_late}
+use Rattle.runs.specs.Does.{At, Carries, Commits, Does, Drains, Lates, Leads, Operates, Queues, Shows, asked_master, numbered, shown_gathered, shown_sent}
+use Rattle.runs.specs.Does.{answer_of, drained_as, shown_late}
 use Rattle.runs.specs.Turns.{Turn, at_moment, down_from, first_down}
 use Rattle.runs.specs.steps.Keeping.{KeepsFree}
 
@@ -94,7 +96,8 @@ Harmless next = is_harmless next ≡ true
 same-next : (one next : Record) → Harmless one → ◌≡◌ {A = Asked} (Ok (Some one)) (Ok (Some next)) → Harmless next
 same-next one next is same = subst Harmless (cc) is
 
-if-asked : (met : Bool) (one next : Record) (why : Refusal) → Harmless one → ◌≡◌ {A = Asked} (cond met (Ok (Some one)) (Err why)) (Ok (Some next)) → Harmless next
+if-asked : (met : Bool) (one next : Record) (why : Refusal) → Harmless one → ◌≡◌ {A = Asked} (cond met (Ok (Some one)) (Err why)) (Ok (Some next)) →
+    Harmless next
 if-asked true one next why is same = same-next one next is same
 if-asked false one next why is same = cc
 

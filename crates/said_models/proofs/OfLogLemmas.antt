@@ -2,7 +2,8 @@
 use Rattle.std.specs.Prelude.{slice_get, fold}
 use Rattle.std.specs.List.{AllByRecursion, filter_map}
 use Rattle.std.specs.Option.{option_map_or}
-use Rattle.std.proofs.Common.{◌≡◌, ℕ, zero, suc, ◌+◌, ◌≤◌, ◌<◌, ◌⊎◌, inl, inr, Option, Some, None, List, [], ◌∷◌, ◌++◌, length, refl, sym, ap, ◌∙◌, arith, length-append}
+use Rattle.std.proofs.Common.{◌≡◌, ℕ, zero, suc, ◌+◌, ◌≤◌, ◌<◌, ◌⊎◌, inl, inr, Option, Some, None, List, [], ◌∷◌, ◌++◌, length, refl, sym, ap, ◌∙◌, arith}
+use Rattle.std.proofs.Common.{length-append}
 use Rattle.std.proofs.lemmas.List.{append-nil}
 use Rattle.ale_base.proofs.ListLemmas.{slice_get-within}
 use Rattle.ale_base.proofs.MemberLemmas.{filter_map-None, filter_map-Some}
@@ -126,7 +127,8 @@ of-grown of before log next =
     ]
 
 -- what is true of the model that each text of a log says is true of those of the log
-pub models_of-texts : (P : Lists → Type 0) (log : List Record) → AllByRecursion (λ text. (model : Lists) → said text ≡ Some model → P model) (filter_map text_of log)
+pub models_of-texts : (P : Lists → Type 0) (log : List Record) →
+    AllByRecursion (λ text. (model : Lists) → said text ≡ Some model → P model) (filter_map text_of log)
     → AllByRecursion P (models_of log)
 models_of-texts P log each = said_all-each P (filter_map text_of log) each
 
@@ -134,7 +136,8 @@ models_of-texts P log each = said_all-each P (filter_map text_of log) each
 
 -- under which model the record behind a log is taken, by the models of the longer log
 pub in_force-grown : (log : List Record) (next : Record) → in_force (models_of (log ++ next ∷ [])) (models_in log) ≡ model_of log
-in_force-grown log next = of-grown (λ models log. in_force models (models_in log)) (λ models more log within. in_force-before models more (models_in log) within) log next
+in_force-grown log next = of-grown (λ models log. in_force models (models_in log))
+    (λ models more log within. in_force-before models more (models_in log) within) log next
 
 -- a record without a text leaves the model in force
 pub model_of-stay : (log : List Record) (next : Record) → text_of next ≡ None → model_of (log ++ next ∷ []) ≡ model_of log

@@ -3,7 +3,8 @@ use Rattle.std.specs.Prelude.{slice_get, IsSome, Contains, ◌↔◌}
 use Rattle.std.specs.List.{AllByRecursion, AllPairs, IsDistinct, flat_map}
 use Rattle.std.specs.Option.{option_map, option_map_or}
 use Rattle.std.specs.Cmp.Lexicographic.{bytes_decides}
-use Rattle.std.proofs.Common.{◌≡◌, ℕ, zero, suc, ◌+◌, ◌-◌, ◌<◌, ◌≤◌, ◌⊎◌, false, Option, Some, None, List, [], ◌∷◌, ◌++◌, length, length-append, map, take, inl, inr, refl, sym, ap, subst, ◌∙◌, arith}
+use Rattle.std.proofs.Common.{◌≡◌, ℕ, zero, suc, ◌+◌, ◌-◌, ◌<◌, ◌≤◌, ◌⊎◌, false, Option, Some, None, List, [], ◌∷◌, ◌++◌, length, length-append, map, take, inl}
+use Rattle.std.proofs.Common.{inr, refl, sym, ap, subst, ◌∙◌, arith}
 use Rattle.std.proofs.lemmas.Bool.{cases_Bool, cond-true, cond-false}
 use Rattle.std.proofs.lemmas.Option.{same_Some, some_pair_parts, slice_get-map, slice_get_within}
 use Rattle.std.proofs.lemmas.List.{take_all, length-take, get_or_append_left, get_or-append-add}
@@ -17,7 +18,8 @@ use Rattle.segment_defs.specs.declared.definitions.Definitions.{Definitions}
 use Rattle.ale_base.specs.Text.{is_text}
 use Rattle.segment_defs.specs.Version.{IsVersion, width_of, fitted}
 use Rattle.segment_defs.specs.SegmentType.{Continues, IsSegmentType}
-use Rattle.segment_defs.specs.Definitions.{AreDefinitions, StandsFor, names_of, versions_of, version_of, version_named, named_in, first_found, found_in, HasVersion}
+use Rattle.segment_defs.specs.Definitions.{AreDefinitions, StandsFor, names_of, versions_of, version_of, version_named, named_in, first_found, found_in}
+use Rattle.segment_defs.specs.Definitions.{HasVersion}
 use Rattle.ale_base.proofs.OptionLemmas.{option_map-Some, none_or_some}
 use Rattle.ale_base.proofs.ListLemmas.{AllByRecursion-at, IsDistinct-parts, Contains-at, slice_get-within}
 use Rattle.ale_base.proofs.MemberLemmas.{Contains-cons}
@@ -54,20 +56,24 @@ version_named-name name (version ∷ versions) place found =
     ]
 
 -- what a name stands for in one segment type has it
-named_in-IsNamed : (name : List ℕ) (type : SegmentType) (version : ℕ) → 1 ≤ length type.versions → named_in name type ≡ Some version → (definition : Version) × IsNamed name type version definition
+named_in-IsNamed : (name : List ℕ) (type : SegmentType) (version : ℕ) → 1 ≤ length type.versions → named_in name type ≡ Some version →
+    (definition : Version) × IsNamed name type version definition
 named_in-IsNamed name type version some found =
     elim (cases_Bool (is_text type.name name)) [
       | inl same ↦
-          let last : length type.versions - 1 ≡ version = same_Some (length type.versions - 1) version (sym (cond-true (is_text type.name name) (Some (length type.versions - 1)) (version_named name type.versions) same) ∙ found) in
+          let last : length type.versions - 1 ≡ version = same_Some (length type.versions - 1) version
+          (sym (cond-true (is_text type.name name) (Some (length type.versions - 1)) (version_named name type.versions) same) ∙ found) in
           let there = slice_get-within type.versions version (omega arith) in
           (there.0, (there.1, inr ((bytes_decides type.name name).0 same, omega arith)))
       | inr other ↦
-          let there = version_named-name name type.versions version (sym (cond-false (is_text type.name name) (Some (length type.versions - 1)) (version_named name type.versions) other) ∙ found) in
+          let there = version_named-name name type.versions version
+          (sym (cond-false (is_text type.name name) (Some (length type.versions - 1)) (version_named name type.versions) other) ∙ found) in
           (there.0, (there.1, inl there.2))
     ]
 
 -- the name of a definition stands at its place among the names
-name-at : (versions : List Version) (place : ℕ) (definition : Version) → slice_get versions place ≡ Some definition → slice_get (map (λ version. version.name) versions) place ≡ Some definition.name
+name-at : (versions : List Version) (place : ℕ) (definition : Version) → slice_get versions place ≡ Some definition →
+    slice_get (map (λ version. version.name) versions) place ≡ Some definition.name
 name-at versions place definition here =
     slice_get-map (λ (version : Version). version.name) versions place ∙ ap (option_map (λ (version : Version). version.name)) here
 
@@ -78,37 +84,44 @@ unfolding IsDistinct
 version_named-place [] place definition apart here = cc
 version_named-place (version ∷ versions) zero definition apart here =
     let same : version.name ≡ definition.name = ap (λ v. v.name) (same_Some version definition here) in
-    cond-true (is_text version.name definition.name) (Some 0) (option_map suc (version_named definition.name versions)) ((bytes_decides version.name definition.name).1 same)
+    cond-true (is_text version.name definition.name) (Some 0) (option_map suc (version_named definition.name versions))
+    ((bytes_decides version.name definition.name).1 same)
 version_named-place (version ∷ versions) (suc place) definition apart here =
-    let other = AllByRecursion-at (λ name. is_text version.name name ≡ false) (map (λ v. v.name) versions) place definition.name apart.0 (name-at versions place definition here) in
+    let other = AllByRecursion-at (λ name. is_text version.name name ≡ false) (map (λ v. v.name) versions) place definition.name apart.0
+    (name-at versions place definition here) in
     cond-false (is_text version.name definition.name) (Some 0) (option_map suc (version_named definition.name versions)) other
     ∙ ap (option_map suc) (version_named-place versions place definition apart.1 here)
 
 -- where no name stands twice, the definition that has a name is the one that is found in its type
-named_in-place : (name : List ℕ) (type : SegmentType) (version : ℕ) (definition : Version) → IsDistinct is_text (names_of type) → IsNamed name type version definition → named_in name type ≡ Some version
+named_in-place : (name : List ℕ) (type : SegmentType) (version : ℕ) (definition : Version) → IsDistinct is_text (names_of type) →
+    IsNamed name type version definition → named_in name type ≡ Some version
 unfolding IsDistinct
 named_in-place name type version definition apart named =
     elim named.1 [
       | inl same ↦
-          let other = AllByRecursion-at (λ n. is_text type.name n ≡ false) (map (λ v. v.name) type.versions) version definition.name apart.0 (name-at type.versions version definition named.0) in
+          let other = AllByRecursion-at (λ n. is_text type.name n ≡ false) (map (λ v. v.name) type.versions) version definition.name apart.0
+          (name-at type.versions version definition named.0) in
           subst (λ n. named_in n type ≡ Some version) same
           (cond-false (is_text type.name definition.name) (Some (length type.versions - 1)) (version_named definition.name type.versions) other
           ∙ version_named-place type.versions version definition apart.1 named.0)
       | inr newest ↦
           let last : length type.versions - 1 ≡ version = omega (arith, newest.1) in
-          cond-true (is_text type.name name) (Some (length type.versions - 1)) (version_named name type.versions) ((bytes_decides type.name name).1 newest.0) ∙ ap Some last
+          cond-true (is_text type.name name) (Some (length type.versions - 1)) (version_named name type.versions) ((bytes_decides type.name name).1 newest.0)
+          ∙ ap Some last
     ]
 
 -- such a name is among those of the type
 IsNamed-among : (name : List ℕ) (type : SegmentType) (version : ℕ) (definition : Version) → IsNamed name type version definition → Contains (names_of type) name
 IsNamed-among name type version definition named =
     elim named.1 [
-      | inl same ↦ subst (Contains (names_of type)) same (Contains-at (names_of type) (suc version) definition.name (name-at type.versions version definition named.0))
+      | inl same ↦ subst (Contains (names_of type)) same
+          (Contains-at (names_of type) (suc version) definition.name (name-at type.versions version definition named.0))
       | inr newest ↦ subst (Contains (names_of type)) newest.0 (Contains-at (names_of type) 0 type.name refl)
     ]
 
 -- a name of one type is among the names of all
-among_all : (types : List SegmentType) (segment : ℕ) (type : SegmentType) (name : List ℕ) → slice_get types segment ≡ Some type → Contains (names_of type) name → Contains (flat_map names_of types) name
+among_all : (types : List SegmentType) (segment : ℕ) (type : SegmentType) (name : List ℕ) → slice_get types segment ≡ Some type →
+    Contains (names_of type) name → Contains (flat_map names_of types) name
 among_all [] segment type name here among = cc
 among_all (other ∷ types) zero type name here among =
     Contains-append_left (names_of other) (flat_map names_of types) name (subst (λ t. Contains (names_of t) name) (sym (same_Some other type here)) among)
@@ -137,15 +150,19 @@ found_in-type name (type ∷ types) segment version found =
     ]
 
 -- where no name stands twice, the definition that has a name is the one that is found in all
-found_in-place : (name : List ℕ) (types : List SegmentType) (segment version : ℕ) (type : SegmentType) (definition : Version) → AllByRecursion IsSegmentType types
-    → IsDistinct is_text (flat_map names_of types) → slice_get types segment ≡ Some type → IsNamed name type version definition → found_in name types ≡ Some (segment, version)
+found_in-place : (name : List ℕ) (types : List SegmentType) (segment version : ℕ) (type : SegmentType) (definition : Version) →
+    AllByRecursion IsSegmentType types
+    → IsDistinct is_text (flat_map names_of types) → slice_get types segment ≡ Some type → IsNamed name type version definition →
+    found_in name types ≡ Some (segment, version)
 found_in-place name [] segment version type definition each apart here named = cc
 found_in-place name (other ∷ types) zero version type definition each apart here named =
     let own = (IsDistinct-parts is_text (names_of other) (flat_map names_of types) apart).0 in
     let same : other ≡ type = same_Some other type here in
-    ap (λ found. first_found found (found_in name types)) (named_in-place name other version definition own (subst (λ t. IsNamed name t version definition) (sym same) named))
+    ap (λ found. first_found found (found_in name types))
+    (named_in-place name other version definition own (subst (λ t. IsNamed name t version definition) (sym same) named))
 found_in-place name (other ∷ types) (suc segment) version type definition each apart here named =
-    let found = found_in-place name types segment version type definition each.1 (IsDistinct-parts is_text (names_of other) (flat_map names_of types) apart).2 here named in
+    let found = found_in-place name types segment version type definition each.1 (IsDistinct-parts is_text (names_of other) (flat_map names_of types) apart).2
+    here named in
     elim (none_or_some (named_in name other)) [
       | inl none ↦ ap (λ own. first_found own (found_in name types)) none ∙ ap (option_map (λ (f : ℕ × ℕ). (suc f.0, f.1))) found
       | inr twice ↦
@@ -177,7 +194,8 @@ stands_for-found definitions name segment version are =
     (StandsFor-found definitions name segment version are, found-StandsFor definitions name segment version are)
 
 -- a name among those of all types is one of a type's names
-type_among : (types : List SegmentType) (name : List ℕ) → Contains (flat_map names_of types) name → (segment : ℕ) × (type : SegmentType) × (slice_get types segment ≡ Some type) × Contains (names_of type) name
+type_among : (types : List SegmentType) (name : List ℕ) → Contains (flat_map names_of types) name →
+    (segment : ℕ) × (type : SegmentType) × (slice_get types segment ≡ Some type) × Contains (names_of type) name
 type_among [] name has = absurd (omega (arith, has.1))
 type_among (type ∷ types) name has =
     elim (Contains-append_cases (names_of type) (flat_map names_of types) name has) [
@@ -196,7 +214,8 @@ definition_among (version ∷ versions) name has =
     ]
 
 -- a name of a type that has a definition stands for one of them
-among-IsNamed : (name : List ℕ) (type : SegmentType) → 1 ≤ length type.versions → Contains (names_of type) name → (version : ℕ) × (definition : Version) × IsNamed name type version definition
+among-IsNamed : (name : List ℕ) (type : SegmentType) → 1 ≤ length type.versions → Contains (names_of type) name →
+    (version : ℕ) × (definition : Version) × IsNamed name type version definition
 among-IsNamed name type some has =
     elim (Contains-cons type.name (map (λ version. version.name) type.versions) name has) [
       | inl same ↦
@@ -218,12 +237,15 @@ named-StandsFor definitions name are has =
     (there.0, named.0, record { type = there.1; type_at = there.2; definition = named.1; definition_at = named.2.0; named = named.2.1 })
 
 -- what stands for a definition is a name of a type or of a definition
-pub StandsFor-named : (definitions : Definitions) (name : List ℕ) (segment version : ℕ) → StandsFor definitions name segment version → Contains (flat_map names_of definitions.types) name
+pub StandsFor-named : (definitions : Definitions) (name : List ℕ) (segment version : ℕ) → StandsFor definitions name segment version →
+    Contains (flat_map names_of definitions.types) name
 StandsFor-named definitions name segment version stands =
-    among_all definitions.types segment stands.type name stands.type_at (IsNamed-among name stands.type version stands.definition (stands.definition_at, stands.named))
+    among_all definitions.types segment stands.type name stands.type_at
+    (IsNamed-among name stands.type version stands.definition (stands.definition_at, stands.named))
 
 -- nothing is found exactly where neither a type nor a definition has the name
-pub none-found : (definitions : Definitions) (name : List ℕ) → AreDefinitions definitions → (found_in name definitions.types ≡ None) ↔ (Contains (flat_map names_of definitions.types) name → ⊥)
+pub none-found : (definitions : Definitions) (name : List ℕ) → AreDefinitions definitions →
+    (found_in name definitions.types ≡ None) ↔ (Contains (flat_map names_of definitions.types) name → ⊥)
 none-found definitions name are = (
   λ none has. let there = named-StandsFor definitions name are has in let found = found-StandsFor definitions name there.0 there.1 are there.2 in cc,
   λ never. elim (none_or_some (found_in name definitions.types)) [
@@ -233,7 +255,8 @@ none-found definitions name are = (
 )
 
 -- the definitions of a type that keeps its rules continue each other; where there is no type there are none
-versions_found-continued : (found : Option SegmentType) → ((type : SegmentType) → found ≡ Some type → IsSegmentType type) → AllPairs Continues (option_map_or (λ type. type.versions) found [])
+versions_found-continued : (found : Option SegmentType) → ((type : SegmentType) → found ≡ Some type → IsSegmentType type) →
+    AllPairs Continues (option_map_or (λ type. type.versions) found [])
 versions_found-continued None is = λ i j d less within. absurd (omega arith)
 versions_found-continued (Some type) is = (is type refl).continued
 
@@ -264,7 +287,8 @@ found-HasVersion definitions name segment version are found =
     subst IsSome (sym there.1) refl
 
 -- a definition is one of a segment type
-versions_found-type : (found : Option SegmentType) (version : ℕ) (definition : Version) → slice_get (option_map_or (λ type. type.versions) found []) version ≡ Some definition
+versions_found-type : (found : Option SegmentType) (version : ℕ) (definition : Version) → slice_get (option_map_or (λ type. type.versions) found []) version
+    ≡ Some definition
     → (type : SegmentType) × (found ≡ Some type) × (slice_get type.versions version ≡ Some definition)
 versions_found-type None version definition here = cc
 versions_found-type (Some type) version definition here = (type, refl, here)

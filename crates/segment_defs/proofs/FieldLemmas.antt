@@ -1,13 +1,15 @@
 -- Data that are made of the texts of fields, and the texts that are read in them again.
 use Rattle.std.specs.Prelude.{slice_get, replicate}
 use Rattle.std.specs.Option.{option_map_or}
-use Rattle.std.proofs.Common.{◌≡◌, ℕ, zero, suc, ◌+◌, ◌-◌, ◌≤◌, Some, List, [], ◌∷◌, ◌++◌, length, take, drop, refl, sym, ap, subst, ◌∙◌, arith, append_assoc, append-nil, length-append}
+use Rattle.std.proofs.Common.{◌≡◌, ℕ, zero, suc, ◌+◌, ◌-◌, ◌≤◌, Some, List, [], ◌∷◌, ◌++◌, length, take, drop, refl, sym, ap, subst, ◌∙◌, arith, append_assoc}
+use Rattle.std.proofs.Common.{append-nil, length-append}
 use Rattle.std.proofs.lemmas.Option.{same_Some}
 use Rattle.std.proofs.lemmas.List.{take_all, length-take, length-drop, drop-drop, drop-take, take-take}
 use Rattle.std.proofs.lemmas.List.Sums.{sum_by-cons}
 use Rattle.std.proofs.Math.Seq.{take-append_seam, drop-append-add, take-add}
 use Rattle.ale_base.specs.Blanks.{trimmed, padded}
-use Rattle.ale_base.specs.TrimmedLemmas.{trimmed-trimmed, length-trimmed, padded-trimmed, padded-trimmed_at, trimmed-padded, trimmed-take-padded, trimmed-drop-padded, length-padded}
+use Rattle.ale_base.specs.TrimmedLemmas.{trimmed-trimmed, length-trimmed, padded-trimmed, padded-trimmed_at, trimmed-padded, trimmed-take-padded}
+use Rattle.ale_base.specs.TrimmedLemmas.{trimmed-drop-padded, length-padded}
 use Rattle.segment_defs.specs.declared.field.Field.{Field}
 use Rattle.segment_defs.specs.declared.version.Version.{Version}
 use Rattle.segment_defs.specs.Version.{width_of, AreLaidOut, field_text, fitted, text_in, texts_joined, data_of, HaveRoom}
@@ -23,7 +25,8 @@ trimmed-drop-trimmed n bytes =
 -- the bytes before the blanks at the end
 pub take-trimmed : (bytes : List ℕ) → take (length (trimmed bytes)) bytes ≡ trimmed bytes
 take-trimmed bytes =
-    subst (λ bs. take (length (trimmed bytes)) bs ≡ trimmed bytes) (padded-trimmed bytes) (take-append_seam (trimmed bytes) (replicate (length bytes - length (trimmed bytes)) 32))
+    subst (λ bs. take (length (trimmed bytes)) bs ≡ trimmed bytes) (padded-trimmed bytes)
+    (take-append_seam (trimmed bytes) (replicate (length bytes - length (trimmed bytes)) 32))
 
 -- a field is the same in data without the blanks at their end
 pub field_text-trimmed : (bytes : List ℕ) (field : Field) → field_text (trimmed bytes) field ≡ field_text bytes field
@@ -38,7 +41,8 @@ length-field_text sdata field =
     omega (arith, length-trimmed (take field.length (drop field.offset sdata)), length-take field.length (drop field.offset sdata))
 
 -- the text of the field at a place
-pub text_in-at : (fields : List Field) (sdata : List ℕ) (place : ℕ) (field : Field) → slice_get fields place ≡ Some field → text_in fields sdata place ≡ field_text sdata field
+pub text_in-at : (fields : List Field) (sdata : List ℕ) (place : ℕ) (field : Field) → slice_get fields place ≡ Some field →
+    text_in fields sdata place ≡ field_text sdata field
 text_in-at fields sdata place field here = ap (λ f. option_map_or (field_text sdata) f []) here
 
 -- the texts of fields have room in them
@@ -47,7 +51,8 @@ HaveRoom-text_in fields sdata place field here =
     omega (arith, ap length (text_in-at fields sdata place field here), length-field_text sdata field)
 
 -- fields that are laid out from an offset begin no earlier
-laid_out-from : (offset : ℕ) (fields : List Field) (place : ℕ) (field : Field) → AreLaidOut offset fields → slice_get fields place ≡ Some field → offset ≤ field.offset
+laid_out-from : (offset : ℕ) (fields : List Field) (place : ℕ) (field : Field) → AreLaidOut offset fields → slice_get fields place ≡ Some field →
+    offset ≤ field.offset
 laid_out-from offset [] place field laid here = cc
 laid_out-from offset (first ∷ fields) zero field laid here =
     let at : field.offset ≡ first.offset = ap (λ f. f.offset) (sym (same_Some first field here)) in
@@ -75,7 +80,8 @@ drop_front n more front rest same = subst (λ (m : ℕ). drop (m + more) (front 
 
 -- the part of a field in the joined texts, from the offset of the first field on
 texts_joined-part : (fields : List Field) (texts : ℕ → List ℕ) (offset skipped place : ℕ) (field : Field) → AreLaidOut offset fields → HaveRoom fields texts
-    → slice_get fields place ≡ Some field → field.offset ≡ offset + skipped → take field.length (drop skipped (texts_joined fields texts)) ≡ padded field.length (texts place)
+    → slice_get fields place ≡ Some field → field.offset ≡ offset + skipped → take field.length (drop skipped (texts_joined fields texts))
+    ≡ padded field.length (texts place)
 texts_joined-part [] texts offset skipped place field laid room here at = cc
 texts_joined-part (first ∷ fields) texts offset skipped zero field laid room here at =
     let same : first ≡ field = same_Some first field here in
@@ -84,7 +90,8 @@ texts_joined-part (first ∷ fields) texts offset skipped zero field laid room h
     let joined = texts_joined (first ∷ fields) texts in
     subst (λ f. take f.length (drop skipped joined) ≡ padded f.length (texts 0)) same
     (subst (λ n. take first.length (drop n joined) ≡ padded first.length (texts 0)) none
-    (take_front first.length (padded first.length (texts 0)) (texts_joined fields (λ p. texts (suc p))) (length-padded first.length (texts 0) (room 0 first refl))))
+    (take_front first.length (padded first.length (texts 0)) (texts_joined fields (λ p. texts (suc p)))
+    (length-padded first.length (texts 0) (room 0 first refl))))
 texts_joined-part (first ∷ fields) texts offset skipped (suc place) field laid room here at =
     let front = padded first.length (texts 0) in
     let rest = texts_joined fields (λ p. texts (suc p)) in
@@ -107,7 +114,8 @@ pub length-texts_joined : (fields : List Field) (texts : ℕ → List ℕ) → H
 length-texts_joined [] texts room = refl
 length-texts_joined (field ∷ fields) texts room =
     let front : length (padded field.length (texts 0)) ≡ field.length = length-padded field.length (texts 0) (room 0 field refl) in
-    let rest : length (texts_joined fields (λ p. texts (suc p))) ≡ width_of fields = length-texts_joined fields (λ p. texts (suc p)) (λ p f is. room (suc p) f is) in
+    let rest : length (texts_joined fields (λ p. texts (suc p))) ≡ width_of fields = length-texts_joined fields (λ p. texts (suc p))
+    (λ p f is. room (suc p) f is) in
     let both : length (texts_joined (field ∷ fields) texts) ≡ length (padded field.length (texts 0)) + length (texts_joined fields (λ p. texts (suc p)))
     = length-append (padded field.length (texts 0)) (texts_joined fields (λ p. texts (suc p))) in
     let width : width_of (field ∷ fields) ≡ field.length + width_of fields = sum_by-cons (λ (f : Field). f.length) field fields in
@@ -122,9 +130,11 @@ pub trimmed-data_of : (fields : List Field) (texts : ℕ → List ℕ) → trimm
 trimmed-data_of fields texts = trimmed-trimmed (texts_joined fields texts)
 
 -- data that are made of texts of a definition's fields are as the definition has them
-pub fitted-data_of : (version : Version) (texts : ℕ → List ℕ) → HaveRoom version.fields texts → fitted version (data_of version.fields texts) ≡ data_of version.fields texts
+pub fitted-data_of : (version : Version) (texts : ℕ → List ℕ) → HaveRoom version.fields texts → fitted version (data_of version.fields texts)
+    ≡ data_of version.fields texts
 fitted-data_of version texts room =
-    ap trimmed (take_all (width_of version.fields) (data_of version.fields texts) (length-data_of version.fields texts room)) ∙ trimmed-data_of version.fields texts
+    ap trimmed (take_all (width_of version.fields) (data_of version.fields texts) (length-data_of version.fields texts room))
+    ∙ trimmed-data_of version.fields texts
 
 -- texts that are the same in their fields make the same
 pub texts_joined-same : (fields : List Field) (texts others : ℕ → List ℕ)
@@ -136,7 +146,8 @@ texts_joined-same (field ∷ fields) texts others same =
     ∙ ap (λ rest. padded field.length (others 0) ++ rest) (texts_joined-same fields (λ p. texts (suc p)) (λ p. others (suc p)) (λ p f is. same (suc p) f is))
 
 -- texts that are the same at each field make the same data
-pub data_of-same : (fields : List Field) (texts others : ℕ → List ℕ) → ((place : ℕ) (field : Field) → slice_get fields place ≡ Some field → texts place ≡ others place)
+pub data_of-same : (fields : List Field) (texts others : ℕ → List ℕ) →
+    ((place : ℕ) (field : Field) → slice_get fields place ≡ Some field → texts place ≡ others place)
     → data_of fields texts ≡ data_of fields others
 data_of-same fields texts others same =
     ap trimmed (texts_joined-same fields texts others (λ place field here. ap (padded field.length) (same place field here)))
@@ -165,7 +176,8 @@ joined-read (field ∷ fields) offset bytes laid long =
     ∙ ap (λ n. take n (drop offset bytes)) (sym width)
 
 -- the part of a field is the same in bytes that are cut behind it
-cut-part : (width : ℕ) (sdata : List ℕ) (offset count : ℕ) → offset + count ≤ width → take count (drop offset (take width sdata)) ≡ take count (drop offset sdata)
+cut-part : (width : ℕ) (sdata : List ℕ) (offset count : ℕ) → offset + count ≤ width →
+    take count (drop offset (take width sdata)) ≡ take count (drop offset sdata)
 cut-part width sdata offset count fits =
     let left = width - offset in
     let split : offset + left ≡ width = omega arith in
@@ -173,7 +185,8 @@ cut-part width sdata offset count fits =
     ∙ take-take count left (drop offset sdata) (omega arith)
 
 -- data that are made of the texts which other data have in the fields of a definition are those data as the definition has them
-pub data_of-read : (version : Version) (sdata : List ℕ) → AreLaidOut 0 version.fields → data_of version.fields (text_in version.fields sdata) ≡ fitted version sdata
+pub data_of-read : (version : Version) (sdata : List ℕ) → AreLaidOut 0 version.fields → data_of version.fields (text_in version.fields sdata)
+    ≡ fitted version sdata
 data_of-read version sdata laid =
     let fields = version.fields in
     let width = width_of fields in

@@ -2,7 +2,8 @@
 use Rattle.std.specs.Prelude.{slice_get}
 use Rattle.std.specs.List.{AllByRecursion}
 use Rattle.std.specs.Option.{option_map, option_and_then}
-use Rattle.std.proofs.Common.{◌≡◌, ℕ, zero, suc, ◌+◌, ◌<◌, ◌≤◌, ◌==◌, Bool, true, false, cond, Option, Some, None, List, [], ◌∷◌, length, inl, inr, refl, sym, ap, subst, ◌∙◌, arith}
+use Rattle.std.proofs.Common.{◌≡◌, ℕ, zero, suc, ◌+◌, ◌<◌, ◌≤◌, ◌==◌, Bool, true, false, cond, Option, Some, None, List, [], ◌∷◌, length, inl, inr, refl, sym}
+use Rattle.std.proofs.Common.{ap, subst, ◌∙◌, arith}
 use Rattle.std.proofs.lemmas.Bool.{cases_Bool, cond-true, cond-false, eq-eqb, eqb-true}
 use Rattle.std.proofs.lemmas.Option.{same_Some}
 use Rattle.std.proofs.lemmas.List.Elements.{All-from_recursion, All-contains}
@@ -35,7 +36,8 @@ pub place_in-least : (entries : List TypePlace) (place : ℕ) (entry : TypePlace
 place_in-least [] place entry here = cc
 place_in-least (other ∷ entries) zero entry here =
     let same : other.segment ≡ entry.segment = ap (λ e. e.segment) (same_Some other entry here) in
-    let first : place_in (other ∷ entries) entry.segment ≡ 0 = cond-true (other.segment == entry.segment) 0 (suc (place_in entries entry.segment)) (eq-eqb other.segment entry.segment same) in
+    let first : place_in (other ∷ entries) entry.segment ≡ 0 = cond-true (other.segment == entry.segment) 0 (suc (place_in entries entry.segment))
+    (eq-eqb other.segment entry.segment same) in
     omega arith
 place_in-least (other ∷ entries) (suc place) entry here =
     cond-least (other.segment == entry.segment) (place_in entries entry.segment) place (place_in-least entries place entry here)
@@ -58,10 +60,14 @@ upward_from-all P place (other ∷ path) all =
     ]
 
 -- the path of an entry has places up to its own
-path_of-below : (place : ℕ) (parent : Option ℕ) (before : List ℕ) → AllByRecursion (λ p. p < place) before → AllByRecursion (λ p. p < suc place) (path_of place parent before)
+path_of-below : (place : ℕ) (parent : Option ℕ) (before : List ℕ) → AllByRecursion (λ p. p < place) before →
+    AllByRecursion (λ p. p < suc place) (path_of place parent before)
 path_of-below place None before below = (omega arith, tt)
-path_of-below place (Some parent) before below =
-    (omega arith, upward_from-all (λ p. p < suc place) parent before (AllByRecursion-weaker (λ p. p < place) (λ p. p < suc place) before (λ p less. omega arith) below))
+path_of-below place (Some parent) before below = (
+  omega arith,
+  upward_from-all (λ p. p < suc place) parent before
+      (AllByRecursion-weaker (λ p. p < place) (λ p. p < suc place) before (λ p less. omega arith) below),
+)
 
 -- the parent of an entry stands before it
 pub parent-before : (entries : List TypePlace) (from : ℕ) (before : List ℕ) (place : ℕ) (entry : TypePlace) (parent : ℕ) → IsPreorder from before entries
@@ -72,11 +78,13 @@ parent-before (other ∷ entries) from before zero entry parent preorder below h
     let less : parent < from = All-contains (λ p. p < from) before parent (All-from_recursion (λ p. p < from) before below) (preorder.0 parent first) in
     omega arith
 parent-before (other ∷ entries) from before (suc place) entry parent preorder below here child =
-    let less : parent < suc from + place = parent-before entries (suc from) (path_of from other.parent before) place entry parent preorder.2 (path_of-below from other.parent before below) here child in
+    let less : parent < suc from + place = parent-before entries (suc from) (path_of from other.parent before) place entry parent preorder.2
+    (path_of-below from other.parent before below) here child in
     omega arith
 
 -- the type above an entry is that of the entry at its parent's place
-above-place : (entries : List TypePlace) (parent : Option ℕ) (above : ℕ) → option_and_then (λ place. option_map (λ e. e.segment) (slice_get entries place)) parent ≡ Some above
+above-place : (entries : List TypePlace) (parent : Option ℕ) (above : ℕ) →
+    option_and_then (λ place. option_map (λ e. e.segment) (slice_get entries place)) parent ≡ Some above
     → (place : ℕ) × (entry : TypePlace) × (parent ≡ Some place) × (slice_get entries place ≡ Some entry) × (entry.segment ≡ above)
 above-place entries None above is = cc
 above-place entries (Some place) above is =
@@ -84,7 +92,8 @@ above-place entries (Some place) above is =
     (place, found.0, refl, found.1, found.2)
 
 -- the first entry of the type above a segment type stands before its own
-pub above_before : (entries : List TypePlace) (segment above : ℕ) → IsPreorder 0 [] entries → parent_of entries segment ≡ Some (Some above) → place_in entries above < place_in entries segment
+pub above_before : (entries : List TypePlace) (segment above : ℕ) → IsPreorder 0 [] entries → parent_of entries segment ≡ Some (Some above) →
+    place_in entries above < place_in entries segment
 above_before entries segment above preorder is =
     let own = option_map-Some (type_above entries) (entry_of entries segment) (Some above) is in
     let parent = above-place entries own.0.parent above own.2 in

@@ -3,7 +3,8 @@ use Rattle.std.specs.List.{IsDistinct, list_all, position_or_len, prefix_len, st
 use Rattle.std.specs.Prelude.{Contains, IsTrue, codes, nat_eq, position, slice_get, ◌↔◌}
 use Rattle.std.specs.Option.{option_map}
 use Rattle.std.specs.Cmp.Lexicographic.{bytes_decides}
-use Rattle.std.proofs.Common.{◌≡◌, ℕ, zero, suc, ◌+◌, ◌==◌, Bool, true, false, not, cond, nat_lt, Option, Some, None, List, [], ◌∷◌, length, map, refl, sym, ap, subst, ◌∙◌, inl, inr, arith}
+use Rattle.std.proofs.Common.{◌≡◌, ℕ, zero, suc, ◌+◌, ◌==◌, Bool, true, false, not, cond, nat_lt, Option, Some, None, List, [], ◌∷◌, length, map, refl, sym, ap}
+use Rattle.std.proofs.Common.{subst, ◌∙◌, inl, inr, arith}
 use Rattle.std.proofs.lemmas.Bool.{and_parts, cases_Bool, false≢true}
 use Rattle.std.proofs.lemmas.Bool.Decides.{eqb_tells, nat_tests}
 use Rattle.std.proofs.lemmas.Option.{same_Some}
@@ -17,7 +18,11 @@ use Rattle.segment_defs.specs.Name.{is_name_byte, is_name_within, is_segment_nam
 
 -- the test decides
 pub IsName_decided : (name : List ℕ) → IsTrue (is_name_within LONGEST_NAME name) ↔ IsName name
-IsName_decided name = (λ is. record { least = grind (arith, nat_tests); most = grind (arith, nat_tests); bytes = grind (arith, nat_tests) }, λ is. grind (arith, nat_tests, is.least, is.most, is.bytes))
+IsName_decided name = (
+  λ is. record { least = grind (arith, nat_tests); most = grind (arith, nat_tests); bytes = grind (arith, nat_tests) },
+  λ is.
+      grind (arith, nat_tests, is.least, is.most, is.bytes),
+)
 
 no_blank : (byte : ℕ) → is_name_byte byte ≡ true → byte == 32 ≡ false
 no_blank byte named = elim (eqb_tells byte 32) [ inl blank ↦ let never : is_name_byte byte ≡ false = ap is_name_byte blank.1 in cc | inr other ↦ other.0 ]
@@ -86,7 +91,8 @@ position-name name (other ∷ names) place found =
     ]
 
 -- where names differ, the place of a name is the only one that has it
-pub position-only : (name : List ℕ) (names : List (List ℕ)) (place : ℕ) → IsDistinct is_text names → slice_get names place ≡ Some name → position (is_text name) names ≡ Some place
+pub position-only : (name : List ℕ) (names : List (List ℕ)) (place : ℕ) → IsDistinct is_text names → slice_get names place ≡ Some name →
+    position (is_text name) names ≡ Some place
 unfolding IsDistinct
 position-only name [] place apart here = cc
 position-only name (other ∷ names) zero apart here =

@@ -1,7 +1,8 @@
 -- The newest definition that is not after a release.
 use Rattle.std.specs.Prelude.{slice_get, ◌↔◌}
 use Rattle.std.specs.List.{AllByRecursion, AllPairs}
-use Rattle.std.proofs.Common.{◌≡◌, ℕ, zero, suc, ◌+◌, ◌<◌, ◌≤◌, nat_le, Bool, true, false, ◌⊎◌, Option, Some, None, List, [], ◌∷◌, get_or, inl, inr, refl, sym, ap, subst, ◌∙◌, arith}
+use Rattle.std.proofs.Common.{◌≡◌, ℕ, zero, suc, ◌+◌, ◌<◌, ◌≤◌, nat_le, Bool, true, false, ◌⊎◌, Option, Some, None, List, [], ◌∷◌, get_or, inl, inr, refl, sym}
+use Rattle.std.proofs.Common.{ap, subst, ◌∙◌, arith}
 use Rattle.std.proofs.lemmas.Bool.{leb-true, leb-false, le-leb, lt-leb}
 use Rattle.std.proofs.lemmas.Option.{same_Some, slice_get_within, get_or_from_slice_get}
 use Rattle.segment_defs.specs.declared.version.Version.{Version}
@@ -38,7 +39,8 @@ none_counts : (release : ℕ) (versions : List Version) → AllByRecursion (λ v
 none_counts release [] later = refl
 none_counts release (version ∷ versions) later =
     let after : release < version.release = later.0 in
-    ap (λ counts. last_place counts (newest_by release versions)) (lt-leb version.release release after) ∙ ap (last_place false) (none_counts release versions later.1)
+    ap (λ counts. last_place counts (newest_by release versions)) (lt-leb version.release release after)
+    ∙ ap (last_place false) (none_counts release versions later.1)
 
 -- behind a first definition, each one of these is later
 later-first : (release : ℕ) (version : Version) (versions : List Version) → AllByRecursion (λ v. release < v.release) versions
@@ -59,7 +61,13 @@ IsNewestBy-found release (version ∷ versions) place found =
     elim (last_place-Some (nat_le version.release release) (newest_by release versions) place found) [
       | inl first ↦
           subst (IsNewestBy release (version ∷ versions)) first.2
-          (record { version = version; here = refl; not_after = leb-true version.release release first.0; newest = later-first release version versions (all_later release versions first.1) })
+          (record {
+            version = version;
+            here = refl;
+            not_after = leb-true version.release release first.0;
+            newest = later-first release version versions
+                (all_later release versions first.1);
+          })
       | inr behind ↦
           let is = IsNewestBy-found release versions behind.0 behind.1 in
           subst (IsNewestBy release (version ∷ versions)) behind.2
@@ -75,21 +83,29 @@ found-IsNewestBy release (version ∷ versions) zero is =
     ap (λ b. last_place b (newest_by release versions)) (le-leb version.release release counts) ∙ ap (last_place true) (none_counts release versions later)
 found-IsNewestBy release (version ∷ versions) (suc place) is =
     ap (last_place (nat_le version.release release)) (found-IsNewestBy release versions place
-    (record { version = is.version; here = is.here; not_after = is.not_after; newest = λ later other less here. is.newest (suc later) other (omega arith) here }))
+    (record {
+      version = is.version;
+      here = is.here;
+      not_after = is.not_after;
+      newest = λ later other less here.
+          is.newest (suc later) other (omega arith) here;
+    }))
 
 -- a definition is found exactly where it is the newest
 pub found-newest : (release : ℕ) (versions : List Version) (place : ℕ) → (newest_by release versions ≡ Some place) ↔ IsNewestBy release versions place
 found-newest release versions place = (IsNewestBy-found release versions place, found-IsNewestBy release versions place)
 
 -- where the first definition is after a release, each one is
-after-first : (release : ℕ) (versions : List Version) (first : Version) → AllPairs Continues versions → slice_get versions 0 ≡ Some first → release < first.release
+after-first : (release : ℕ) (versions : List Version) (first : Version) → AllPairs Continues versions → slice_get versions 0 ≡ Some first →
+    release < first.release
     → (place : ℕ) (other : Version) → slice_get versions place ≡ Some other → release < other.release
 after-first release versions first pairs at_first after zero other here = subst (λ v. release < v.release) (same_Some first other (sym at_first ∙ here)) after
 after-first release versions first pairs at_first after (suc place) other here =
     let pair = pairs 0 (suc place) first (omega arith) (slice_get_within versions (suc place) other here) in
     let from : get_or versions 0 first ≡ first = get_or_from_slice_get versions 0 first first at_first in
     let to : get_or versions (suc place) first ≡ other = get_or_from_slice_get versions (suc place) other first here in
-    let later : first.release < other.release = subst (λ v. v.release < other.release) from (subst (λ v. (get_or versions 0 first).release < v.release) to pair.later) in
+    let later : first.release < other.release = subst (λ v. v.release < other.release) from
+    (subst (λ v. (get_or versions 0 first).release < v.release) to pair.later) in
     omega arith
 
 -- none is found exactly where the first is after the release
@@ -97,5 +113,6 @@ pub none-newest : (release : ℕ) (versions : List Version) (first : Version) �
     → (newest_by release versions ≡ None) ↔ (release < first.release)
 none-newest release versions first pairs at_first = (
   λ none. AllByRecursion-at (λ v. release < v.release) versions 0 first (all_later release versions none) at_first,
-  λ after. none_counts release versions (AllByRecursion-from_places (λ v. release < v.release) versions (after-first release versions first pairs at_first after)),
+  λ after. none_counts release versions (AllByRecursion-from_places (λ v. release < v.release) versions
+      (after-first release versions first pairs at_first after)),
 )

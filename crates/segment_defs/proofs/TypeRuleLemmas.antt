@@ -1,6 +1,7 @@
 -- The entries above an entry of an IDoc type, and a walk upwards over them.
 use Rattle.std.specs.Prelude.{Contains, slice_get}
-use Rattle.std.proofs.Common.{◌≡◌, ◌↔◌, ◌⊎◌, inl, inr, ℕ, zero, suc, ◌+◌, ◌-◌, ◌<◌, ◌≤◌, Bool, true, false, cond, eqb, Option, Some, None, List, [], ◌∷◌, ◌++◌, length, get_or, take, drop, drop-cons, refl, sym, ap, subst, ◌∙◌, add-one, arith}
+use Rattle.std.proofs.Common.{◌≡◌, ◌↔◌, ◌⊎◌, inl, inr, ℕ, zero, suc, ◌+◌, ◌-◌, ◌<◌, ◌≤◌, Bool, true, false, cond, eqb, Option, Some, None, List, [], ◌∷◌, ◌++◌}
+use Rattle.std.proofs.Common.{length, get_or, take, drop, drop-cons, refl, sym, ap, subst, ◌∙◌, add-one, arith}
 use Rattle.std.specs.Option.{ForSome, SomeIff}
 use Rattle.std.proofs.lemmas.Bool.{false≢true, ne_eqb}
 use Rattle.std.proofs.lemmas.Bool.Decides.{Decides-eqb}
@@ -39,20 +40,23 @@ length-upward entries end (place ∷ path) up = omega (arith, up.0, length-upwar
 -- the part of a path from one of its entries on
 upward_from-upward : (entries : List TypePlace) (end parent : ℕ) (path : List ℕ) → IsUpward entries end path → IsUpward entries end (upward_from parent path)
 upward_from-upward entries end parent [] up = tt
-upward_from-upward entries end parent (place ∷ path) up = elim (eqb place parent) as (λ same. IsUpward entries end (cond same (place ∷ path) (upward_from parent path))) [
-  | true ↦ up
-  | false ↦ let small : place < end = up.0 in IsUpward-before entries place end (upward_from parent path) (omega arith) (upward_from-upward entries place parent path up.2)
-]
+upward_from-upward entries end parent (place ∷ path) up = elim (eqb place parent) as
+    (λ same. IsUpward entries end (cond same (place ∷ path) (upward_from parent path))) [
+      | true ↦ up
+      | false ↦ let small : place < end = up.0 in IsUpward-before entries place end (upward_from parent path) (omega arith)
+          (upward_from-upward entries place parent path up.2)
+    ]
 
 upward_from-first : (parent : ℕ) (path : List ℕ) → Contains path parent → slice_get (upward_from parent path) 0 ≡ Some parent
 upward_from-first parent [] has = absurd (omega (arith, has.1))
-upward_from-first parent (place ∷ path) has = (elim (eqb place parent) as (λ same. (eqb place parent ≡ same) → slice_get (cond same (place ∷ path) (upward_from parent path)) 0 ≡ Some parent) [
-  | true ↦ λ is. ap Some ((Decides-eqb place parent).0 is)
-  | false ↦ λ is. elim (Contains-cons place path parent has) [
-    | inl same ↦ absurd (false≢true (sym is ∙ (Decides-eqb place parent).1 same))
-    | inr later ↦ upward_from-first parent path later
-  ]
-]) refl
+upward_from-first parent (place ∷ path) has = (elim (eqb place parent) as
+    (λ same. (eqb place parent ≡ same) → slice_get (cond same (place ∷ path) (upward_from parent path)) 0 ≡ Some parent) [
+      | true ↦ λ is. ap Some ((Decides-eqb place parent).0 is)
+      | false ↦ λ is. elim (Contains-cons place path parent has) [
+        | inl same ↦ absurd (false≢true (sym is ∙ (Decides-eqb place parent).1 same))
+        | inr later ↦ upward_from-first parent path later
+      ]
+    ]) refl
 
 -- an entry is on a path exactly where a part of the path begins with it
 pub upward_from-some : (parent : ℕ) (path : List ℕ) → Contains path parent → 1 ≤ length (upward_from parent path)
@@ -61,24 +65,28 @@ upward_from-some parent path has = slice_get_within (upward_from parent path) 0 
 -- an entry above which something stands on a path is on the path
 pub Contains-from_some : (parent : ℕ) (path : List ℕ) → 1 ≤ length (upward_from parent path) → Contains path parent
 Contains-from_some parent [] some = absurd (omega arith)
-Contains-from_some parent (place ∷ path) some = (elim (eqb place parent) as (λ same. (eqb place parent ≡ same) → 1 ≤ length (cond same (place ∷ path) (upward_from parent path)) → Contains (place ∷ path) parent) [
-  | true ↦ λ is some. (0, omega arith, (Decides-eqb place parent).0 is)
-  | false ↦ λ is some. Contains-there place path parent (Contains-from_some parent path some)
-]) refl some
+Contains-from_some parent (place ∷ path) some = (elim (eqb place parent) as
+    (λ same. (eqb place parent ≡ same) → 1 ≤ length (cond same (place ∷ path) (upward_from parent path)) → Contains (place ∷ path) parent) [
+      | true ↦ λ is some. (0, omega arith, (Decides-eqb place parent).0 is)
+      | false ↦ λ is some. Contains-there place path parent (Contains-from_some parent path some)
+    ]) refl some
 
 -- the path of an entry is one upwards, if that of the entry before it is
-path_of-upward : (entries : List TypePlace) (place : ℕ) (before : List ℕ) (parent : Option ℕ) → HasParent entries place parent → ForSome parent (Contains before) → IsUpward entries place before → IsUpward entries (suc place) (path_of place parent before)
+path_of-upward : (entries : List TypePlace) (place : ℕ) (before : List ℕ) (parent : Option ℕ) → HasParent entries place parent →
+    ForSome parent (Contains before) → IsUpward entries place before → IsUpward entries (suc place) (path_of place parent before)
 path_of-upward entries place before None here above up = (omega arith, here, tt)
 path_of-upward entries place before (Some parent) here above up =
     let first = upward_from-first parent before (above parent refl) in
     (omega arith, subst (HasParent entries place) (sym first) here, upward_from-upward entries place parent before up)
 
-path_behind-upward_at : (entries : List TypePlace) (place : ℕ) (before : List ℕ) (rest : List TypePlace) → drop place entries ≡ rest → IsPreorder place before rest → IsUpward entries place before → IsUpward entries (place + length rest) (path_behind place before rest)
+path_behind-upward_at : (entries : List TypePlace) (place : ℕ) (before : List ℕ) (rest : List TypePlace) → drop place entries ≡ rest →
+    IsPreorder place before rest → IsUpward entries place before → IsUpward entries (place + length rest) (path_behind place before rest)
 path_behind-upward_at entries place before [] cut ordered up = IsUpward-before entries place (place + 0) before (omega arith) up
 path_behind-upward_at entries place before (entry ∷ rest) cut ordered up =
     let parts = drop-first place entries rest entry cut in
     let next = path_of-upward entries place before entry.parent (entry, parts.0, refl) ordered.0 up in
-    IsUpward-before entries (suc place + length rest) (place + suc (length rest)) _ (omega arith) (path_behind-upward_at entries (suc place) (path_of place entry.parent before) rest parts.1 ordered.2 next)
+    IsUpward-before entries (suc place + length rest) (place + suc (length rest)) _ (omega arith)
+    (path_behind-upward_at entries (suc place) (path_of place entry.parent before) rest parts.1 ordered.2 next)
 
 -- the path behind entries in preorder goes upward from the last one
 pub path_behind-upward : (entries : List TypePlace) → IsPreorder 0 [] entries → IsUpward entries (length entries) (path_behind 0 [] entries)
@@ -89,7 +97,8 @@ path_of-first : (place : ℕ) (parent : Option ℕ) (before : List ℕ) → slic
 path_of-first place None before = refl
 path_of-first place (Some parent) before = refl
 
-path_behind-first_at : (place : ℕ) (before : List ℕ) (entry : TypePlace) (rest : List TypePlace) → slice_get (path_behind place before (entry ∷ rest)) 0 ≡ Some (place + length rest)
+path_behind-first_at : (place : ℕ) (before : List ℕ) (entry : TypePlace) (rest : List TypePlace) → slice_get (path_behind place before (entry ∷ rest)) 0
+    ≡ Some (place + length rest)
 path_behind-first_at place before entry [] =
     path_of-first place entry.parent before ∙ ap Some (omega arith)
 path_behind-first_at place before entry (next ∷ rest) =
@@ -108,7 +117,8 @@ pub record IsWalk (entries : List TypePlace) (place levels : ℕ) (above : Optio
   pub fits : levels + length path ≤ length entries
   pub right : counted levels place path ≡ length (upward_from place whole)
 
-last-first : (entries : List TypePlace) (last : Option ℕ) → SomeIff last (1 ≤ length entries) (length entries - 1) → last ≡ slice_get (path_behind 0 [] entries) 0
+last-first : (entries : List TypePlace) (last : Option ℕ) → SomeIff last (1 ≤ length entries) (length entries - 1) →
+    last ≡ slice_get (path_behind 0 [] entries) 0
 last-first [] None last = refl
 last-first [] (Some place) last = absurd (omega (arith, last.0))
 last-first (entry ∷ rest) None last = absurd (last (omega arith))
@@ -116,7 +126,8 @@ last-first (entry ∷ rest) (Some place) last =
     ap Some (omega (arith, last.1)) ∙ sym (path_behind-first_at 0 [] entry rest)
 
 -- a walk over the entries upward begins at the last one, where there is one
-pub walk-begins : (entries : List TypePlace) (place : ℕ) (above : Option ℕ) → IsPreorder 0 [] entries → SomeIff above (1 ≤ length entries) (length entries - 1) → IsWalk entries place 0 above (path_behind 0 [] entries)
+pub walk-begins : (entries : List TypePlace) (place : ℕ) (above : Option ℕ) → IsPreorder 0 [] entries →
+    SomeIff above (1 ≤ length entries) (length entries - 1) → IsWalk entries place 0 above (path_behind 0 [] entries)
 walk-begins entries place above ordered last = let up = path_behind-upward entries ordered in record {
   path = path_behind 0 [] entries;
   up = up;
@@ -152,7 +163,8 @@ record IsAt (entries : List TypePlace) (place levels at : ℕ) (above : Option �
   fits : suc (levels + length rest) ≤ length entries
   right : counted levels place (at ∷ rest) ≡ length (upward_from place whole)
 
-module _ (entries : List TypePlace) (place levels at : ℕ) (whole : List ℕ) (above : Option ℕ) (is : above ≡ Some at) (walk : IsWalk entries place levels above whole) where
+module _ (entries : List TypePlace) (place levels at : ℕ) (whole : List ℕ) (above : Option ℕ) (is : above ≡ Some at)
+    (walk : IsWalk entries place levels above whole) where
   split : (rest : List ℕ) × (walk.path ≡ at ∷ rest)
   split = slice_get-first walk.path at (sym walk.next ∙ is)
 
@@ -200,7 +212,8 @@ module _ (entries : List TypePlace) (place levels at : ℕ) (whole : List ℕ) (
     walk-smaller = let now = at_parent entry here parent same in rw (is, now.next) (left-below entries at now.rest now.up)
 
 -- a walk that ends has counted all
-pub walk-ends : (entries : List TypePlace) (place levels : ℕ) (whole : List ℕ) (above : Option ℕ) → above ≡ None → IsWalk entries place levels above whole → levels ≡ length (upward_from place whole)
+pub walk-ends : (entries : List TypePlace) (place levels : ℕ) (whole : List ℕ) (above : Option ℕ) → above ≡ None → IsWalk entries place levels above whole →
+    levels ≡ length (upward_from place whole)
 walk-ends entries place levels whole above none walk =
     counted-none place levels walk.path (sym none ∙ walk.next) ∙ walk.right
 
@@ -210,7 +223,9 @@ CanFollow place before parent =
     ForSome parent (Contains before) × (length (path_of place parent before) ≤ MOST_LEVELS)
 
 -- an entry with a parent can follow exactly where the walk met the parent, not too deep
-pub can_follow-decided : (place parent : ℕ) (before : List ℕ) (r : Bool) → (r ≡ true) ↔ ((1 ≤ length (upward_from parent before)) × (length (upward_from parent before) ≤ MOST_LEVELS - 1)) → (r ≡ true) ↔ CanFollow place before (Some parent)
+pub can_follow-decided : (place parent : ℕ) (before : List ℕ) (r : Bool) →
+    (r ≡ true) ↔ ((1 ≤ length (upward_from parent before)) × (length (upward_from parent before) ≤ MOST_LEVELS - 1)) →
+    (r ≡ true) ↔ CanFollow place before (Some parent)
 can_follow-decided place parent before r decided = (
   λ is. let small = decided.0 is in (
     λ other same. subst (Contains before) (same_Some parent other same) (Contains-from_some parent before small.0),
@@ -220,32 +235,39 @@ can_follow-decided place parent before r decided = (
 )
 
 -- an entry that can follow some makes a preorder with them
-pub IsPreorder-join : (start : ℕ) (before : List ℕ) (front : List TypePlace) (entry : TypePlace) (place : ℕ) → place ≡ start + length front → IsPreorder start before front → CanFollow place (path_behind start before front) entry.parent → IsPreorder start before (front ++ entry ∷ [])
+pub IsPreorder-join : (start : ℕ) (before : List ℕ) (front : List TypePlace) (entry : TypePlace) (place : ℕ) → place ≡ start + length front →
+    IsPreorder start before front → CanFollow place (path_behind start before front) entry.parent → IsPreorder start before (front ++ entry ∷ [])
 IsPreorder-join start before [] entry place at ordered can =
     let here : place ≡ start = omega arith in
     let now = subst (λ place. CanFollow place before entry.parent) here can in (now.0, now.1, tt)
 IsPreorder-join start before (first ∷ front) entry place at ordered can =
     (ordered.0, ordered.1, IsPreorder-join (suc start) (path_of start first.parent before) front entry place (omega (arith, at)) ordered.2 can)
 
-IsPreorder-parts : (start : ℕ) (before : List ℕ) (front : List TypePlace) (entry : TypePlace) (behind : List TypePlace) (place : ℕ) → place ≡ start + length front → IsPreorder start before (front ++ entry ∷ behind) → CanFollow place (path_behind start before front) entry.parent
+IsPreorder-parts : (start : ℕ) (before : List ℕ) (front : List TypePlace) (entry : TypePlace) (behind : List TypePlace) (place : ℕ) →
+    place ≡ start + length front → IsPreorder start before (front ++ entry ∷ behind) → CanFollow place (path_behind start before front) entry.parent
 IsPreorder-parts start before [] entry behind place at ordered =
     let here : start ≡ place = omega arith in
     subst (λ place. CanFollow place before entry.parent) here (ordered.0, ordered.1)
 IsPreorder-parts start before (first ∷ front) entry behind place at ordered =
     IsPreorder-parts (suc start) (path_of start first.parent before) front entry behind place (omega (arith, at)) ordered.2
 
-module _ (entries : List TypePlace) (place : ℕ) (entry : TypePlace) (within : place < length entries) (here : entry ≡ get_or entries place entry) (r : Bool) (decided : (r ≡ true) ↔ CanFollow (length (take place entries)) (path_behind 0 [] (take place entries)) entry.parent) where
+module _ (entries : List TypePlace) (place : ℕ) (entry : TypePlace) (within : place < length entries) (here : entry ≡ get_or entries place entry) (r : Bool)
+    (decided : (r ≡ true) ↔ CanFollow (length (take place entries)) (path_behind 0 [] (take place entries)) entry.parent) where
   -- an entry that can follow those before it
   pub preorder-more : r ≡ true → IsPreorder 0 [] (take place entries) → IsPreorder 0 [] (take (place + 1) entries)
   preorder-more is ordered =
-      let cut : take (place + 1) entries ≡ take place entries ++ entry ∷ [] = take_more entries place entry within ∙ ap (λ e. take place entries ++ e ∷ []) (sym here) in
+      let cut : take (place + 1) entries ≡ take place entries ++ entry ∷ [] = take_more entries place entry within
+      ∙ ap (λ e. take place entries ++ e ∷ []) (sym here) in
       subst (IsPreorder 0 []) (sym cut) (IsPreorder-join 0 [] (take place entries) entry (length (take place entries)) (omega arith) ordered (decided.0 is))
 
   -- one that cannot
   pub preorder-fails : r ≡ false → (false ≡ true) ↔ IsPreorder 0 [] entries
   preorder-fails is =
-      let rest : drop place entries ≡ entry ∷ drop (suc place) entries = subst (λ e. drop place entries ≡ e ∷ drop (suc place) entries) (sym here) (drop-cons entries place entry within) in
-      let cut : entries ≡ take place entries ++ entry ∷ drop (suc place) entries = sym (take-append-drop place entries) ∙ ap (λ es. take place entries ++ es) rest in (
+      let rest : drop place entries ≡ entry ∷ drop (suc place) entries = subst (λ e. drop place entries ≡ e ∷ drop (suc place) entries) (sym here)
+      (drop-cons entries place entry within) in
+      let cut : entries ≡ take place entries ++ entry ∷ drop (suc place) entries = sym (take-append-drop place entries)
+      ∙ ap (λ es. take place entries ++ es) rest in (
         λ never. absurd (false≢true never),
-        λ ordered. sym is ∙ decided.1 (IsPreorder-parts 0 [] (take place entries) entry (drop (suc place) entries) (length (take place entries)) (omega arith) (subst (IsPreorder 0 []) cut ordered)),
+        λ ordered. sym is ∙ decided.1 (IsPreorder-parts 0 [] (take place entries) entry (drop (suc place) entries) (length (take place entries)) (omega arith)
+            (subst (IsPreorder 0 []) cut ordered)),
       )

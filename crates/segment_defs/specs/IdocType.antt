@@ -1,5 +1,6 @@
 -- An IDoc type: a hierarchy of segment types, as a list of entries in preorder.
-use Rattle.std.specs.Prelude.{◌≡◌, ℕ, suc, ◌<◌, ◌≤◌, ◌==◌, true, false, List, [], ◌∷◌, length, map, nat_eq, Option, Some, None, option_and_then, slice_get, Contains, if◌then◌else◌}
+use Rattle.std.specs.Prelude.{◌≡◌, ℕ, suc, ◌<◌, ◌≤◌, ◌==◌, true, false, List, [], ◌∷◌, length, map, nat_eq, Option, Some, None, option_and_then, slice_get}
+use Rattle.std.specs.Prelude.{Contains, if◌then◌else◌}
 use Rattle.std.specs.List.{AllByRecursion, IsDistinct}
 use Rattle.std.specs.Option.{option_map, ForSome}
 use Rattle.segment_defs.specs.declared.definitions.Definitions.{Definitions}

@@ -30,7 +30,8 @@ pub Adds-written : (table : List (List Status)) (place : ℕ) (old : List Status
 Adds-written table place old status here = record {
   added = λ doc.
       statuses_of-written table place old (old ++ status ∷ []) here doc
-      ∙ elim (eqb_tells doc place) as (λ _. (if doc == place then old ++ status ∷ [] else statuses_of doc table) ≡ (if doc == place then statuses_of doc table ++ status ∷ [] else statuses_of doc table)) [
+      ∙ elim (eqb_tells doc place) as (λ _. (if doc == place then old ++ status ∷ [] else statuses_of doc table)
+      ≡ (if doc == place then statuses_of doc table ++ status ∷ [] else statuses_of doc table)) [
         | inl same ↦ rw (same.0, same.1) (ap (λ (found : Option (List Status)). unwrap_or found [] ++ status ∷ []) (sym here))
         | inr other ↦ rw other.0 refl
       ];
@@ -49,7 +50,8 @@ Keeps-written table place old here = record {
 }
 
 -- places more, and then a status
-pub Adds-later : (doc : ℕ) (status : Status) (before between after : List (List Status)) → Keeps before between → Adds doc status between after → Adds doc status before after
+pub Adds-later : (doc : ℕ) (status : Status) (before between after : List (List Status)) → Keeps before between → Adds doc status between after →
+    Adds doc status before after
 Adds-later doc status before between after keeps adds = record {
   added = λ other. adds.added other ∙ ap (λ (statuses : List Status). if other == doc then statuses ++ status ∷ [] else statuses) (keeps.kept other);
 }

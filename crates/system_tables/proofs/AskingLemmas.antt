@@ -97,12 +97,14 @@ outstanding-tables stands way committed log sent arrived tables tid are =
 -- the mark of a unit in the queues is the one since its last Retry, where it is there by the log and not through; else it has none there
 mark-log : (way : Way) (all : List AleUnit) (log : List Record) (claims : TidOf → Option ℕ) (queues : QueuesOf) (tid : TidOf)
     → AreQueuesOver way all log claims queues
-    → mark_on tid queues ≡ option_and_then (λ (unit : AleUnit). cond (is_outstanding (through way log) unit) (mark_of way unit.tid log) None) (unit_named tid all)
+    → mark_on tid queues ≡ option_and_then (λ (unit : AleUnit). cond (is_outstanding (through way log) unit) (mark_of way unit.tid log) None)
+    (unit_named tid all)
 mark-log way all log claims queues tid are =
     ap (λ (found : Option QueuedUnit). option_and_then (λ (unit : QueuedUnit). unit.mark) found) (unit_of-log way all log claims queues tid are)
     ∙ by_named (unit_named tid all) refl
   where
-    mark-if : (open_ : Bool) (unit : AleUnit) → option_and_then (λ (unit : QueuedUnit). unit.mark) (option_map (queued way log claims) (cond open_ (Some unit) None))
+    mark-if : (open_ : Bool) (unit : AleUnit) →
+        option_and_then (λ (unit : QueuedUnit). unit.mark) (option_map (queued way log claims) (cond open_ (Some unit) None))
         ≡ cond open_ (mark_of way unit.tid log) None
     mark-if true unit = refl
     mark-if false unit = refl
@@ -123,7 +125,8 @@ mark-log way all log claims queues tid are =
 pub mark-tables : {A : Type 0} (stands : A → List Record → Type 0) (way : Way) (committed : List AleUnit) (log : List Record)
     (sent arrived : TidOf → Option ℕ) (tables : TablesOf A) (tid : TidOf) → AreTablesOf stands committed log sent arrived tables
     → mark_on tid (queues_of way tables)
-    ≡ option_and_then (λ (unit : AleUnit). cond (is_outstanding (through way log) unit) (mark_of way unit.tid log) None) (unit_named tid (units_of way committed log))
+    ≡ option_and_then (λ (unit : AleUnit). cond (is_outstanding (through way log) unit) (mark_of way unit.tid log) None)
+    (unit_named tid (units_of way committed log))
 mark-tables stands way committed log sent arrived tables tid are =
     mark-log way (units_of way committed log) log (claims_of way sent arrived) (queues_of way tables) tid
     (AreTablesOf-queues stands way committed log sent arrived tables are)

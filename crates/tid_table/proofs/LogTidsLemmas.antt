@@ -22,7 +22,8 @@ pub AreTidsOf-other : (log : List Record) (next : Record) (tids : List TidOf) �
 AreTidsOf-other log next tids takes_none forgets_none are = record {
   known = λ tid. are.known tid
       ∙ ap (λ (units : List AleUnit). is_among tid units && not (is_listed tid (forgotten_in log))) (sym (filter_map-None taken_by log next takes_none))
-      ∙ ap (λ (gone : List TidOf). is_among tid (received (log ++ next ∷ [])) && not (is_listed tid gone)) (sym (filter_map-None forgotten_by log next forgets_none));
+      ∙ ap (λ (gone : List TidOf). is_among tid (received (log ++ next ∷ [])) && not (is_listed tid gone))
+      (sym (filter_map-None forgotten_by log next forgets_none));
 }
 
 taken_in : (its had gone : Bool) → (its ≡ true → gone ≡ false) → (its || (had && not gone)) ≡ ((had || (its || false)) && not gone)
@@ -46,7 +47,8 @@ AreTidsOf-taken log next unit before after takes forgets_none new enters are = r
       (λ its. subst (λ t. is_listed t (forgotten_in log) ≡ false) (is_tid-true unit.tid tid its) new)
       ∙ ap (λ b. b && not gone) (sym (list_any-append (λ (u : AleUnit). is_tid u.tid tid) (received log) (unit ∷ [])))
       ∙ ap (λ (units : List AleUnit). is_among tid units && not gone) (sym (filter_map-Some taken_by log next unit takes))
-      ∙ ap (λ (tids : List TidOf). is_among tid (received (log ++ next ∷ [])) && not (is_listed tid tids)) (sym (filter_map-None forgotten_by log next forgets_none));
+      ∙ ap (λ (tids : List TidOf). is_among tid (received (log ++ next ∷ [])) && not (is_listed tid tids))
+      (sym (filter_map-None forgotten_by log next forgets_none));
 }
 
 forgets_it : (its had gone : Bool) → (not its && (had && not gone)) ≡ (had && not (gone || (its || false)))
@@ -72,5 +74,6 @@ AreTidsOf-forget log tid before after forgets are = record {
       ∙ forgets_it (is_tid tid other) (is_among other (received log)) (is_listed other (forgotten_in log))
       ∙ ap (λ b. is_among other (received log) && not b) (sym (list_any-append (λ (t : TidOf). is_tid t other) (forgotten_in log) (tid ∷ [])))
       ∙ ap (λ (gone : List TidOf). is_among other (received log) && not (is_listed other gone)) (sym (filter_map-Some forgotten_by log (Forget tid) tid refl))
-      ∙ ap (λ (units : List AleUnit). is_among other units && not (is_listed other (forgotten_in (log ++ Forget tid ∷ [])))) (sym (filter_map-None taken_by log (Forget tid) refl));
+      ∙ ap (λ (units : List AleUnit). is_among other units && not (is_listed other (forgotten_in (log ++ Forget tid ∷ []))))
+      (sym (filter_map-None taken_by log (Forget tid) refl));
 }

@@ -1,11 +1,13 @@
 -- Claims: their numbers and units differ, where one goes and where one more is made.
 use Rattle.std.specs.Prelude.{Contains, All, filter}
-use Rattle.std.proofs.Common.{◌≡◌, ◌≢◌, ℕ, ◌<◌, ◌==◌, Bool, true, false, not, cond, ◌&&◌, Some, None, List, [], ◌∷◌, ◌++◌, inl, inr, refl, sym, ap, subst, ◌∙◌, arith}
+use Rattle.std.proofs.Common.{◌≡◌, ◌≢◌, ℕ, ◌<◌, ◌==◌, Bool, true, false, not, cond, ◌&&◌, Some, None, List, [], ◌∷◌, ◌++◌, inl, inr, refl, sym, ap, subst, ◌∙◌}
+use Rattle.std.proofs.Common.{arith}
 use Rattle.std.proofs.lemmas.Bool.{cases_Bool, cond-true, cond-false, and_parts, and_from, or_parts, both_ways, eqb-true, eq-eqb, ne_eqb, false_from_ne_true}
 use Rattle.std.proofs.lemmas.List.Elements.{All-weaker, All-contains_itself, Contains-push_cases}
 use Rattle.std.proofs.lemmas.Option.{same_Some, none-some}
 use Rattle.ale_base.specs.Tid.{TidOf, is_tid}
-use Rattle.ale_base.proofs.MemberLemmas.{Contains-here, Contains-there, Contains-cons, Contains-nil, Contains-filter_back, list_any-Contains, find-Some, list_any-found}
+use Rattle.ale_base.proofs.MemberLemmas.{Contains-here, Contains-there, Contains-cons, Contains-nil, Contains-filter_back, list_any-Contains, find-Some}
+use Rattle.ale_base.proofs.MemberLemmas.{list_any-found}
 use Rattle.unit_core.proofs.TidLemmas.{is_tid-from, is_tid-same, is_tid-true}
 use Rattle.trfc_protocol.specs.declared.held.Held.{Held}
 use Rattle.trfc_protocol.specs.declared.held.HeldKind.{HeldKind}
@@ -162,7 +164,8 @@ pub claim_of-Contains : (claims : List Held) (held : Held) → AreApart claims �
 claim_of-Contains [] held apart has = absurd (Contains-nil held has)
 claim_of-Contains (h ∷ hs) held apart has =
     elim (Contains-cons h hs held has) [
-      | inl is ↦ cond-true (h.number == held.number) (Some h) (claim_of held.number hs) (eq-eqb h.number held.number (ap (λ (g : Held). g.number) is)) ∙ ap Some is
+      | inl is ↦ cond-true (h.number == held.number) (Some h) (claim_of held.number hs) (eq-eqb h.number held.number (ap (λ (g : Held). g.number) is))
+          ∙ ap Some is
       | inr behind ↦
           let later = claim_of-Contains hs held apart.2 behind in
           elim (cases_Bool (h.number == held.number)) [

@@ -18,14 +18,17 @@ use Rattle.trfc_protocol.specs.declared.held.HeldKind.{HeldKind}
 use Rattle.trfc_protocol.specs.declared.held.HeldKind.TheVariants.{Out, In, Direct}
 use Rattle.trfc_protocol.specs.Meaning.{Meaning}
 use Rattle.trfc_protocol.specs.Legal.{IsLegal, is_free_outbound, is_free_inbound, IsLawful}
-use Rattle.trfc_protocol.specs.Worlds.{state_of, log_or_none, rest_or_none, up_or_not, log_with, log_found, log_of, log_under, is_up, committed_by, offers_at, offers_now, state_down, state_open, with_state, with_fall, one_fall_more}
+use Rattle.trfc_protocol.specs.Worlds.{state_of, log_or_none, rest_or_none, up_or_not, log_with, log_found, log_of, log_under, is_up, committed_by, offers_at}
+use Rattle.trfc_protocol.specs.Worlds.{offers_now, state_down, state_open, with_state, with_fall, one_fall_more}
 use Rattle.trfc_protocol.specs.Happens.{falls_empty, opens}
 use Rattle.trfc_protocol.specs.Safe.{is_due, Holds, AreApart, Sound, Safe}
-use Rattle.trfc_protocol.proofs.WorldLemmas.{is_up-known, log_found-settled, length-with_state, state_of-here, state_of-elsewhere, at_each_state, kept-with_state, with_state-unknown}
+use Rattle.trfc_protocol.proofs.WorldLemmas.{is_up-known, log_found-settled, length-with_state, state_of-here, state_of-elsewhere, at_each_state}
+use Rattle.trfc_protocol.proofs.WorldLemmas.{kept-with_state, with_state-unknown}
 use Rattle.trfc_protocol.proofs.LegalLemmas.{last_follows, committed-at}
 use Rattle.trfc_protocol.proofs.ClaimLemmas.{All-from_Contains}
 use Rattle.trfc_protocol.proofs.SoundLemmas.{Sound-same, not_done}
-use Rattle.trfc_protocol.proofs.SafeLemmas.{Spares, MayWrite, IsRun-due, due-IsRun, sound_now, hold, committed_unit-is, under_longer, under_up, Sound-written, All-hold}
+use Rattle.trfc_protocol.proofs.SafeLemmas.{Spares, MayWrite, IsRun-due, due-IsRun, sound_now, hold, committed_unit-is, under_longer, under_up, Sound-written}
+use Rattle.trfc_protocol.proofs.SafeLemmas.{All-hold}
 use Rattle.trfc_protocol.proofs.NextLemmas.{IsNext, stays}
 
 -- a claim holds still where the logs and what is offered are the same, and what was up is up
@@ -46,7 +49,8 @@ module _ {R : Type 0} (rules : Meaning) (world after : World R) (logs : (system 
         direct = run.direct;
         offers = offers held.system run.unit.function ∙ run.offers;
         new = ap (λ log. is_among run.unit.tid (received log)) (logs held.system) ∙ run.new;
-        heads = subst (λ log. heads_outbound (done_in log) (rules.committed run.unit.tid.system log) run.unit ≡ true) (sym (logs run.unit.tid.system)) run.heads;
+        heads = subst (λ log. heads_outbound (done_in log) (rules.committed run.unit.tid.system log) run.unit ≡ true)
+            (sym (logs run.unit.tid.system)) run.heads;
       })
 
   Holds-same : (held : Held) → Holds rules world held → Holds rules after held
@@ -225,7 +229,8 @@ module _ {R : Type 0} (rules : Meaning) (lawful : IsLawful rules) (world : World
       let sound_further : Sound rules further = safe.sound (λ _. true) in
       let holds = hold rules lawful world safe held has in
       let has_done : Contains (done_in (further system)) t = subst (λ log. Contains (done_in log) t) (sym whole)
-      (subst (λ tids. Contains tids t) (sym (filter_map-Some done_by (log_of world system) next t finishes)) (Contains-push (done_in (log_of world system)) t)) in
+      (subst (λ tids. Contains tids t) (sym (filter_map-Some done_by (log_of world system) next t finishes))
+      (Contains-push (done_in (log_of world system)) t)) in
       let was : WasTaken (λ s. rules.committed s (further s)) further system t =
       All-contains (WasTaken (λ s. rules.committed s (further s)) further system) (done_in (further system)) t
       (sound_further.once.done_was_taken system) has_done in

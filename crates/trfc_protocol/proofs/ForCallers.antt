@@ -2,7 +2,8 @@
 -- and that a record that was taken back leaves the world as it was.
 use Rattle.std.specs.Prelude.{Contains, slice_get, slice_set, take}
 use Rattle.std.specs.Option.{option_map_or}
-use Rattle.std.proofs.Common.{◌≡◌, ℕ, zero, suc, ◌-◌, true, false, not, ◌||◌, Option, Some, None, List, [], ◌∷◌, ◌++◌, length, inl, inr, refl, sym, ap, subst, ◌∙◌, arith}
+use Rattle.std.proofs.Common.{◌≡◌, ℕ, zero, suc, ◌-◌, true, false, not, ◌||◌, Option, Some, None, List, [], ◌∷◌, ◌++◌, length, inl, inr, refl, sym, ap, subst}
+use Rattle.std.proofs.Common.{◌∙◌, arith}
 use Rattle.std.proofs.Math.Bool.{or-true}
 use Rattle.std.proofs.lemmas.Bool.{cond_both, and_from, both_ways, false_from_ne_true, not_from_false}
 use Rattle.std.proofs.lemmas.List.{take-append-le, take_all, length-append}
@@ -33,7 +34,8 @@ use Rattle.trfc_protocol.specs.declared.event.CoreAnswer.TheVariants as reply
 use Rattle.trfc_protocol.specs.declared.event.Action.TheVariants.{Append, Revoke}
 use Rattle.trfc_protocol.specs.Meaning.{Meaning}
 use Rattle.trfc_protocol.specs.Legal.{is_free_outbound, IsLawful}
-use Rattle.trfc_protocol.specs.Worlds.{state_of, log_or_none, log_with, state_with, state_without_last, state_down, state_open, log_of, is_up, committed_by, committed_unit, with_state, with_record, with_claim, with_fall, one_fall_more, claim_of}
+use Rattle.trfc_protocol.specs.Worlds.{state_of, log_or_none, log_with, state_with, state_without_last, state_down, state_open, log_of, is_up, committed_by}
+use Rattle.trfc_protocol.specs.Worlds.{committed_unit, with_state, with_record, with_claim, with_fall, one_fall_more, claim_of}
 use Rattle.trfc_protocol.specs.Offered.{is_offered_outbound, is_offered_inbound, heads_at_sender, may_arrive, answer_to}
 use Rattle.trfc_protocol.specs.RecordOf.{Writing, record_of}
 use Rattle.trfc_protocol.specs.Keeping.{may_keep}
@@ -166,7 +168,8 @@ module _ {R : Type 0} (rules : Meaning) (lawful : IsLawful rules) (world : World
       subst (λ t. unit_named t (committed_by rules world tid.system) ≡ Some was.0) was.1
       (unit_named-Contains (committed_by rules world tid.system) was.0 (numbered rules lawful world safe tid.system) was.2) in
       let equal : was.0 ≡ unit = cc (found, named) in
-      let there : Contains (received (log_of world unit.receiver)) unit = subst (λ (u : AleUnit). Contains (received (log_of world u.receiver)) u) equal was.3 in
+      let there : Contains (received (log_of world unit.receiver)) unit = subst (λ (u : AleUnit). Contains (received (log_of world u.receiver)) u) equal
+      was.3 in
       let among = is_among-Contains unit (received (log_of world unit.receiver)) there in
       and_from (not (is_listed unit.tid (forgotten_in (log_of world unit.receiver))))
       (is_among unit.tid (received (log_of world unit.receiver)) || heads_at_sender rules world unit)
@@ -267,7 +270,8 @@ module _ {R : Type 0} (rules : Meaning) (world : World R) where
       (grows_with after it.system (state_with it.next) (λ state. (it.next ∷ [], refl)) system)
 
   falls_on : (system : ℕ) (rest : Option Record) → Grows (with_fall world system rest)
-  falls_on system rest = grows_with (record world { claims = []; falls = one_fall_more world.falls }) system (state_down rest) (λ state. IsPrefix-same state.log)
+  falls_on system rest = grows_with (record world { claims = []; falls = one_fall_more world.falls }) system (state_down rest)
+      (λ state. IsPrefix-same state.log)
 
   -- every event lets each log go on
   pub logs_grow : (e : Event) → Grows (happens rules world e)
@@ -281,15 +285,27 @@ module _ {R : Type 0} (rules : Meaning) (world : World R) where
   logs_grow (event.Open system) s =
       cond_both (is_up world system) world (with_state world system state_open)
       (λ (w : World R). IsPrefix (log_of world s) (log_of w s)) (λ _. IsPrefix-same (log_of world s)) (λ _. grows_with world system state_open open_longer s)
-  logs_grow (event.Commit system what) s = writes_on (record_of rules world (event.Commit system what)) (with_claims_after rules world (event.Commit system what)) (claims_apart (event.Commit system what)) s
-  logs_grow (event.Claim tid) s = writes_on (record_of rules world (event.Claim tid)) (with_claims_after rules world (event.Claim tid)) (claims_apart (event.Claim tid)) s
-  logs_grow (event.Arrive tid) s = writes_on (record_of rules world (event.Arrive tid)) (with_claims_after rules world (event.Arrive tid)) (claims_apart (event.Arrive tid)) s
-  logs_grow (event.Run tid) s = writes_on (record_of rules world (event.Run tid)) (with_claims_after rules world (event.Run tid)) (claims_apart (event.Run tid)) s
-  logs_grow (event.Finish number) s = writes_on (record_of rules world (event.Finish number)) (with_claims_after rules world (event.Finish number)) (claims_apart (event.Finish number)) s
-  logs_grow (event.Fail number) s = writes_on (record_of rules world (event.Fail number)) (with_claims_after rules world (event.Fail number)) (claims_apart (event.Fail number)) s
-  logs_grow (event.Reply to) s = writes_on (record_of rules world (event.Reply to)) (with_claims_after rules world (event.Reply to)) (claims_apart (event.Reply to)) s
-  logs_grow (event.LoseRequest number) s = writes_on (record_of rules world (event.LoseRequest number)) (with_claims_after rules world (event.LoseRequest number)) (claims_apart (event.LoseRequest number)) s
-  logs_grow (event.LoseReply number) s = writes_on (record_of rules world (event.LoseReply number)) (with_claims_after rules world (event.LoseReply number)) (claims_apart (event.LoseReply number)) s
-  logs_grow (event.Confirm tid) s = writes_on (record_of rules world (event.Confirm tid)) (with_claims_after rules world (event.Confirm tid)) (claims_apart (event.Confirm tid)) s
-  logs_grow (event.LoseConfirm tid) s = writes_on (record_of rules world (event.LoseConfirm tid)) (with_claims_after rules world (event.LoseConfirm tid)) (claims_apart (event.LoseConfirm tid)) s
-  logs_grow (event.Operator action) s = writes_on (record_of rules world (event.Operator action)) (with_claims_after rules world (event.Operator action)) (claims_apart (event.Operator action)) s
+  logs_grow (event.Commit system what) s = writes_on (record_of rules world (event.Commit system what))
+      (with_claims_after rules world (event.Commit system what)) (claims_apart (event.Commit system what)) s
+  logs_grow (event.Claim tid) s = writes_on (record_of rules world (event.Claim tid)) (with_claims_after rules world (event.Claim tid))
+      (claims_apart (event.Claim tid)) s
+  logs_grow (event.Arrive tid) s = writes_on (record_of rules world (event.Arrive tid)) (with_claims_after rules world (event.Arrive tid))
+      (claims_apart (event.Arrive tid)) s
+  logs_grow (event.Run tid) s = writes_on (record_of rules world (event.Run tid)) (with_claims_after rules world (event.Run tid))
+      (claims_apart (event.Run tid)) s
+  logs_grow (event.Finish number) s = writes_on (record_of rules world (event.Finish number)) (with_claims_after rules world (event.Finish number))
+      (claims_apart (event.Finish number)) s
+  logs_grow (event.Fail number) s = writes_on (record_of rules world (event.Fail number)) (with_claims_after rules world (event.Fail number))
+      (claims_apart (event.Fail number)) s
+  logs_grow (event.Reply to) s = writes_on (record_of rules world (event.Reply to)) (with_claims_after rules world (event.Reply to))
+      (claims_apart (event.Reply to)) s
+  logs_grow (event.LoseRequest number) s = writes_on (record_of rules world (event.LoseRequest number))
+      (with_claims_after rules world (event.LoseRequest number)) (claims_apart (event.LoseRequest number)) s
+  logs_grow (event.LoseReply number) s = writes_on (record_of rules world (event.LoseReply number)) (with_claims_after rules world (event.LoseReply number))
+      (claims_apart (event.LoseReply number)) s
+  logs_grow (event.Confirm tid) s = writes_on (record_of rules world (event.Confirm tid)) (with_claims_after rules world (event.Confirm tid))
+      (claims_apart (event.Confirm tid)) s
+  logs_grow (event.LoseConfirm tid) s = writes_on (record_of rules world (event.LoseConfirm tid)) (with_claims_after rules world (event.LoseConfirm tid))
+      (claims_apart (event.LoseConfirm tid)) s
+  logs_grow (event.Operator action) s = writes_on (record_of rules world (event.Operator action)) (with_claims_after rules world (event.Operator action))
+      (claims_apart (event.Operator action)) s

@@ -27,7 +27,9 @@ use Rattle.trfc_protocol.specs.Legal.{is_commit, is_empty, may_follow, IsLawful}
 use Rattle.trfc_protocol.specs.Worlds.{log_of, is_up, offers_now, committed_unit, is_claimed_at}
 use Rattle.trfc_protocol.specs.Offered.{may_arrive, answer_to, offers_received_now}
 use Rattle.trfc_protocol.specs.SameUnit.{is_same_unit}
-use Rattle.trfc_protocol.specs.RecordOf.{Writing, record_if, may_operate, record_of_answer, record_of_arrival, record_of_run, record_of_work, record_of_failure, record_of_answered, record_of_reply, record_of_loss, record_of_confirmation, record_of_ending, record_of_claim, record_of}
+use Rattle.trfc_protocol.specs.RecordOf.{Writing, record_if, may_operate, record_of_answer, record_of_arrival, record_of_run, record_of_work, record_of_failure}
+use Rattle.trfc_protocol.specs.RecordOf.{record_of_answered, record_of_reply, record_of_loss, record_of_confirmation, record_of_ending, record_of_claim}
+use Rattle.trfc_protocol.specs.RecordOf.{record_of}
 use Rattle.trfc_protocol.specs.Keeping.{IsWritten, is_new_answer, of_committed, may_append, may_keep}
 use Rattle.trfc_protocol.specs.Safe.{Safe}
 use Rattle.trfc_protocol.proofs.ClaimLemmas.{claim_of-Contains, is_claimed_at-Contains, claim_at}

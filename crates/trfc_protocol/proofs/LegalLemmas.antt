@@ -2,7 +2,8 @@
 use Rattle.std.specs.Prelude.{Contains, is_some, slice_index_or}
 use Rattle.std.specs.List.{cons_option}
 use Rattle.std.proofs.lemmas.List.Elements.{filter_map-append}
-use Rattle.std.proofs.Common.{◌≡◌, ◌≢◌, ℕ, zero, suc, ◌+◌, ◌<◌, Bool, true, false, not, cond, ◌&&◌, Option, Some, None, List, [], ◌∷◌, ◌++◌, length, get_or, take, inl, inr, refl, sym, ap, subst, ◌∙◌, arith, append_assoc}
+use Rattle.std.proofs.Common.{◌≡◌, ◌≢◌, ℕ, zero, suc, ◌+◌, ◌<◌, Bool, true, false, not, cond, ◌&&◌, Option, Some, None, List, [], ◌∷◌, ◌++◌, length, get_or}
+use Rattle.std.proofs.Common.{take, inl, inr, refl, sym, ap, subst, ◌∙◌, arith, append_assoc}
 use Rattle.std.proofs.lemmas.Bool.{cases_Bool, both_ways, and_parts, and_from, or_from, not-true, not_from_false}
 use Rattle.std.proofs.lemmas.List.{append-nil, take_more}
 use Rattle.std.proofs.lemmas.List.Sums.{fold-append}
@@ -13,7 +14,8 @@ use Rattle.ale_base.specs.declared.way.Way.{Way}
 use Rattle.ale_base.specs.declared.way.Way.TheVariants.{Outgoing, Incoming}
 use Rattle.unit_core.specs.declared.ale_unit.AleUnit.{AleUnit}
 use Rattle.unit_core.specs.declared.records.Record.{Record}
-use Rattle.unit_core.specs.declared.records.Record.TheVariants.{Genesis, Commit, Dispatch, Done, Ended, Accept, Execute, Direct, Forget, Stop, Start, Retry, Put, App, Repost, Model}
+use Rattle.unit_core.specs.declared.records.Record.TheVariants.{Genesis, Commit, Dispatch, Done, Ended, Accept, Execute, Direct, Forget, Stop, Start, Retry}
+use Rattle.unit_core.specs.declared.records.Record.TheVariants.{Put, App, Repost, Model}
 use Rattle.unit_core.specs.Filters.{taken_by, executed_by, done_by, ended_by, forgotten_by, received, executed, done_in, mark_after, mark_of, is_marked}
 use Rattle.unit_core.specs.Queues.{is_listed, is_outstanding, unit_named, tids_of, heads_outbound, heads_inbound}
 use Rattle.ale_base.specs.Prefix.{IsPrefix}
@@ -23,7 +25,8 @@ use Rattle.unit_core.proofs.TidLemmas.{is_tid-other, is_listed-one, is_listed-ap
 use Rattle.unit_core.proofs.QueueLemmas.{heads_outbound-keeps, heads_inbound-keeps}
 use Rattle.unit_core.proofs.OnceLemmas.{MayTake, MayExecute, MayJoin, WasTaken, WasForgotten}
 use Rattle.trfc_protocol.specs.Meaning.{Meaning}
-use Rattle.trfc_protocol.specs.Legal.{is_free, is_free_outbound, is_free_inbound, may_follow, may_follow_others, AllFollow, IsLegal, is_commit, is_operators, is_model, may_change_offers, IsUnitAt, IsLawful}
+use Rattle.trfc_protocol.specs.Legal.{is_free, is_free_outbound, is_free_inbound, may_follow, may_follow_others, AllFollow, IsLegal, is_commit, is_operators}
+use Rattle.trfc_protocol.specs.Legal.{is_model, may_change_offers, IsUnitAt, IsLawful}
 
 -- a legal log goes on by a record that may follow it
 AllFollow-push : (rules : Meaning) (system : ℕ) (before log : List Record) (next : Record) → AllFollow rules system before log
@@ -240,7 +243,8 @@ retried Incoming Outgoing t tid = refl
 nothing_marked : (next : Record) → ((way : Way) (tid : TidOf) → mark_after way tid None next ≡ None) → taken_by next ≡ None → executed_by next ≡ None
     → done_by next ≡ None
     → forgotten_by next ≡ None → ended_by next ≡ None → IsPlain next
-nothing_marked next marks takes executes finishes forgets ends = record { takes = takes; executes = executes; finishes = finishes; forgets = forgets; ends = ends; marks = marks }
+nothing_marked next marks takes executes finishes forgets ends = record
+    { takes = takes; executes = executes; finishes = finishes; forgets = forgets; ends = ends; marks = marks }
 
 -- a record that commits is plain
 pub IsPlain-commit : (next : Record) → is_commit next ≡ true → IsPlain next

@@ -26,7 +26,8 @@ use Rattle.trfc_protocol.specs.Meaning.{Meaning}
 use Rattle.trfc_protocol.specs.Legal.{is_commit, is_operators, is_empty, may_follow, IsLawful}
 use Rattle.trfc_protocol.specs.Worlds.{log_of, is_up, offers_now, committed_unit, claim_of}
 use Rattle.trfc_protocol.specs.Offered.{may_arrive, answer_to, offers_received_now}
-use Rattle.trfc_protocol.specs.RecordOf.{Writing, record_asked, record_of_answer, record_of_arrival, record_of_run, record_of_work, record_of_failure, record_of_answered, record_of_reply, record_of_loss, record_of_confirmation, record_of_ending, record_of, may_operate}
+use Rattle.trfc_protocol.specs.RecordOf.{Writing, record_asked, record_of_answer, record_of_arrival, record_of_run, record_of_work, record_of_failure}
+use Rattle.trfc_protocol.specs.RecordOf.{record_of_answered, record_of_reply, record_of_loss, record_of_confirmation, record_of_ending, record_of, may_operate}
 use Rattle.trfc_protocol.specs.Safe.{Safe}
 use Rattle.trfc_protocol.proofs.LegalLemmas.{IsPlain, IsPlain-commit, IsPlain-operators, MayJoin-plain}
 use Rattle.trfc_protocol.proofs.ClaimLemmas.{claim_of-Some}
@@ -120,7 +121,8 @@ module _ {R : Type 0} (rules : Meaning) (world : World R) (P : ℕ → Record �
   failure held Direct has is = none
   failure held Out has is = none
 
-  answered : (held : Held) (given : CoreAnswer) (unit : AleUnit) → Contains world.claims held → held.kind ≡ Out → committed_unit rules world held.tid ≡ Some unit
+  answered : (held : Held) (given : CoreAnswer) (unit : AleUnit) → Contains world.claims held → held.kind ≡ Out →
+      committed_unit rules world held.tid ≡ Some unit
       → Of (record_of_answered rules world held given unit)
   answered held reply.Busy unit has is named = none
   answered held reply.Done unit has is named =
@@ -130,10 +132,12 @@ module _ {R : Type 0} (rules : Meaning) (world : World R) (P : ℕ → Record �
       record_if-each (λ it. P it.system it.next) (is_empty unit.inq && not (offers_now rules world unit.receiver unit.function)) held.system
       (log.Mark held.tid Sysfail) (each.refused held unit has is named)
 
-  replied : (given : CoreAnswer) (held : Held) (kind : HeldKind) → Contains world.claims held → held.kind ≡ kind → Of (record_of_reply rules world given held kind)
+  replied : (given : CoreAnswer) (held : Held) (kind : HeldKind) → Contains world.claims held → held.kind ≡ kind →
+      Of (record_of_reply rules world given held kind)
   replied reply.Busy held kind has is = none
   replied reply.Done held Out has is =
-      of_unit held.tid (record_of_answered rules world held reply.Done) (committed_unit rules world held.tid) refl (λ unit. answered held reply.Done unit has is)
+      of_unit held.tid (record_of_answered rules world held reply.Done) (committed_unit rules world held.tid) refl
+      (λ unit. answered held reply.Done unit has is)
   replied reply.Done held In has is = none
   replied reply.Done held Direct has is = none
   replied reply.SysFail held Out has is =

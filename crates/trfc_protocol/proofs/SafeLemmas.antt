@@ -1,7 +1,8 @@
 -- A safe world stays safe where a record joins the log of one system, whatever those that are down will find.
 use Rattle.std.specs.Prelude.{Contains, All}
 use Rattle.std.specs.List.{cons_option}
-use Rattle.std.proofs.Common.{◌≡◌, ◌≢◌, ℕ, ◌<◌, ◌≤◌, ◌==◌, Bool, true, false, not, ◌&&◌, Option, Some, None, List, [], ◌∷◌, ◌++◌, inl, inr, refl, sym, ap, subst, ◌∙◌}
+use Rattle.std.proofs.Common.{◌≡◌, ◌≢◌, ℕ, ◌<◌, ◌≤◌, ◌==◌, Bool, true, false, not, ◌&&◌, Option, Some, None, List, [], ◌∷◌, ◌++◌, inl, inr, refl, sym, ap}
+use Rattle.std.proofs.Common.{subst, ◌∙◌}
 use Rattle.std.proofs.lemmas.Bool.{cases_eq, and_parts, and_from, or_from, not-true, not_from_false, eqb-true, eq-eqb}
 use Rattle.std.proofs.lemmas.List.Folds.{list_any-append}
 use Rattle.std.proofs.lemmas.List.Elements.{All-contains, filter_map-append}
@@ -25,11 +26,15 @@ use Rattle.trfc_protocol.specs.declared.held.HeldKind.{HeldKind}
 use Rattle.trfc_protocol.specs.declared.held.HeldKind.TheVariants.{Out, In, Direct}
 use Rattle.trfc_protocol.specs.Meaning.{Meaning}
 use Rattle.trfc_protocol.specs.Legal.{may_follow, may_follow_others, is_empty, is_model, IsUnitAt, IsLawful, is_free_outbound, is_free_inbound}
-use Rattle.trfc_protocol.specs.Worlds.{state_of, log_or_none, rest_or_none, up_or_not, log_found, log_of, log_under, is_up, committed_by, committed_unit, offers_at, offers_now, state_with, with_state, with_record}
+use Rattle.trfc_protocol.specs.Worlds.{state_of, log_or_none, rest_or_none, up_or_not, log_found, log_of, log_under, is_up, committed_by, committed_unit}
+use Rattle.trfc_protocol.specs.Worlds.{offers_at, offers_now, state_with, with_state, with_record}
 use Rattle.trfc_protocol.specs.Offered.{heads_at_sender}
 use Rattle.trfc_protocol.specs.Safe.{is_direct, is_due, Holds, AreApart, Sound, Safe}
-use Rattle.trfc_protocol.proofs.WorldLemmas.{state_of-least, state_of-most, is_up-known, log_found-settled, log_found-cases, offers_now-known, length-with_state, state_of-here, state_of-elsewhere, at_each_state, kept-with_state, joins-with_state, is_up-with_state}
-use Rattle.trfc_protocol.proofs.LegalLemmas.{may_follow-others, offers_kept, committed-NoneTwice, committed-at, committed-grows, is_free_outbound-keeps, is_free_inbound-keeps, option_misses}
+use Rattle.trfc_protocol.proofs.WorldLemmas.{state_of-least, state_of-most, is_up-known, log_found-settled, log_found-cases, offers_now-known}
+use Rattle.trfc_protocol.proofs.WorldLemmas.{length-with_state, state_of-here, state_of-elsewhere, at_each_state, kept-with_state, joins-with_state}
+use Rattle.trfc_protocol.proofs.WorldLemmas.{is_up-with_state}
+use Rattle.trfc_protocol.proofs.LegalLemmas.{may_follow-others, offers_kept, committed-NoneTwice, committed-at, committed-grows, is_free_outbound-keeps}
+use Rattle.trfc_protocol.proofs.LegalLemmas.{is_free_inbound-keeps, option_misses}
 use Rattle.trfc_protocol.proofs.ClaimLemmas.{All-from_Contains}
 use Rattle.trfc_protocol.proofs.SoundLemmas.{IsLonger, Sound-joins, MayJoin-further}
 

@@ -132,7 +132,8 @@ module _ {R : Type 0} (rules : Meaning) (lawful : IsLawful rules) (world : World
         direct = λ kind. (
           λ t same. absurd (none-some t same),
           λ u same here its.
-              not_claimed Direct unit.tid world.claims (answer-new unit is).2 held has kind (sym its ∙ sym (ap (λ (v : AleUnit). v.tid) (same_Some unit u same))),
+              not_claimed Direct unit.tid world.claims (answer-new unit is).2 held has kind
+              (sym its ∙ sym (ap (λ (v : AleUnit). v.tid) (same_Some unit u same))),
           λ here. refl,
         );
       })

@@ -85,7 +85,8 @@ module _ (rules : Meaning) (lawful : IsLawful rules) where
     not_done system unit same receiver has new listed =
         let further_units = units_of further in
         let was : WasTaken further_units further unit.sender unit.tid = All-contains (WasTaken further_units further unit.sender)
-        (done_in (further unit.sender)) unit.tid (sound_further.once.done_was_taken unit.sender) (Contains-is_listed unit.tid (done_in (further unit.sender)) listed) in
+        (done_in (further unit.sender)) unit.tid (sound_further.once.done_was_taken unit.sender)
+        (Contains-is_listed unit.tid (done_in (further unit.sender)) listed) in
         let equal : was.0 ≡ unit = same_unit (further_units unit.sender) was.0 unit (ids_differ further sound_further unit.sender) was.2
         (committed_further unit.sender unit has) was.1 in
         let there : Contains (received (further unit.receiver)) unit = subst (λ (u : AleUnit). Contains (received (further u.receiver)) u) equal was.3 in

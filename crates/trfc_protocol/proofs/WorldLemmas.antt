@@ -1,6 +1,7 @@
 -- The systems of a world, and another state of one of them.
 use Rattle.std.specs.Prelude.{slice_get, slice_set, slice_index_or}
-use Rattle.std.proofs.Common.{◌≡◌, ◌≢◌, ℕ, zero, suc, ◌-◌, ◌≤◌, Bool, true, false, Option, Some, None, List, [], ◌∷◌, ◌++◌, length, inl, inr, ◌⊎◌, refl, sym, ap, subst, ◌∙◌, arith}
+use Rattle.std.proofs.Common.{◌≡◌, ◌≢◌, ℕ, zero, suc, ◌-◌, ◌≤◌, Bool, true, false, Option, Some, None, List, [], ◌∷◌, ◌++◌, length, inl, inr, ◌⊎◌, refl, sym}
+use Rattle.std.proofs.Common.{ap, subst, ◌∙◌, arith}
 use Rattle.std.proofs.lemmas.Bool.{cases_eq}
 use Rattle.std.proofs.lemmas.List.{length-set}
 use Rattle.std.proofs.lemmas.Option.{same_Some, slice_get_within}
@@ -10,7 +11,8 @@ use Rattle.unit_core.proofs.OnceLemmas.{Joins}
 use Rattle.trfc_protocol.specs.declared.world.World.{World}
 use Rattle.trfc_protocol.specs.declared.world.SystemState.{SystemState}
 use Rattle.trfc_protocol.specs.Meaning.{Meaning}
-use Rattle.trfc_protocol.specs.Worlds.{state_of, log_or_none, rest_or_none, up_or_not, log_with, log_found, log_of, is_up, offers_at, offers_now, with_state_at, with_state, without_claim}
+use Rattle.trfc_protocol.specs.Worlds.{state_of, log_or_none, rest_or_none, up_or_not, log_with, log_found, log_of, is_up, offers_at, offers_now, with_state_at}
+use Rattle.trfc_protocol.specs.Worlds.{with_state, without_claim}
 
 -- an element is written where it was
 pub slice_set-same : {A : Type 0} (xs : List A) (k : ℕ) (x y : A) → slice_get xs k ≡ Some x → y ≡ x → slice_set xs k y ≡ xs

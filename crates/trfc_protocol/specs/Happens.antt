@@ -70,7 +70,8 @@ module _ {R : Type 0} (rules : Meaning) (world : World R) where
   with_claims_after (event.Arrive tid) = option_map_or after_arrival (committed_unit rules world tid) world
   with_claims_after (event.Run tid) = option_map_or (after_run world tid) (committed_unit rules world tid) world
   with_claims_after (event.Reply (Claim number reply.Busy)) = option_map_or (λ held. after_busy world held held.kind) (claim_of number world.claims) world
-  with_claims_after (event.Reply (Claim number given)) = after_work world (claim_of number world.claims) (record_of rules world (event.Reply (Claim number given)))
+  with_claims_after (event.Reply (Claim number given)) = after_work world (claim_of number world.claims)
+      (record_of rules world (event.Reply (Claim number given)))
   with_claims_after (event.Finish number) = after_work world (claim_of number world.claims) (record_of rules world (event.Finish number))
   with_claims_after (event.Fail number) = after_work world (claim_of number world.claims) (record_of rules world (event.Fail number))
   with_claims_after (event.LoseRequest number) = after_work world (claim_of number world.claims) (record_of rules world (event.LoseRequest number))

@@ -1,6 +1,7 @@
 -- The laws hold of rules that list the units.
 use Rattle.std.specs.Prelude.{take, slice_index_or, IsTrue}
-use Rattle.std.proofs.Common.{◌≡◌, ℕ, zero, suc, ◌+◌, ◌<◌, ◌≤◌, ◌==◌, true, false, not, ◌&&◌, nat_le, List, [], ◌∷◌, ◌++◌, length, refl, sym, ap, subst, ◌∙◌, arith, add_assoc, cond}
+use Rattle.std.proofs.Common.{◌≡◌, ℕ, zero, suc, ◌+◌, ◌<◌, ◌≤◌, ◌==◌, true, false, not, ◌&&◌, nat_le, List, [], ◌∷◌, ◌++◌, length, refl, sym, ap, subst, ◌∙◌}
+use Rattle.std.proofs.Common.{arith, add_assoc, cond}
 use Rattle.std.proofs.lemmas.Bool.{and_parts, eqb-true, leb-true, not-true, eqb-false}
 use Rattle.std.proofs.lemmas.List.{length-take}
 use Rattle.ale_base.specs.declared.system_no.TheConstants.SystemNo.{MAX}

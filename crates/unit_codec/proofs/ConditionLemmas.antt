@@ -13,13 +13,16 @@ use Rattle.unit_core.specs.Queues.{has_name, are_different}
 use Rattle.unit_core.specs.declared.ale_unit.AleUnit.{AleUnit}
 use Rattle.unit_core.specs.declared.raw_unit_doc.RawUnitDoc.{RawUnitDoc}
 use Rattle.unit_core.specs.declared.records.Record.{Record}
-use Rattle.unit_core.specs.declared.records.Record.TheVariants.{Genesis, Commit, Dispatch, Mark, Done, Ended, Accept, Execute, Direct, Fail, Forget, Stop, Start, Retry, Put, App, Repost, Model}
+use Rattle.unit_core.specs.declared.records.Record.TheVariants.{Genesis, Commit, Dispatch, Mark, Done, Ended, Accept, Execute, Direct, Fail, Forget, Stop}
+use Rattle.unit_core.specs.declared.records.Record.TheVariants.{Start, Retry, Put, App, Repost, Model}
 use Rattle.unit_codec.specs.Kind.{number, sized, listed, optional, AllFollow}
-use Rattle.unit_codec.specs.Fields.{is_name, is_other, name, text, destination, document, documents, segments, sender, receiver, function, queues, a_unit, field_value, field_values}
+use Rattle.unit_codec.specs.Fields.{is_name, is_other, name, text, destination, document, documents, segments, sender, receiver, function, queues, a_unit}
+use Rattle.unit_codec.specs.Fields.{field_value, field_values}
 use Rattle.unit_codec.specs.Records.{genesis, commit, stop, put, a_record}
 use Rattle.unit_codec.specs.declared.entry.Entry.{Entry}
 use Rattle.unit_codec.specs.Entries.{an_entry}
-use Rattle.unit_codec.specs.Condition.{IsWritableEntry, IsName, IsText, IsDocument, AreDocuments, AreQueues, IsUnit, HasDestination, IsFieldValue, AreCounted, IsWritable}
+use Rattle.unit_codec.specs.Condition.{IsWritableEntry, IsName, IsText, IsDocument, AreDocuments, AreQueues, IsUnit, HasDestination, IsFieldValue, AreCounted}
+use Rattle.unit_codec.specs.Condition.{IsWritable}
 use Rattle.unit_codec.proofs.RuleLemmas.{parts, both, is_between-parts}
 use Rattle.unit_codec.proofs.ListLemmas.{or_false, differs-back}
 
@@ -41,7 +44,11 @@ document-condition value fits = leb-true (length value.segments) 10000 fits.1.0.
 
 documents-condition : (values : List RawUnitDoc) → documents.Fits values → AreDocuments values
 unfolding documents listed number
-documents-condition values fits = ((leb-true 1 (length values) fits.0.1, fits.0.0), AllByRecursion-weaker document.Fits IsDocument values document-condition fits.1)
+documents-condition values fits = (
+  (leb-true 1 (length values) fits.0.1, fits.0.0),
+  AllByRecursion-weaker document.Fits IsDocument values document-condition
+      fits.1,
+)
 
 field_value-condition : (value : FieldValue) → field_value.Fits value → IsFieldValue value
 unfolding field_value
@@ -49,7 +56,11 @@ field_value-condition value fits = (name-condition value.field fits.0, text-cond
 
 field_values-condition : (values : List FieldValue) → field_values.Fits values → AreCounted values × AllByRecursion IsFieldValue values
 unfolding field_values listed number
-field_values-condition values fits = ((leb-true 1 (length values) fits.0.1, fits.0.0), AllByRecursion-weaker field_value.Fits IsFieldValue values field_value-condition fits.1)
+field_values-condition values fits = (
+  (leb-true 1 (length values) fits.0.1, fits.0.0),
+  AllByRecursion-weaker field_value.Fits IsFieldValue values
+      field_value-condition fits.1,
+)
 
 destination-condition : (direction : Way) (to : ℕ) → (destination direction).Fits to → HasDestination direction to
 unfolding destination
@@ -65,7 +76,11 @@ not_false false is = refl
 -- names that follow each other are none of those before them
 new-follow : (front names : List (List ℕ)) → AllFollow is_other front names → AllByRecursion (λ x. has_name x front ≡ false) names
 new-follow front [] follow = tt
-new-follow front (x ∷ names) follow = (not_false (has_name x front) follow.0, AllByRecursion-weaker (λ y. has_name y (front ++ x ∷ []) ≡ false) (λ y. has_name y front ≡ false) names (shorter front x) (new-follow (front ++ x ∷ []) names follow.1))
+new-follow front (x ∷ names) follow = (
+  not_false (has_name x front) follow.0,
+  AllByRecursion-weaker (λ y. has_name y (front ++ x ∷ []) ≡ false)
+      (λ y. has_name y front ≡ false) names (shorter front x) (new-follow (front ++ x ∷ []) names follow.1),
+)
   where
     shorter : (front : List (List ℕ)) (x y : List ℕ) → has_name y (front ++ x ∷ []) ≡ false → has_name y front ≡ false
     shorter front x y none = (or_false (has_name y front) (has_name y (x ∷ [])) (sym (list_any-append (λ z. pointwise nat_eq z y) front (x ∷ [])) ∙ none)).0
@@ -97,7 +112,8 @@ unit-condition unit fits =
     let other = parts _ (not (unit.receiver == unit.sender)) fits.1.1.0.1 in
     record {
       sender = eqb-true unit.sender unit.tid.system fits.1.0.1;
-      receiver = λ same. let is : (unit.receiver == unit.sender) ≡ true = eq-eqb unit.receiver unit.sender same in let f = not_false (unit.receiver == unit.sender) other.1 in absurd cc;
+      receiver = λ same. let is : (unit.receiver == unit.sender) ≡ true = eq-eqb unit.receiver unit.sender same in let f = not_false
+          (unit.receiver == unit.sender) other.1 in absurd cc;
       function = (is_between-parts 1 30 (length unit.function) (parts (is_name unit.function) _ fits.1.1.1.0.1).0).0;
       outq = queues-condition unit.outq fits.1.1.1.1.0;
       inq = queues-condition unit.inq fits.1.1.1.1.1.0;

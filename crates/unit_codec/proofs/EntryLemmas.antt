@@ -1,11 +1,13 @@
 -- The spelling of entries is exact, and so is reading all of some bytes.
 use Rattle.std.specs.Prelude.{IfSome, IfOk}
 use Rattle.std.specs.Int.{w64}
-use Rattle.std.proofs.Common.{◌<◌, ◌≡◌, ◌≢◌, ℕ, ◌-◌, ◌%◌, ◌≤◌, false, eqb, Option, Some, None, List, [], ◌∷◌, ◌++◌, length, Result, Ok, Err, refl, sym, ap, subst, ◌∙◌, append_assoc, ⊎_elim, inl, inr, arith}
+use Rattle.std.proofs.Common.{◌<◌, ◌≡◌, ◌≢◌, ℕ, ◌-◌, ◌%◌, ◌≤◌, false, eqb, Option, Some, None, List, [], ◌∷◌, ◌++◌, length, Result, Ok, Err, refl, sym, ap}
+use Rattle.std.proofs.Common.{subst, ◌∙◌, append_assoc, ⊎_elim, inl, inr, arith}
 use Rattle.std.proofs.lemmas.Bool.Decides.{eqb_tells}
 use Rattle.std.proofs.lemmas.List.{append-nil, nil_from_length, length-append}
 use Rattle.unit_core.specs.declared.records.Record.{Record}
-use Rattle.unit_core.specs.declared.records.Record.TheVariants.{Genesis, Commit, Dispatch, Mark, Done, Ended, Accept, Execute, Direct, Fail, Forget, Stop, Start, Retry, Put, App, Repost, Model}
+use Rattle.unit_core.specs.declared.records.Record.TheVariants.{Genesis, Commit, Dispatch, Mark, Done, Ended, Accept, Execute, Direct, Fail, Forget, Stop}
+use Rattle.unit_core.specs.declared.records.Record.TheVariants.{Start, Retry, Put, App, Repost, Model}
 use Rattle.unit_codec.specs.declared.entry.Entry.{Entry}
 use Rattle.unit_codec.specs.declared.fault.CodecFault.{CodecFault}
 use Rattle.unit_codec.specs.declared.fault.CodecFault.TheVariants.{Bad, OutOfMemory}
@@ -55,19 +57,24 @@ entry_at-takes moment bytes x are is =
     let a = bind_ok (a_record.read bytes) (λ what. Ok (record { moment = moment; what = what.0 }, what.1)) x is in
     let t = a_record-exact.takes bytes a.0 are a.1 in
     let made : Entry × List ℕ = (record { moment = moment; what = a.0.0 }, a.0.1) in
-    subst (λ (y : Entry × List ℕ). (y.0.moment ≡ moment) × a_record.Fits y.0.what × (bytes ≡ a_record.spell y.0.what ++ y.1)) (ok_is made x a.2) (refl, t.0, t.1)
+    subst (λ (y : Entry × List ℕ). (y.0.moment ≡ moment) × a_record.Fits y.0.what × (bytes ≡ a_record.spell y.0.what ++ y.1)) (ok_is made x a.2)
+    (refl, t.0, t.1)
 
 entry_at-within : (moment : Option ℕ) (bytes : List ℕ) (left : ℕ) → AreBytes bytes → entry_at moment bytes ≡ Err left → left ≤ length bytes
 entry_at-within moment bytes left are is =
-    ⊎_elim (λ (e : a_record.read bytes ≡ Err left). a_record-exact.within bytes left are e) (λ e. absurd (not_err (record { moment = moment; what = e.0.0 }, e.0.1) left e.2))
+    ⊎_elim (λ (e : a_record.read bytes ≡ Err left). a_record-exact.within bytes left are e)
+    (λ e. absurd (not_err (record { moment = moment; what = e.0.0 }, e.0.1) left e.2))
     (bind_err (a_record.read bytes) (λ what. Ok (record { moment = moment; what = what.0 }, what.1)) left is)
 
 -- without a moment
 plain_takes : (bytes : List ℕ) (x : Entry × List ℕ) → AreBytes bytes → entry_at None bytes ≡ Ok x
     → (IfSome x.0.moment (number w64).Fits × a_record.Fits x.0.what) × (bytes ≡ (moment_spelling x.0.moment ++ a_record.spell x.0.what) ++ x.1)
 plain_takes bytes x are is =
-    let t = entry_at-takes None bytes x are is in
-    ((subst (λ (m : Option ℕ). IfSome m (number w64).Fits) (sym t.0) tt, t.1), t.2 ∙ ap (λ (m : Option ℕ). (moment_spelling m ++ a_record.spell x.0.what) ++ x.1) (sym t.0))
+    let t = entry_at-takes None bytes x are is in (
+      (subst (λ (m : Option ℕ). IfSome m (number w64).Fits) (sym t.0) tt, t.1),
+      t.2
+          ∙ ap (λ (m : Option ℕ). (moment_spelling m ++ a_record.spell x.0.what) ++ x.1) (sym t.0),
+    )
 
 an_entry-takes : (bytes : List ℕ) (x : Entry × List ℕ) → AreBytes bytes → entry_read bytes ≡ Ok x
     → (IfSome x.0.moment (number w64).Fits × a_record.Fits x.0.what) × (bytes ≡ (moment_spelling x.0.moment ++ a_record.spell x.0.what) ++ x.1)
@@ -84,8 +91,11 @@ an_entry-takes (first ∷ bytes) x are is =
           let t = entry_at-takes (Some a.0.0) a.0.1 x (rest_bytes (number w64) moment-exact bytes a.0 behind a.1) a.2 in
           let whole : first ∷ bytes ≡ (moment_spelling (Some a.0.0) ++ a_record.spell x.0.what) ++ x.1 =
           ap (λ (k : ℕ). k ∷ bytes) here.1 ∙ ap (λ (l : List ℕ). MOMENT_BYTE ∷ l) (n.1 ∙ ap (λ (l : List ℕ). (number w64).spell a.0.0 ++ l) t.2)
-          ∙ sym (append_assoc (moment_spelling (Some a.0.0)) (a_record.spell x.0.what) x.1) in
-          ((subst (λ (m : Option ℕ). IfSome m (number w64).Fits) (sym t.0) n.0, t.1), whole ∙ ap (λ (m : Option ℕ). (moment_spelling m ++ a_record.spell x.0.what) ++ x.1) (sym t.0)))
+          ∙ sym (append_assoc (moment_spelling (Some a.0.0)) (a_record.spell x.0.what) x.1) in (
+            (subst (λ (m : Option ℕ). IfSome m (number w64).Fits) (sym t.0) n.0, t.1),
+            whole
+                ∙ ap (λ (m : Option ℕ). (moment_spelling m ++ a_record.spell x.0.what) ++ x.1) (sym t.0),
+          ))
       | inr other ↦
           plain_takes (first ∷ bytes) x are (sym (let e : entry_read (first ∷ bytes) ≡ entry_at None (first ∷ bytes) = rw other.0 refl in e) ∙ is)
     ]
@@ -99,13 +109,19 @@ an_entry-within (first ∷ bytes) left are is =
           let rest : ((number w64).read bytes >>= λ moment. entry_at (Some moment.0) moment.1) ≡ Err left =
           sym (let e : entry_read (first ∷ bytes) ≡ ((number w64).read bytes >>= λ moment. entry_at (Some moment.0) moment.1) = rw here.0 refl in e) ∙ is in
           ⊎_elim (λ (e : (number w64).read bytes ≡ Err left). omega (arith, moment-exact.within bytes left behind e))
-          (λ e. omega (arith, entry_at-within (Some e.0.0) e.0.1 left (rest_bytes (number w64) moment-exact bytes e.0 behind e.1) e.2, rest_within (number w64) moment-exact bytes e.0 behind e.1))
+          (λ e. omega (
+            arith,
+            entry_at-within (Some e.0.0) e.0.1 left (rest_bytes (number w64) moment-exact bytes e.0 behind e.1) e.2,
+            rest_within
+                (number w64) moment-exact bytes e.0 behind e.1,
+          ))
           (bind_err ((number w64).read bytes) (λ moment. entry_at (Some moment.0) moment.1) left rest))
       | inr other ↦
           entry_at-within None (first ∷ bytes) left are (sym (let e : entry_read (first ∷ bytes) ≡ entry_at None (first ∷ bytes) = rw other.0 refl in e) ∙ is)
     ]
 
-entry_at-again : (moment : Option ℕ) (what : Record) (rest : List ℕ) → a_record.Fits what → entry_at moment (a_record.spell what ++ rest) ≡ Ok (record { moment = moment; what = what }, rest)
+entry_at-again : (moment : Option ℕ) (what : Record) (rest : List ℕ) → a_record.Fits what → entry_at moment (a_record.spell what ++ rest)
+    ≡ Ok (record { moment = moment; what = what }, rest)
 entry_at-again moment what rest fits = rw (a_record-exact.again what rest fits) refl
 
 entry_again : (moment : Option ℕ) (what : Record) (rest : List ℕ) → IfSome moment (number w64).Fits → a_record.Fits what
@@ -119,7 +135,8 @@ entry_again None what rest timed fits =
     ap entry_read same ∙ untimed ∙ ap (entry_at None) (sym same) ∙ entry_at-again None what rest fits
 entry_again (Some moment) what rest timed fits =
     let spelled = a_record.spell what ++ rest in
-    let inner : ((number w64).read ((number w64).spell moment ++ spelled) >>= λ m. entry_at (Some m.0) m.1) ≡ Ok (record { moment = Some moment; what = what }, rest) =
+    let inner : ((number w64).read ((number w64).spell moment ++ spelled) >>= λ m. entry_at (Some m.0) m.1)
+    ≡ Ok (record { moment = Some moment; what = what }, rest) =
     ap (λ (r : Reading ℕ). r >>= λ m. entry_at (Some m.0) m.1) (moment-exact.again moment spelled timed) ∙ entry_at-again (Some moment) what rest fits in
     ap entry_read (append_assoc (moment_spelling (Some moment)) (a_record.spell what) rest) ∙ inner
 
@@ -157,7 +174,8 @@ whole_ok size (Ok y) x is =
 whole_ok size (Err left) x is = absurd cc
 
 -- what is read as a whole is spelled so, and what is spelled so is read as a whole
-pub whole-found : {A : Type 0} (kind : Kind A) (bytes : List ℕ) (r : Result A CodecFault) → IsExact kind → AreBytes bytes → (r ≢ Err OutOfMemory → r ≡ whole (length bytes) (kind.read bytes))
+pub whole-found : {A : Type 0} (kind : Kind A) (bytes : List ℕ) (r : Result A CodecFault) → IsExact kind → AreBytes bytes →
+    (r ≢ Err OutOfMemory → r ≡ whole (length bytes) (kind.read bytes))
     → IfOk r (λ x. kind.Fits x × (bytes ≡ kind.spell x))
 whole-found kind bytes (Ok x) exact are read =
     let is = whole_ok (length bytes) (kind.read bytes) x (sym (read (λ e. cc))) in
@@ -165,7 +183,8 @@ whole-found kind bytes (Ok x) exact are read =
     (t.0, t.1 ∙ append-nil (kind.spell x))
 whole-found kind bytes (Err fault) exact are read = tt
 
-pub whole-only : {A : Type 0} (kind : Kind A) (bytes : List ℕ) (r : Result A CodecFault) → IsExact kind → (r ≢ Err OutOfMemory → r ≡ whole (length bytes) (kind.read bytes))
+pub whole-only : {A : Type 0} (kind : Kind A) (bytes : List ℕ) (r : Result A CodecFault) → IsExact kind →
+    (r ≢ Err OutOfMemory → r ≡ whole (length bytes) (kind.read bytes))
     → (x : A) → kind.Fits x → bytes ≡ kind.spell x → r ≢ Err OutOfMemory → r ≡ Ok x
 whole-only kind bytes r exact read x fits same roomy =
     let is : kind.read bytes ≡ Ok (x, []) = ap kind.read (same ∙ sym (append-nil (kind.spell x))) ∙ exact.again x [] fits in

@@ -9,9 +9,13 @@ use Rattle.ale_base.specs.declared.way.Way.{Way}
 use Rattle.ale_base.specs.declared.way.Way.TheVariants.{Outgoing, Incoming}
 use Rattle.ale_base.proofs.TidLemmas.{length-spelling}
 use Rattle.unit_codec.specs.Kind.{plain, number, byte, sized, ◌then◌}
-use Rattle.unit_codec.specs.Fields.{is_name, name, text, way_of, way_byte, way, cause_of, cause_byte, cause, tid, is_queue, queue, is_destination, destination, doc_number, any, count, is_segment, segment_name, is_segment_data, segment_data, segment, is_control, control, segments, document, documents, sender, receiver, is_function, function, is_other, queues, unit_of, unit_fields, a_unit, field_value, field_values}
+use Rattle.unit_codec.specs.Fields.{is_name, name, text, way_of, way_byte, way, cause_of, cause_byte, cause, tid, is_queue, queue, is_destination, destination}
+use Rattle.unit_codec.specs.Fields.{doc_number, any, count, is_segment, segment_name, is_segment_data, segment_data, segment, is_control, control, segments}
+use Rattle.unit_codec.specs.Fields.{document, documents, sender, receiver, is_function, function, is_other, queues, unit_of, unit_fields, a_unit, field_value}
+use Rattle.unit_codec.specs.Fields.{field_values}
 use Rattle.ale_base.proofs.TidLemmas.{tid_of-spelled, tid_of-read}
-use Rattle.unit_codec.proofs.KindLemmas.{IsExact, wide8, wide16, wide32, wide64, plain-fits, plain-exact, number-exact, number-fits, byte-exact, sized-exact, such_that-exact, decoded-exact, shaped-exact, then-exact, listed-exact}
+use Rattle.unit_codec.proofs.KindLemmas.{IsExact, wide8, wide16, wide32, wide64, plain-fits, plain-exact, number-exact, number-fits, byte-exact, sized-exact}
+use Rattle.unit_codec.proofs.KindLemmas.{such_that-exact, decoded-exact, shaped-exact, then-exact, listed-exact}
 
 pub name-exact : IsExact name
 unfolding name
@@ -24,9 +28,11 @@ text-exact = sized-exact w32 wide32
 way_back : (n : ℕ) (w : Way) → way_of n ≡ Some w → way_byte w ≡ n
 way_back n w is =
     elim (eqb_tells n 0) [
-      | inl out ↦ (let e : way_of n ≡ Some Outgoing = rw out.0 refl in let same : Outgoing ≡ w = (let f = sym e ∙ is in cc) in ap way_byte (sym same) ∙ sym out.1)
+      | inl out ↦ (let e : way_of n ≡ Some Outgoing = rw out.0 refl in let same : Outgoing ≡ w = (let f = sym e ∙ is in cc) in ap way_byte (sym same)
+          ∙ sym out.1)
       | inr other ↦ elim (eqb_tells n 1) [
-        | inl in_ ↦ (let e : way_of n ≡ Some Incoming = rw (other.0, in_.0) refl in let same : Incoming ≡ w = (let f = sym e ∙ is in cc) in ap way_byte (sym same) ∙ sym in_.1)
+        | inl in_ ↦ (let e : way_of n ≡ Some Incoming = rw (other.0, in_.0) refl in let same : Incoming ≡ w = (let f = sym e ∙ is in cc) in ap way_byte
+            (sym same) ∙ sym in_.1)
         | inr none ↦ (let e : way_of n ≡ None = rw (other.0, none.0) refl in absurd (let f = sym e ∙ is in cc))
       ]
     ]
@@ -42,9 +48,11 @@ way-exact = decoded-exact byte way_of way_byte (λ _. Unit {0}) byte-exact (λ n
 cause_back : (n : ℕ) (why : Cause) → cause_of n ≡ Some why → cause_byte why ≡ n
 cause_back n why is =
     elim (eqb_tells n 1) [
-      | inl one ↦ (let e : cause_of n ≡ Some Cpicerr = rw one.0 refl in let same : Cpicerr ≡ why = (let f = sym e ∙ is in cc) in ap cause_byte (sym same) ∙ sym one.1)
+      | inl one ↦ (let e : cause_of n ≡ Some Cpicerr = rw one.0 refl in let same : Cpicerr ≡ why = (let f = sym e ∙ is in cc) in ap cause_byte (sym same)
+          ∙ sym one.1)
       | inr other ↦ elim (eqb_tells n 2) [
-        | inl two ↦ (let e : cause_of n ≡ Some Sysfail = rw (other.0, two.0) refl in let same : Sysfail ≡ why = (let f = sym e ∙ is in cc) in ap cause_byte (sym same) ∙ sym two.1)
+        | inl two ↦ (let e : cause_of n ≡ Some Sysfail = rw (other.0, two.0) refl in let same : Sysfail ≡ why = (let f = sym e ∙ is in cc) in ap cause_byte
+            (sym same) ∙ sym two.1)
         | inr none ↦ (let e : cause_of n ≡ None = rw (other.0, none.0) refl in absurd (let f = sym e ∙ is in cc))
       ]
     ]
@@ -87,7 +95,8 @@ segment_data-exact = such_that-exact (sized w16) is_segment_data (sized-exact w1
 
 segment-exact : IsExact segment
 unfolding segment
-segment-exact = shaped-exact (segment_name then λ _. segment_data) _ _ (then-exact segment_name (λ _. segment_data) segment_name-exact (λ _. segment_data-exact)) (λ p. refl) (λ d. refl)
+segment-exact = shaped-exact (segment_name then λ _. segment_data) _ _
+    (then-exact segment_name (λ _. segment_data) segment_name-exact (λ _. segment_data-exact)) (λ p. refl) (λ d. refl)
 
 control-exact : IsExact control
 unfolding control
@@ -127,9 +136,12 @@ a_unit-exact =
     let docs = then-exact queues (λ _. documents) queues-exact (λ _. documents-exact) in
     let inbound = then-exact queues (λ _. queues then λ _. documents) queues-exact (λ _. docs) in
     let named = then-exact function (λ _. queues then λ _. queues then λ _. documents) function-exact (λ _. inbound) in
-    let addressed = λ (from : ℕ). then-exact (receiver from) (λ _. function then λ _. queues then λ _. queues then λ _. documents) (receiver-exact from) (λ _. named) in
-    let sent = λ (id : TidOf). then-exact (sender id) (λ from. receiver from then λ _. function then λ _. queues then λ _. queues then λ _. documents) (sender-exact id) addressed in
-    shaped-exact _ unit_of unit_fields (then-exact tid (λ id. sender id then λ from. receiver from then λ _. function then λ _. queues then λ _. queues then λ _. documents) tid-exact sent) (λ p. refl) (λ u. refl)
+    let addressed = λ (from : ℕ). then-exact (receiver from) (λ _. function then λ _. queues then λ _. queues then λ _. documents) (receiver-exact from)
+    (λ _. named) in
+    let sent = λ (id : TidOf). then-exact (sender id) (λ from. receiver from then λ _. function then λ _. queues then λ _. queues then λ _. documents)
+    (sender-exact id) addressed in
+    shaped-exact _ unit_of unit_fields (then-exact tid (λ id. sender id then λ from. receiver from then λ _. function then λ _. queues then λ _.
+    queues then λ _. documents) tid-exact sent) (λ p. refl) (λ u. refl)
 
 field_value-exact : IsExact field_value
 unfolding field_value

@@ -2,13 +2,15 @@
 use Rattle.std.specs.Prelude.{IfSome}
 use Rattle.std.specs.List.{flat_map, AllByRecursion}
 use Rattle.std.specs.Int.{Width, w8, w16, w32, w64, byte_len, from_be_bytes, to_be_bytes}
-use Rattle.std.proofs.Common.{◌≡◌, ℕ, zero, suc, ◌+◌, ◌^◌, ◌<◌, ◌≤◌, ◌⊎◌, inl, inr, ⊎_elim, ◌%◌, Bool, true, false, cond, ltb, IsTrue, Option, Some, None, List, [], ◌∷◌, ◌++◌, length, take, drop, get_or, Ok, Err, refl, sym, ap, subst, ◌∙◌, append_assoc, arith, if◌then◌else◌}
+use Rattle.std.proofs.Common.{◌≡◌, ℕ, zero, suc, ◌+◌, ◌^◌, ◌<◌, ◌≤◌, ◌⊎◌, inl, inr, ⊎_elim, ◌%◌, Bool, true, false, cond, ltb, IsTrue, Option, Some, None, List}
+use Rattle.std.proofs.Common.{[], ◌∷◌, ◌++◌, length, take, drop, get_or, Ok, Err, refl, sym, ap, subst, ◌∙◌, append_assoc, arith, if◌then◌else◌}
 use Rattle.std.proofs.lemmas.Bool.{cases_lt, ltb-false, le-ltb}
 use Rattle.std.proofs.lemmas.Bool.Decides.{eqb_tells}
 use Rattle.std.proofs.lemmas.List.{take_at, drop_at, take-append-drop, length-append, length-take, get_or-append-add, get_or-take, get_or_past, append-nil}
 use Rattle.std.proofs.lemmas.Nat.{be_bytes_2, be_bytes_4, be_bytes_8, from_be_bytes-to_be_bytes_2, from_be_bytes-to_be_bytes_4, from_be_bytes-to_be_bytes_8}
 use Rattle.unit_codec.specs.Reading.{Reading, ◌>>=◌, ruled, found}
-use Rattle.unit_codec.specs.Kind.{Kind, part, plain, number, byte, sized, such_that, decoded, shaped, ◌then◌, optional, optional_spelling, optional_at, listed_at, AllFollow, listed}
+use Rattle.unit_codec.specs.Kind.{Kind, part, plain, number, byte, sized, such_that, decoded, shaped, ◌then◌, optional, optional_spelling, optional_at}
+use Rattle.unit_codec.specs.Kind.{listed_at, AllFollow, listed}
 
 -- each is a byte
 abbrev pub AreBytes : List ℕ → Type 0
@@ -28,11 +30,13 @@ AreBytes-front : (front bytes : List ℕ) → AreBytes (front ++ bytes) → AreB
 AreBytes-front front bytes are = subst AreBytes (take_at front bytes (length front) refl) (AreBytes-take (length front) (front ++ bytes) are)
 
 -- the steps of a reading that came to a value, and of one that did not
-pub bind_ok : {A B : Type 0} (r : Reading A) (next : A × List ℕ → Reading B) (y : B × List ℕ) → (r >>= next) ≡ Ok y → (x : A × List ℕ) × (r ≡ Ok x) × (next x ≡ Ok y)
+pub bind_ok : {A B : Type 0} (r : Reading A) (next : A × List ℕ → Reading B) (y : B × List ℕ) → (r >>= next) ≡ Ok y →
+    (x : A × List ℕ) × (r ≡ Ok x) × (next x ≡ Ok y)
 bind_ok (Ok x) next y is = (x, refl, is)
 bind_ok (Err left) next y is = absurd cc
 
-pub bind_err : {A B : Type 0} (r : Reading A) (next : A × List ℕ → Reading B) (left : ℕ) → (r >>= next) ≡ Err left → (r ≡ Err left) ⊎ ((x : A × List ℕ) × (r ≡ Ok x) × (next x ≡ Err left))
+pub bind_err : {A B : Type 0} (r : Reading A) (next : A × List ℕ → Reading B) (left : ℕ) → (r >>= next) ≡ Err left →
+    (r ≡ Err left) ⊎ ((x : A × List ℕ) × (r ≡ Ok x) × (next x ≡ Err left))
 bind_err (Ok x) next left is = inr (x, refl, is)
 bind_err (Err k) next left is = inl (let same : k ≡ left = cc in cc)
 
@@ -56,7 +60,8 @@ pub record IsExact {A : Type 0} (kind : Kind A) : Type 0 where
 pub rest_bytes : {A : Type 0} (kind : Kind A) (exact : IsExact kind) (bytes : List ℕ) (x : A × List ℕ) → AreBytes bytes → kind.read bytes ≡ Ok x → AreBytes x.1
 rest_bytes kind exact bytes x are is = AreBytes-behind (kind.spell x.0) x.1 (subst AreBytes (exact.takes bytes x are is).1 are)
 
-pub rest_within : {A : Type 0} (kind : Kind A) (exact : IsExact kind) (bytes : List ℕ) (x : A × List ℕ) → AreBytes bytes → kind.read bytes ≡ Ok x → length x.1 ≤ length bytes
+pub rest_within : {A : Type 0} (kind : Kind A) (exact : IsExact kind) (bytes : List ℕ) (x : A × List ℕ) → AreBytes bytes → kind.read bytes ≡ Ok x →
+    length x.1 ≤ length bytes
 rest_within kind exact bytes x are is =
     omega (arith, ap length (exact.takes bytes x are is).1, length-append (kind.spell x.0) x.1)
 
@@ -66,7 +71,8 @@ part_ok : (left count : ℕ) (bytes : List ℕ) (x : List ℕ × List ℕ) → p
 part_ok left count bytes x is =
     let g = cond_ok (ltb (length bytes) count) left (take count bytes, drop count bytes) x is in
     let long : count ≤ length bytes = ltb-false _ _ g.0 in
-    subst (λ (p : List ℕ × List ℕ). (length p.0 ≡ count) × (bytes ≡ p.0 ++ p.1)) g.1 (omega (arith, length-take count bytes), sym (take-append-drop count bytes))
+    subst (λ (p : List ℕ × List ℕ). (length p.0 ≡ count) × (bytes ≡ p.0 ++ p.1)) g.1
+    (omega (arith, length-take count bytes), sym (take-append-drop count bytes))
   where
     cond_ok : (b : Bool) (left : ℕ) (x y : List ℕ × List ℕ) → cond b (Err left) (Ok x) ≡ Ok y → (b ≡ false) × (x ≡ y)
     cond_ok true left x y is = absurd cc
@@ -154,9 +160,14 @@ number-exact w wide = record {
       let small = AreBytes-front a.0.0 a.0.1 (subst AreBytes t.1 are) in
       subst (λ (y : ℕ × List ℕ). (y.0 < 256 ^ byte_len w) × (bytes ≡ to_be_bytes w y.0 ++ y.1)) (ok_is (from_be_bytes w a.0.0, a.0.1) x a.2)
       (wide.below a.0.0 small, t.1 ∙ ap (λ (l : List ℕ). l ++ a.0.1) (sym (wide.back a.0.0 t.0 small)));
-  again = λ n rest fits. rw ((plain-exact (byte_len w)).again (to_be_bytes w n) rest (plain-fits (byte_len w) (to_be_bytes w n) (wide.size n)), wide.again n fits) refl;
+  again = λ n rest fits. rw (
+    (plain-exact (byte_len w)).again (to_be_bytes w n) rest (plain-fits (byte_len w) (to_be_bytes w n) (wide.size n)),
+    wide.again n
+        fits,
+  ) refl;
   within = λ bytes left are is.
-      ⊎_elim (λ (e : (plain (byte_len w)).read bytes ≡ Err left). (plain-exact (byte_len w)).within bytes left are e) (λ e. absurd (not_err (from_be_bytes w e.0.0, e.0.1) left e.2))
+      ⊎_elim (λ (e : (plain (byte_len w)).read bytes ≡ Err left). (plain-exact (byte_len w)).within bytes left are e)
+      (λ e. absurd (not_err (from_be_bytes w e.0.0, e.0.1) left e.2))
       (bind_err ((plain (byte_len w)).read bytes) (λ y. Ok (from_be_bytes w y.0, y.1)) left is);
 }
 
@@ -174,13 +185,15 @@ sized-exact w wide = record {
       let n = (number-exact w wide).takes bytes a.0 are a.1 in
       let t = part_ok (length bytes) a.0.0 a.0.1 x a.2 in (
         subst (λ (k : ℕ). k < 256 ^ byte_len w) (sym t.0) n.0,
-        n.1 ∙ ap (λ (l : List ℕ). to_be_bytes w a.0.0 ++ l) t.1 ∙ sym (append_assoc (to_be_bytes w a.0.0) x.0 x.1) ∙ ap (λ (k : ℕ). (to_be_bytes w k ++ x.0) ++ x.1) (sym t.0),
+        n.1 ∙ ap (λ (l : List ℕ). to_be_bytes w a.0.0 ++ l) t.1 ∙ sym (append_assoc (to_be_bytes w a.0.0) x.0 x.1)
+            ∙ ap (λ (k : ℕ). (to_be_bytes w k ++ x.0) ++ x.1) (sym t.0),
       );
   again = λ text rest fits.
       ap (λ (l : List ℕ). (number w).read l >>= λ n. part (length l) n.0 n.1) (append_assoc (to_be_bytes w (length text)) text rest)
       ∙ rw ((number-exact w wide).again (length text) (text ++ rest) fits) (part_again _ text rest (length text) refl);
   within = λ bytes left are is.
-      ⊎_elim (λ (e : (number w).read bytes ≡ Err left). (number-exact w wide).within bytes left are e) (λ e. omega (arith, part_err (length bytes) e.0.0 e.0.1 left e.2))
+      ⊎_elim (λ (e : (number w).read bytes ≡ Err left). (number-exact w wide).within bytes left are e)
+      (λ e. omega (arith, part_err (length bytes) e.0.0 e.0.1 left e.2))
       (bind_err ((number w).read bytes) (λ n. part (length bytes) n.0 n.1) left is);
 }
 
@@ -216,7 +229,8 @@ such_that-exact kind rule exact = record {
 }
 
 pub decoded-exact : {A B : Type 0} (kind : Kind A) (decode : A → Option B) (encode : B → A) (Fits : B → Type 0) → IsExact kind
-    → ((x : A) (y : B) → kind.Fits x → decode x ≡ Some y → Fits y × (encode y ≡ x)) → ((y : B) → Fits y → kind.Fits (encode y) × (decode (encode y) ≡ Some y)) → IsExact (decoded kind decode encode Fits)
+    → ((x : A) (y : B) → kind.Fits x → decode x ≡ Some y → Fits y × (encode y ≡ x)) → ((y : B) → Fits y → kind.Fits (encode y) × (decode (encode y) ≡ Some y)) →
+    IsExact (decoded kind decode encode Fits)
 decoded-exact {A} {B} kind decode encode Fits exact back again = record {
   takes = λ bytes y are is.
       let a = bind_ok (kind.read bytes) (λ x. found (length bytes) (decode x.0) x.1) y is in
@@ -230,7 +244,8 @@ decoded-exact {A} {B} kind decode encode Fits exact back again = record {
       (bind_err (kind.read bytes) (λ x. found (length bytes) (decode x.0) x.1) left is);
 }
 
-pub shaped-exact : {A B : Type 0} (kind : Kind A) (make : A → B) (parts : B → A) → IsExact kind → ((x : A) → parts (make x) ≡ x) → ((y : B) → make (parts y) ≡ y) → IsExact (shaped kind make parts)
+pub shaped-exact : {A B : Type 0} (kind : Kind A) (make : A → B) (parts : B → A) → IsExact kind → ((x : A) → parts (make x) ≡ x) →
+    ((y : B) → make (parts y) ≡ y) → IsExact (shaped kind make parts)
 shaped-exact {A} {B} kind make parts exact there back = record {
   takes = λ bytes y are is.
       let a = bind_ok (kind.read bytes) (λ x. Ok (make x.0, x.1)) y is in
@@ -250,15 +265,18 @@ then-exact {A} {B} first second exact exacts = record {
       let b = bind_ok ((second a.0.0).read a.0.1) (λ z. Ok ((a.0.0, z.0), z.1)) y a.2 in
       let t = exact.takes bytes a.0 are a.1 in
       let u = (exacts a.0.0).takes a.0.1 b.0 (rest_bytes first exact bytes a.0 are a.1) b.1 in
-      subst (λ (p : (A × B) × List ℕ). (first.Fits p.0.0 × (second p.0.0).Fits p.0.1) × (bytes ≡ (first.spell p.0.0 ++ (second p.0.0).spell p.0.1) ++ p.1)) (ok_is ((a.0.0, b.0.0), b.0.1) y b.2)
+      subst (λ (p : (A × B) × List ℕ). (first.Fits p.0.0 × (second p.0.0).Fits p.0.1) × (bytes ≡ (first.spell p.0.0 ++ (second p.0.0).spell p.0.1) ++ p.1))
+      (ok_is ((a.0.0, b.0.0), b.0.1) y b.2)
       ((t.0, u.0), t.1 ∙ ap (λ (l : List ℕ). first.spell a.0.0 ++ l) u.1 ∙ sym (append_assoc (first.spell a.0.0) ((second a.0.0).spell b.0.0) b.0.1));
   again = λ p rest fits.
-      ap (λ (l : List ℕ). first.read l >>= λ x. (second x.0).read x.1 >>= λ z. Ok ((x.0, z.0), z.1)) (append_assoc (first.spell p.0) ((second p.0).spell p.1) rest)
+      ap (λ (l : List ℕ). first.read l >>= λ x. (second x.0).read x.1 >>= λ z. Ok ((x.0, z.0), z.1))
+      (append_assoc (first.spell p.0) ((second p.0).spell p.1) rest)
       ∙ rw (exact.again p.0 ((second p.0).spell p.1 ++ rest) fits.0, (exacts p.0).again p.1 rest fits.1) refl;
   within = λ bytes left are is.
       ⊎_elim (λ (e : first.read bytes ≡ Err left). exact.within bytes left are e)
       (λ e.
-      ⊎_elim (λ (f : (second e.0.0).read e.0.1 ≡ Err left). omega (arith, (exacts e.0.0).within e.0.1 left (rest_bytes first exact bytes e.0 are e.1) f, rest_within first exact bytes e.0 are e.1))
+      ⊎_elim (λ (f : (second e.0.0).read e.0.1 ≡ Err left).
+      omega (arith, (exacts e.0.0).within e.0.1 left (rest_bytes first exact bytes e.0 are e.1) f, rest_within first exact bytes e.0 are e.1))
       (λ f. absurd (not_err ((e.0.0, f.0.0), f.0.1) left f.2))
       (bind_err ((second e.0.0).read e.0.1) (λ z. Ok ((e.0.0, z.0), z.1)) left e.2))
       (bind_err (first.read bytes) (λ x. (second x.0).read x.1 >>= λ z. Ok ((x.0, z.0), z.1)) left is);
@@ -269,24 +287,31 @@ byte-exact = number-exact w8 wide8
 
 -- ---- a value or none
 
-optional_ok : {A : Type 0} (kind : Kind A) (exact : IsExact kind) (left : ℕ) (flag : ℕ × List ℕ) (x : Option A × List ℕ) → AreBytes flag.1 → optional_at kind left flag ≡ Ok x
+optional_ok : {A : Type 0} (kind : Kind A) (exact : IsExact kind) (left : ℕ) (flag : ℕ × List ℕ) (x : Option A × List ℕ) → AreBytes flag.1 →
+    optional_at kind left flag ≡ Ok x
     → IfSome x.0 kind.Fits × (byte.spell flag.0 ++ flag.1 ≡ optional_spelling kind x.0 ++ x.1)
 optional_ok {A} kind exact left flag x are is =
     elim (eqb_tells flag.0 0) [
       | inl none ↦
           (let test = none.0 in
           let same : (None, flag.1) ≡ x = ok_is (None, flag.1) x (sym (let e : optional_at kind left flag ≡ Ok (None, flag.1) = rw test refl in e) ∙ is) in
-          subst (λ (y : Option A × List ℕ). IfSome y.0 kind.Fits × (byte.spell flag.0 ++ flag.1 ≡ optional_spelling kind y.0 ++ y.1)) same (tt, ap (λ (k : ℕ). byte.spell k ++ flag.1) none.1))
+          subst (λ (y : Option A × List ℕ). IfSome y.0 kind.Fits × (byte.spell flag.0 ++ flag.1 ≡ optional_spelling kind y.0 ++ y.1)) same
+          (tt, ap (λ (k : ℕ). byte.spell k ++ flag.1) none.1))
       | inr some ↦
           (let test = some.0 in
           elim (eqb_tells flag.0 1) [
             | inl one ↦
                 (let second = one.0 in
-                let rest : (kind.read flag.1 >>= λ y. Ok (Some y.0, y.1)) ≡ Ok x = sym (let e : optional_at kind left flag ≡ (kind.read flag.1 >>= λ y. Ok (Some y.0, y.1)) = rw (test, second) refl in e) ∙ is in
+                let rest : (kind.read flag.1 >>= λ y. Ok (Some y.0, y.1))
+                ≡ Ok x = sym (let e : optional_at kind left flag ≡ (kind.read flag.1 >>= λ y. Ok (Some y.0, y.1)) = rw (test, second) refl in e) ∙ is in
                 let a = bind_ok (kind.read flag.1) (λ y. Ok (Some y.0, y.1)) x rest in
                 let t = exact.takes flag.1 a.0 are a.1 in
-                subst (λ (y : Option A × List ℕ). IfSome y.0 kind.Fits × (byte.spell flag.0 ++ flag.1 ≡ optional_spelling kind y.0 ++ y.1)) (ok_is (Some a.0.0, a.0.1) x a.2)
-                (t.0, ap (λ (k : ℕ). byte.spell k ++ flag.1) one.1 ∙ ap (λ (l : List ℕ). byte.spell 1 ++ l) t.1 ∙ sym (append_assoc (byte.spell 1) (kind.spell a.0.0) a.0.1)))
+                subst (λ (y : Option A × List ℕ). IfSome y.0 kind.Fits × (byte.spell flag.0 ++ flag.1 ≡ optional_spelling kind y.0 ++ y.1))
+                (ok_is (Some a.0.0, a.0.1) x a.2) (
+                  t.0,
+                  ap (λ (k : ℕ). byte.spell k ++ flag.1) one.1 ∙ ap (λ (l : List ℕ). byte.spell 1 ++ l) t.1
+                      ∙ sym (append_assoc (byte.spell 1) (kind.spell a.0.0) a.0.1),
+                ))
             | inr other ↦
                 (let second = other.0 in
                 let e : optional_at kind left flag ≡ Err left = rw (test, second) refl in
@@ -294,7 +319,8 @@ optional_ok {A} kind exact left flag x are is =
           ])
     ]
 
-optional_err : {A : Type 0} (kind : Kind A) (exact : IsExact kind) (left : ℕ) (flag : ℕ × List ℕ) (k : ℕ) → AreBytes flag.1 → optional_at kind left flag ≡ Err k → (k ≡ left) ⊎ (k ≤ length flag.1)
+optional_err : {A : Type 0} (kind : Kind A) (exact : IsExact kind) (left : ℕ) (flag : ℕ × List ℕ) (k : ℕ) → AreBytes flag.1 →
+    optional_at kind left flag ≡ Err k → (k ≡ left) ⊎ (k ≤ length flag.1)
 optional_err {A} kind exact left flag k are is =
     elim (eqb_tells flag.0 0) [
       | inl none ↦
@@ -305,8 +331,10 @@ optional_err {A} kind exact left flag k are is =
           elim (eqb_tells flag.0 1) [
             | inl one ↦
                 (let second = one.0 in
-                let rest : (kind.read flag.1 >>= λ y. Ok (Some y.0, y.1)) ≡ Err k = sym (let e : optional_at kind left flag ≡ (kind.read flag.1 >>= λ y. Ok (Some y.0, y.1)) = rw (test, second) refl in e) ∙ is in
-                ⊎_elim (λ (e : kind.read flag.1 ≡ Err k). inr (exact.within flag.1 k are e)) (λ e. absurd (not_err (Some e.0.0, e.0.1) k e.2)) (bind_err (kind.read flag.1) (λ y. Ok (Some y.0, y.1)) k rest))
+                let rest : (kind.read flag.1 >>= λ y. Ok (Some y.0, y.1))
+                ≡ Err k = sym (let e : optional_at kind left flag ≡ (kind.read flag.1 >>= λ y. Ok (Some y.0, y.1)) = rw (test, second) refl in e) ∙ is in
+                ⊎_elim (λ (e : kind.read flag.1 ≡ Err k). inr (exact.within flag.1 k are e)) (λ e. absurd (not_err (Some e.0.0, e.0.1) k e.2))
+                (bind_err (kind.read flag.1) (λ y. Ok (Some y.0, y.1)) k rest))
             | inr other ↦
                 (let second = other.0 in
                 inl (let e : optional_at kind left flag ≡ Err left = rw (test, second) refl in err_is k left (sym is ∙ e)))
@@ -330,16 +358,19 @@ optional-exact kind exact = record {
       (bind_err (byte.read bytes) (optional_at kind (length bytes)) left is);
 }
   where
-    optional_again : {A : Type 0} (kind : Kind A) (exact : IsExact kind) (x : Option A) (rest : List ℕ) → IfSome x kind.Fits → (optional kind).read (optional_spelling kind x ++ rest) ≡ Ok (x, rest)
+    optional_again : {A : Type 0} (kind : Kind A) (exact : IsExact kind) (x : Option A) (rest : List ℕ) → IfSome x kind.Fits →
+        (optional kind).read (optional_spelling kind x ++ rest) ≡ Ok (x, rest)
     optional_again kind exact None rest fits = rw (byte-exact.again 0 rest (number-fits w8 0 (omega arith))) refl
     optional_again kind exact (Some x) rest fits =
-        ap (optional kind).read (append_assoc (byte.spell 1) (kind.spell x) rest) ∙ rw (byte-exact.again 1 (kind.spell x ++ rest) (number-fits w8 1 (omega arith)), exact.again x rest fits) refl
+        ap (optional kind).read (append_assoc (byte.spell 1) (kind.spell x) rest)
+        ∙ rw (byte-exact.again 1 (kind.spell x ++ rest) (number-fits w8 1 (omega arith)), exact.again x rest fits) refl
 
 -- ---- lists
 
 module _ {A : Type 0} (kind : Kind A) (rule : List A → A → Bool) (exact : IsExact kind) where
   listed_takes : (count : ℕ) (front : List A) (bytes : List ℕ) (x : List A × List ℕ) → AreBytes bytes → listed_at kind rule count front bytes ≡ Ok x
-      → (xs : List A) × (x.0 ≡ front ++ xs) × (length xs ≡ count) × (AllByRecursion kind.Fits xs × AllFollow rule front xs) × (bytes ≡ flat_map kind.spell xs ++ x.1)
+      → (xs : List A) × (x.0 ≡ front ++ xs) × (length xs ≡ count) × (AllByRecursion kind.Fits xs × AllFollow rule front xs) × (bytes ≡ flat_map kind.spell xs
+      ++ x.1)
   unfolding listed_at
   listed_takes zero front bytes x are is =
       let same : (front, bytes) ≡ x = ok_is (front, bytes) x is in
@@ -348,7 +379,8 @@ module _ {A : Type 0} (kind : Kind A) (rule : List A → A → Bool) (exact : Is
       let a = bind_ok (kind.read bytes) (λ y. ruled (length bytes) (rule front y.0) y >>= λ y. listed_at kind rule count (front ++ y.0 ∷ []) y.1) x is in
       let r = bind_ok (ruled (length bytes) (rule front a.0.0) a.0) (λ y. listed_at kind rule count (front ++ y.0 ∷ []) y.1) x a.2 in
       let g = ruled_ok (length bytes) (rule front a.0.0) a.0 r.0 r.1 in
-      let rest : listed_at kind rule count (front ++ a.0.0 ∷ []) a.0.1 ≡ Ok x = subst (λ (y : A × List ℕ). listed_at kind rule count (front ++ y.0 ∷ []) y.1 ≡ Ok x) (sym g.1) r.2 in
+      let rest : listed_at kind rule count (front ++ a.0.0 ∷ []) a.0.1
+      ≡ Ok x = subst (λ (y : A × List ℕ). listed_at kind rule count (front ++ y.0 ∷ []) y.1 ≡ Ok x) (sym g.1) r.2 in
       let t = exact.takes bytes a.0 are a.1 in
       let more = listed_takes count (front ++ a.0.0 ∷ []) a.0.1 x (rest_bytes kind exact bytes a.0 are a.1) rest in (
         a.0.0 ∷ more.0,
@@ -358,7 +390,8 @@ module _ {A : Type 0} (kind : Kind A) (rule : List A → A → Bool) (exact : Is
         t.1 ∙ ap (λ (l : List ℕ). kind.spell a.0.0 ++ l) more.4 ∙ sym (append_assoc (kind.spell a.0.0) (flat_map kind.spell more.0) x.1),
       )
 
-  listed_again : (xs front : List A) (rest : List ℕ) → AllByRecursion kind.Fits xs → AllFollow rule front xs → listed_at kind rule (length xs) front (flat_map kind.spell xs ++ rest) ≡ Ok (front ++ xs, rest)
+  listed_again : (xs front : List A) (rest : List ℕ) → AllByRecursion kind.Fits xs → AllFollow rule front xs →
+      listed_at kind rule (length xs) front (flat_map kind.spell xs ++ rest) ≡ Ok (front ++ xs, rest)
   unfolding listed_at
   listed_again [] front rest fit follow = ap (λ (l : List A). Ok (l, rest)) (sym (append-nil front))
   listed_again (x ∷ xs) front rest fit follow =
@@ -366,7 +399,8 @@ module _ {A : Type 0} (kind : Kind A) (rule : List A → A → Bool) (exact : Is
       ∙ rw (exact.again x (flat_map kind.spell xs ++ rest) fit.0, follow.0) (listed_again xs (front ++ x ∷ []) rest fit.1 follow.1)
       ∙ ap (λ (l : List A). Ok (l, rest)) (append_assoc front (x ∷ []) xs)
 
-  listed_within : (count : ℕ) (front : List A) (bytes : List ℕ) (left : ℕ) → AreBytes bytes → listed_at kind rule count front bytes ≡ Err left → left ≤ length bytes
+  listed_within : (count : ℕ) (front : List A) (bytes : List ℕ) (left : ℕ) → AreBytes bytes → listed_at kind rule count front bytes ≡ Err left →
+      left ≤ length bytes
   unfolding listed_at
   listed_within zero front bytes left are is = absurd (not_err (front, bytes) left is)
   listed_within (suc count) front bytes left are is =
@@ -375,8 +409,14 @@ module _ {A : Type 0} (kind : Kind A) (rule : List A → A → Bool) (exact : Is
       ⊎_elim (λ (f : ruled (length bytes) (rule front e.0.0) e.0 ≡ Err left). omega (arith, ruled_err (length bytes) (rule front e.0.0) e.0 left f))
       (λ f.
       let g = ruled_ok (length bytes) (rule front e.0.0) e.0 f.0 f.1 in
-      let rest : listed_at kind rule count (front ++ e.0.0 ∷ []) e.0.1 ≡ Err left = subst (λ (y : A × List ℕ). listed_at kind rule count (front ++ y.0 ∷ []) y.1 ≡ Err left) (sym g.1) f.2 in
-      omega (arith, listed_within count (front ++ e.0.0 ∷ []) e.0.1 left (rest_bytes kind exact bytes e.0 are e.1) rest, rest_within kind exact bytes e.0 are e.1))
+      let rest : listed_at kind rule count (front ++ e.0.0 ∷ []) e.0.1
+      ≡ Err left = subst (λ (y : A × List ℕ). listed_at kind rule count (front ++ y.0 ∷ []) y.1 ≡ Err left) (sym g.1) f.2 in
+      omega (
+        arith,
+        listed_within count (front ++ e.0.0 ∷ []) e.0.1 left (rest_bytes kind exact bytes e.0 are e.1) rest,
+        rest_within kind exact bytes e.0 are
+            e.1,
+      ))
       (bind_err (ruled (length bytes) (rule front e.0.0) e.0) (λ y. listed_at kind rule count (front ++ y.0 ∷ []) y.1) left e.2))
       (bind_err (kind.read bytes) (λ y. ruled (length bytes) (rule front y.0) y >>= λ y. listed_at kind rule count (front ++ y.0 ∷ []) y.1) left is)
 
@@ -390,13 +430,19 @@ module _ {A : Type 0} (kind : Kind A) (rule : List A → A → Bool) (exact : Is
         let many : length x.0 ≡ a.0.0 = ap length t.1 ∙ t.2 in (
           (subst count.Fits (sym many) n.0, subst (AllByRecursion kind.Fits) (sym t.1) t.3.0, subst (AllFollow rule []) (sym t.1) t.3.1),
           n.1 ∙ ap (λ (l : List ℕ). count.spell a.0.0 ++ l) t.4 ∙ sym (append_assoc (count.spell a.0.0) (flat_map kind.spell t.0) x.1)
-              ∙ ap (λ (k : ℕ). (count.spell k ++ flat_map kind.spell t.0) ++ x.1) (sym many) ∙ ap (λ (l : List A). (count.spell (length x.0) ++ flat_map kind.spell l) ++ x.1) (sym t.1),
+              ∙ ap (λ (k : ℕ). (count.spell k ++ flat_map kind.spell t.0) ++ x.1) (sym many)
+              ∙ ap (λ (l : List A). (count.spell (length x.0) ++ flat_map kind.spell l) ++ x.1) (sym t.1),
         );
     again = λ xs rest fits.
         ap (listed count kind rule).read (append_assoc (count.spell (length xs)) (flat_map kind.spell xs) rest)
         ∙ rw (exact_count.again (length xs) (flat_map kind.spell xs ++ rest) fits.0) (listed_again xs [] rest fits.1 fits.2);
     within = λ bytes left are is.
         ⊎_elim (λ (e : count.read bytes ≡ Err left). exact_count.within bytes left are e)
-        (λ e. omega (arith, listed_within e.0.0 [] e.0.1 left (rest_bytes count exact_count bytes e.0 are e.1) e.2, rest_within count exact_count bytes e.0 are e.1))
+        (λ e. omega (
+          arith,
+          listed_within e.0.0 [] e.0.1 left (rest_bytes count exact_count bytes e.0 are e.1) e.2,
+          rest_within count exact_count bytes e.0 are
+              e.1,
+        ))
         (bind_err (count.read bytes) (λ n. listed_at kind rule n.0 [] n.1) left is);
   }

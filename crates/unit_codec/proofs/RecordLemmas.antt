@@ -1,15 +1,19 @@
 -- The spelling of each record is exact.
 use Rattle.std.specs.Int.{w8}
-use Rattle.std.proofs.Common.{◌≡◌, ℕ, ◌<◌, ◌≤◌, Bool, true, false, cond, eqb, List, ◌++◌, length, Ok, Err, refl, sym, ap, subst, ◌∙◌, append_assoc, ⊎_elim, ◌⊎◌, inl, inr, lit<, arith}
+use Rattle.std.proofs.Common.{◌≡◌, ℕ, ◌<◌, ◌≤◌, Bool, true, false, cond, eqb, List, ◌++◌, length, Ok, Err, refl, sym, ap, subst, ◌∙◌, append_assoc, ⊎_elim, ◌⊎◌}
+use Rattle.std.proofs.Common.{inl, inr, lit<, arith}
 use Rattle.std.proofs.lemmas.Bool.{eqb-true}
 use Rattle.unit_core.specs.declared.records.Record.{Record}
-use Rattle.unit_core.specs.declared.records.Record.TheVariants.{Genesis, Commit, Dispatch, Mark, Done, Ended, Accept, Execute, Direct, Fail, Forget, Stop, Start, Retry, Put, App, Repost, Model}
+use Rattle.unit_core.specs.declared.records.Record.TheVariants.{Genesis, Commit, Dispatch, Mark, Done, Ended, Accept, Execute, Direct, Fail, Forget, Stop}
+use Rattle.unit_core.specs.declared.records.Record.TheVariants.{Start, Retry, Put, App, Repost, Model}
 use Rattle.unit_codec.specs.Reading.{Reading, ◌>>=◌}
 use Rattle.unit_codec.specs.Kind.{Kind, byte, ◌then◌, optional}
 use Rattle.unit_codec.specs.Fields.{name, text, way, cause, tid, queue, destination, doc_number, documents, a_unit, field_values}
 use Rattle.unit_codec.specs.Records.{genesis, commit, nothing, mark, stop, retry, put, fields_at, record_at, a_record}
-use Rattle.unit_codec.proofs.KindLemmas.{IsExact, AreBytes, bind_ok, bind_err, ok_is, err_is, not_err, rest_bytes, rest_within, number-fits, byte-exact, then-exact, optional-exact}
-use Rattle.unit_codec.proofs.FieldLemmas.{name-exact, text-exact, way-exact, cause-exact, tid-exact, queue-exact, destination-exact, doc_number-exact, documents-exact, a_unit-exact, field_values-exact}
+use Rattle.unit_codec.proofs.KindLemmas.{IsExact, AreBytes, bind_ok, bind_err, ok_is, err_is, not_err, rest_bytes, rest_within, number-fits, byte-exact}
+use Rattle.unit_codec.proofs.KindLemmas.{then-exact, optional-exact}
+use Rattle.unit_codec.proofs.FieldLemmas.{name-exact, text-exact, way-exact, cause-exact, tid-exact, queue-exact, destination-exact, doc_number-exact}
+use Rattle.unit_codec.proofs.FieldLemmas.{documents-exact, a_unit-exact, field_values-exact}
 
 -- ---- the fields of records
 
@@ -35,7 +39,8 @@ mark-exact = then-exact tid (λ _. cause) tid-exact (λ _. cause-exact)
 
 stop-exact : IsExact stop
 unfolding stop
-stop-exact = then-exact way (λ w. destination w then λ _. queue) way-exact (λ w. then-exact (destination w) (λ _. queue) (destination-exact w) (λ _. queue-exact))
+stop-exact = then-exact way (λ w. destination w then λ _. queue) way-exact
+    (λ w. then-exact (destination w) (λ _. queue) (destination-exact w) (λ _. queue-exact))
 
 retry-exact : IsExact retry
 unfolding retry
@@ -70,7 +75,8 @@ module _ {A : Type 0} (tag : ℕ) (kind : Kind A) (make : A → Record) (exact :
             ∙ ap (λ (l : List ℕ). l ++ a.0.1) (sym (spells a.0.0)),
       )
 
-fields_within : {A : Type 0} (kind : Kind A) (make : A → Record) (exact : IsExact kind) (bytes : List ℕ) (k : ℕ) → AreBytes bytes → fields_at kind make bytes ≡ Err k → k ≤ length bytes
+fields_within : {A : Type 0} (kind : Kind A) (make : A → Record) (exact : IsExact kind) (bytes : List ℕ) (k : ℕ) → AreBytes bytes →
+    fields_at kind make bytes ≡ Err k → k ≤ length bytes
 fields_within kind make exact bytes k are is =
     ⊎_elim (λ (e : kind.read bytes ≡ Err k). exact.within bytes k are e) (λ e. absurd (not_err (make e.0.0, e.0.1) k e.2))
     (bind_err (kind.read bytes) (λ y. Ok (make y.0, y.1)) k is)
@@ -120,19 +126,24 @@ record_within left tag bytes k are is =
 
 -- a record is read again: its byte leads to the kind of its fields
 fields_again : {A : Type 0} (tag : ℕ) (kind : Kind A) (make : A → Record) (exact : IsExact kind) (a : A) (rest : List ℕ) → tag < 256 → kind.Fits a
-    → ((left : ℕ) (bytes : List ℕ) → record_at left (tag, bytes) ≡ fields_at kind make bytes) → a_record.read ((byte.spell tag ++ kind.spell a) ++ rest) ≡ Ok (make a, rest)
+    → ((left : ℕ) (bytes : List ℕ) → record_at left (tag, bytes) ≡ fields_at kind make bytes) → a_record.read ((byte.spell tag ++ kind.spell a) ++ rest)
+    ≡ Ok (make a, rest)
 unfolding a_record
 fields_again tag kind make exact a rest small fits leads =
     let bytes = kind.spell a ++ rest in
     let whole = byte.spell tag ++ bytes in
-    let behind : record_at (length whole) (tag, bytes) ≡ Ok (make a, rest) = leads (length whole) bytes ∙ ap (λ (r : Reading _). r >>= λ x. Ok (make x.0, x.1)) (exact.again a rest fits) in
-    let all : a_record.read whole ≡ Ok (make a, rest) = ap (λ (r : Reading ℕ). r >>= record_at (length whole)) (byte-exact.again tag bytes (number-fits w8 tag small)) ∙ behind in
+    let behind : record_at (length whole) (tag, bytes) ≡ Ok (make a, rest) = leads (length whole) bytes
+    ∙ ap (λ (r : Reading _). r >>= λ x. Ok (make x.0, x.1)) (exact.again a rest fits) in
+    let all : a_record.read whole ≡ Ok (make a, rest) = ap (λ (r : Reading ℕ). r >>= record_at (length whole))
+    (byte-exact.again tag bytes (number-fits w8 tag small)) ∙ behind in
     ap a_record.read (append_assoc (byte.spell tag) (kind.spell a) rest) ∙ all
 
 record_again : (what : Record) (rest : List ℕ) → a_record.Fits what → a_record.read (a_record.spell what ++ rest) ≡ Ok (what, rest)
 unfolding a_record
-record_again (Genesis system model) rest fits = fields_again 0x01 genesis (λ p. Genesis p.0 p.1) genesis-exact (system, model) rest (lit< tt) fits (λ left bytes. refl)
-record_again (Commit origin docs) rest fits = fields_again 0x02 commit (λ p. Commit p.0 p.1) commit-exact (origin, docs) rest (lit< tt) fits (λ left bytes. refl)
+record_again (Genesis system model) rest fits = fields_again 0x01 genesis (λ p. Genesis p.0 p.1) genesis-exact (system, model) rest (lit< tt) fits
+    (λ left bytes. refl)
+record_again (Commit origin docs) rest fits = fields_again 0x02 commit (λ p. Commit p.0 p.1) commit-exact (origin, docs) rest (lit< tt) fits
+    (λ left bytes. refl)
 record_again Dispatch rest fits = fields_again 0x03 nothing (λ _. Dispatch) nothing-exact tt rest (lit< tt) fits (λ left bytes. refl)
 record_again (Mark id why) rest fits = fields_again 0x04 mark (λ p. Mark p.0 p.1) mark-exact (id, why) rest (lit< tt) fits (λ left bytes. refl)
 record_again (Done id) rest fits = fields_again 0x05 tid Done tid-exact id rest (lit< tt) fits (λ left bytes. refl)
@@ -142,10 +153,13 @@ record_again (Execute id) rest fits = fields_again 0x08 tid Execute tid-exact id
 record_again (Direct unit) rest fits = fields_again 0x09 a_unit Direct a_unit-exact unit rest (lit< tt) fits (λ left bytes. refl)
 record_again (Fail id) rest fits = fields_again 0x0A tid Fail tid-exact id rest (lit< tt) fits (λ left bytes. refl)
 record_again (Forget id) rest fits = fields_again 0x0B tid Forget tid-exact id rest (lit< tt) fits (λ left bytes. refl)
-record_again (Stop direction to name) rest fits = fields_again 0x0C stop (λ p. Stop p.0 p.1.0 p.1.1) stop-exact (direction, (to, name)) rest (lit< tt) fits (λ left bytes. refl)
-record_again (Start direction to name) rest fits = fields_again 0x0D stop (λ p. Start p.0 p.1.0 p.1.1) stop-exact (direction, (to, name)) rest (lit< tt) fits (λ left bytes. refl)
+record_again (Stop direction to name) rest fits = fields_again 0x0C stop (λ p. Stop p.0 p.1.0 p.1.1) stop-exact (direction, (to, name)) rest (lit< tt) fits
+    (λ left bytes. refl)
+record_again (Start direction to name) rest fits = fields_again 0x0D stop (λ p. Start p.0 p.1.0 p.1.1) stop-exact (direction, (to, name)) rest (lit< tt) fits
+    (λ left bytes. refl)
 record_again (Retry direction id) rest fits = fields_again 0x0E retry (λ p. Retry p.0 p.1) retry-exact (direction, id) rest (lit< tt) fits (λ left bytes. refl)
-record_again (Put kind key fields) rest fits = fields_again 0x0F put (λ p. Put p.0 p.1.0 p.1.1) put-exact (kind, (key, fields)) rest (lit< tt) fits (λ left bytes. refl)
+record_again (Put kind key fields) rest fits = fields_again 0x0F put (λ p. Put p.0 p.1.0 p.1.1) put-exact (kind, (key, fields)) rest (lit< tt) fits
+    (λ left bytes. refl)
 record_again (App doc) rest fits = fields_again 0x10 doc_number App doc_number-exact doc rest (lit< tt) fits (λ left bytes. refl)
 record_again (Repost doc) rest fits = fields_again 0x11 doc_number Repost doc_number-exact doc rest (lit< tt) fits (λ left bytes. refl)
 record_again (Model model) rest fits = fields_again 0x12 text Model text-exact model rest (lit< tt) fits (λ left bytes. refl)

@@ -4,7 +4,8 @@ use Rattle.std.specs.Bool.{Decides}
 use Rattle.std.specs.Result.{result_ok}
 use Rattle.std.specs.List.{list_all}
 use Rattle.std.specs.Cmp.Lexicographic.{bytes_decides}
-use Rattle.std.proofs.Common.{◌≡◌, ℕ, ◌≤◌, Bool, true, false, ◌&&◌, nat_le, IsTrue, not, Option, Some, None, List, length, take, drop, Result, Ok, Err, refl, sym, ◌∙◌, subst, arith, ◌↔◌}
+use Rattle.std.proofs.Common.{◌≡◌, ℕ, ◌≤◌, Bool, true, false, ◌&&◌, nat_le, IsTrue, not, Option, Some, None, List, length, take, drop, Result, Ok, Err, refl}
+use Rattle.std.proofs.Common.{sym, ◌∙◌, subst, arith, ◌↔◌}
 use Rattle.std.proofs.lemmas.Bool.{leb-true, le-leb}
 use Rattle.std.proofs.lemmas.Bool.Decides.{Decides-by_and}
 use Rattle.std.proofs.lemmas.Option.{cond_some}
@@ -42,7 +43,8 @@ is_between-parts least most n is = let p = parts (nat_le least n) (nat_le n most
 
 queue_decides : (text : List ℕ) → Decides (is_queue text) (IsQueueName text)
 queue_decides text =
-    let bytes : Decides (list_all is_queue_byte text) (All IsNameByte text) = Decides-by_and is_queue_byte IsNameByte (list_all is_queue_byte) byte_decides refl (λ _ _. refl) text in (
+    let bytes : Decides (list_all is_queue_byte text) (All IsNameByte text) = Decides-by_and is_queue_byte IsNameByte (list_all is_queue_byte) byte_decides refl
+    (λ _ _. refl) text in (
       λ is.
           let p = parts (is_between 1 24 (length text)) (list_all is_queue_byte text) is in
           let long = is_between-parts 1 24 (length text) p.0 in
@@ -76,7 +78,8 @@ line_of bytes whole is =
 pub is_control_kept : (control : List ℕ) → IsControl control → is_control control ≡ true
 is_control_kept control is = both _ _ is.table (both _ _ is.number is.direction)
 
-pub control_found : (bytes : List ℕ) (r : Result (List ℕ) RecordFault) → length bytes ≡ 524 → ((control : List ℕ) → (r ≡ Ok control) ↔ IsControlLine bytes control)
+pub control_found : (bytes : List ℕ) (r : Result (List ℕ) RecordFault) → length bytes ≡ 524 →
+    ((control : List ℕ) → (r ≡ Ok control) ↔ IsControlLine bytes control)
     → MatchOption (result_ok r) (is_control bytes ≡ false) (λ control. (control ≡ bytes) × IsTrue (is_control bytes))
 control_found bytes (Ok control) whole exact =
     let line = (exact control).0 refl in

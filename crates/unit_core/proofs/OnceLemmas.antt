@@ -1,7 +1,8 @@
 -- The exactly-once law stays where one record joins the log of one system.
 use Rattle.std.specs.Prelude.{Contains, All}
 use Rattle.std.specs.List.{filter_map}
-use Rattle.std.proofs.Common.{◌≡◌, ◌≢◌, ℕ, ◌==◌, ◌&&◌, true, false, Option, Some, None, List, [], ◌∷◌, ◌++◌, length, take, inl, inr, ◌⊎◌, refl, sym, ap, subst, ◌∙◌, arith}
+use Rattle.std.proofs.Common.{◌≡◌, ◌≢◌, ℕ, ◌==◌, ◌&&◌, true, false, Option, Some, None, List, [], ◌∷◌, ◌++◌, length, take, inl, inr, ◌⊎◌, refl, sym, ap, subst}
+use Rattle.std.proofs.Common.{◌∙◌, arith}
 use Rattle.std.proofs.lemmas.Bool.{cases_Bool, cases_eq, cases_lt, and_parts, both_ways, false_from_ne_true, eqb-true}
 use Rattle.std.proofs.lemmas.List.{map-append, take-append-le, take_all, length-append}
 use Rattle.std.proofs.lemmas.List.Elements.{All-push, All-weaker, All-contains, Contains-push}
@@ -16,9 +17,11 @@ use Rattle.unit_core.specs.Queues.{is_listed, is_among, unit_named, tids_of, has
 use Rattle.ale_base.specs.Prefix.{IsPrefix}
 use Rattle.unit_core.specs.Once.{NoneTwice, TakenOnce, TakenWasCommitted, TakenInOrder, executed_units, ExecutedInOrder, Once}
 use Rattle.ale_base.proofs.OptionLemmas.{none_or_some}
-use Rattle.ale_base.proofs.MemberLemmas.{Contains-map, Contains-map_back, Contains-filter, Contains-filter_back, filter_map-None, filter_map-Some, filter-kept, filter-left_out, filter_map-agree, filter_map-Contains, filter_map-Contains_back, find-longer}
+use Rattle.ale_base.proofs.MemberLemmas.{Contains-map, Contains-map_back, Contains-filter, Contains-filter_back, filter_map-None, filter_map-Some, filter-kept}
+use Rattle.ale_base.proofs.MemberLemmas.{filter-left_out, filter_map-agree, filter_map-Contains, filter_map-Contains_back, find-longer}
 use Rattle.ale_base.proofs.PrefixLemmas.{IsPrefix-same, IsPrefix-trans, IsPrefix-filter, IsPrefix-Contains, IsPrefix-filter_map}
-use Rattle.unit_core.proofs.TidLemmas.{is_listed-Contains, Contains-is_listed, is_among-listed, is_among-Contains, Contains-is_among, unit_named-Some, unit_named-Contains, NoneTwice-push, same_unit}
+use Rattle.unit_core.proofs.TidLemmas.{is_listed-Contains, Contains-is_listed, is_among-listed, is_among-Contains, Contains-is_among, unit_named-Some}
+use Rattle.unit_core.proofs.TidLemmas.{unit_named-Contains, NoneTwice-push, same_unit}
 use Rattle.unit_core.proofs.QueueLemmas.{is_head-outbound, is_head-inbound, next_of_queue}
 
 -- one record joined the log of one system

@@ -3,16 +3,19 @@ use Rattle.std.specs.Prelude.{find, Contains}
 use Rattle.std.specs.Cmp.Lexicographic.{pointwise, bytes_decides}
 use Rattle.std.proofs.lemmas.List.Folds.{list_any-append}
 use Rattle.std.proofs.Common.{◌≡◌, ℕ, nat_eq, ◌==◌, Bool, true, false, ◌&&◌, Option, Some, None, List, [], ◌∷◌, ◌++◌, inl, inr, refl, sym, ap, subst, ◌∙◌}
-use Rattle.std.proofs.lemmas.Bool.{cases_Bool, cond-true, cond-false, and_parts, and_from, and_cases, and_left, and_right, or_cases, or_left, or_parts, both_ways, not-true, not-false, not_from_false, not_from_true, eqb-true}
+use Rattle.std.proofs.lemmas.Bool.{cases_Bool, cond-true, cond-false, and_parts, and_from, and_cases, and_left, and_right, or_cases, or_left, or_parts}
+use Rattle.std.proofs.lemmas.Bool.{both_ways, not-true, not-false, not_from_false, not_from_true, eqb-true}
 use Rattle.std.proofs.lemmas.Option.{same_Some}
 use Rattle.ale_base.specs.Tid.{TidOf, is_tid}
 use Rattle.unit_core.specs.declared.ale_unit.AleUnit.{AleUnit}
 use Rattle.unit_core.specs.declared.queue.Queue.{Queue}
 use Rattle.unit_core.specs.declared.queue.Queue.TheVariants.{Outbound, Inbound}
-use Rattle.unit_core.specs.Queues.{is_listed, is_among, is_outstanding, tids_of, stands_in, in_queue, has_name, head_of, has_tid, is_head, heads_outbound, heads_inbound}
+use Rattle.unit_core.specs.Queues.{is_listed, is_among, is_outstanding, tids_of, stands_in, in_queue, has_name, head_of, has_tid, is_head, heads_outbound}
+use Rattle.unit_core.specs.Queues.{heads_inbound}
 use Rattle.ale_base.specs.Prefix.{IsPrefix}
 use Rattle.unit_core.specs.Once.{NoneTwice}
-use Rattle.ale_base.proofs.MemberLemmas.{Contains-here, Contains-there, Contains-filter_back, find-narrower, find-longer, find-filter, find-Some, list_any-found, list_all-Contains, list_all-weaker}
+use Rattle.ale_base.proofs.MemberLemmas.{Contains-here, Contains-there, Contains-filter_back, find-narrower, find-longer, find-filter, find-Some}
+use Rattle.ale_base.proofs.MemberLemmas.{list_any-found, list_all-Contains, list_all-weaker}
 use Rattle.ale_base.proofs.PrefixLemmas.{IsPrefix-cons, IsPrefix-parts}
 use Rattle.unit_core.proofs.TidLemmas.{is_tid-true, is_tid-from, is_listed-append, is_among-listed, is_among-Contains, same_unit, NoneTwice-filter}
 

@@ -21,7 +21,8 @@ same_entries (a ∷ log) (b ∷ other) are are_too same =
     cc
 
 -- entries have no body that spells none
-none_unread : (log front : List Entry) (body : List ℕ) (rest : List (List ℕ)) → AreEntries log → IsNoEntry body → bodies_of log ≡ bodies_of front ++ body ∷ rest → ⊥
+none_unread : (log front : List Entry) (body : List ℕ) (rest : List (List ℕ)) → AreEntries log → IsNoEntry body →
+    bodies_of log ≡ bodies_of front ++ body ∷ rest → ⊥
 none_unread [] [] body rest are unread same = absurd cc
 none_unread [] (b ∷ front) body rest are unread same = absurd cc
 none_unread (a ∷ log) [] body rest are unread same = unread a are.0 (let first : entry_spelling a ≡ body = cc in sym first)
@@ -32,7 +33,8 @@ one_first : (front other : List Entry) (body next : List ℕ) (rest more : List 
     → bodies_of front ++ body ∷ rest ≡ bodies_of other ++ next ∷ more → length front ≡ length other
 one_first [] [] body next rest more are are_too unread unread_too same = refl
 one_first [] (b ∷ other) body next rest more are are_too unread unread_too same = absurd (unread b are_too.0 (cc))
-one_first (a ∷ front) [] body next rest more are are_too unread unread_too same = absurd (unread_too a are.0 (let first : entry_spelling a ≡ next = cc in sym first))
+one_first (a ∷ front) [] body next rest more are are_too unread unread_too same = absurd
+    (unread_too a are.0 (let first : entry_spelling a ≡ next = cc in sym first))
 one_first (a ∷ front) (b ∷ other) body next rest more are are_too unread unread_too same =
     let rest_same : bodies_of front ++ body ∷ rest ≡ bodies_of other ++ next ∷ more = cc in
     ap suc (one_first front other body next rest more are.1 are_too.1 unread unread_too rest_same)
@@ -43,7 +45,8 @@ one_log bytes log other = (has_one_answer bytes).one_log log other
 
 pub one_answer : (bytes : List ℕ) → HasOneAnswer bytes
 one_answer bytes = record {
-  one_log = λ log other stands stands_too. same_entries log other stands.entries stands_too.entries (one_log bytes (bodies_of log) (bodies_of other) stands.bodies stands_too.bodies);
+  one_log = λ log other stands stands_too. same_entries log other stands.entries stands_too.entries
+      (one_log bytes (bodies_of log) (bodies_of other) stands.bodies stands_too.bodies);
   not_damaged = λ log place stands damaged. (has_one_answer bytes).not_both (bodies_of log) place stands.bodies damaged;
   not_unread = λ log number stands unread.
       let f = unread.first in

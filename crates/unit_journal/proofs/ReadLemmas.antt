@@ -14,7 +14,8 @@ pub record IsReadTo (bodies : List (List ℕ)) (count : ℕ) (entries : List Ent
 pub read-more : (bodies : List (List ℕ)) (i : ℕ) (entries : List Entry) (body : List ℕ) (entry : Entry) → i < length bodies → body ≡ get_or bodies i body
     → IsReadTo bodies i entries → EntryHasSpelling entry → body ≡ entry_spelling entry → IsReadTo bodies (i + 1) (entries ++ entry ∷ [])
 read-more bodies i entries body entry within item so_far is same = record {
-  spelled = take_more bodies i body within ∙ ap (λ (b : List ℕ). take i bodies ++ b ∷ []) (sym item ∙ same) ∙ ap (λ (l : List (List ℕ)). l ++ entry_spelling entry ∷ []) so_far.spelled
+  spelled = take_more bodies i body within ∙ ap (λ (b : List ℕ). take i bodies ++ b ∷ []) (sym item ∙ same)
+      ∙ ap (λ (l : List (List ℕ)). l ++ entry_spelling entry ∷ []) so_far.spelled
       ∙ sym (map-append entry_spelling entries (entry ∷ []));
   read = AllByRecursion-append EntryHasSpelling entries (entry ∷ []) so_far.read (is, tt);
 }

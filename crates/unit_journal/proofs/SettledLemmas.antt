@@ -20,7 +20,8 @@ pub bodies_of-push : (log : List Entry) (entry : Entry) → bodies_of (log ++ en
 bodies_of-push log entry = map-append entry_spelling log (entry ∷ [])
 
 -- what stands for the bodies of a log, with one more or without, stands for its entries
-pub before_or_after : (log : List Entry) (entry : Entry) (image : List ℕ) → AreEntries log → EntryHasSpelling entry → bodies_settled.IsBeforeOrAfter (bodies_of log) (entry_spelling entry) image → IsBeforeOrAfter log entry image
+pub before_or_after : (log : List Entry) (entry : Entry) (image : List ℕ) → AreEntries log → EntryHasSpelling entry →
+    bodies_settled.IsBeforeOrAfter (bodies_of log) (entry_spelling entry) image → IsBeforeOrAfter log entry image
 before_or_after log entry image are is (inl before) = inl (record { bodies = before; entries = are })
 before_or_after log entry image are is (inr after) = inr (record {
   bodies = subst (λ (l : List (List ℕ)). bodies_log.Stands image l) (sym (bodies_of-push log entry)) after;
@@ -29,32 +30,41 @@ before_or_after log entry image are is (inr after) = inr (record {
 
 module _ {D : Type 0} (volume : D → ℕ → Volume) where
   -- Each image of a settled journal's volume stands for its log.
-  pub IsSettled-stands : (vols : D) (journal : UnitJournal) (log : List Entry) → IsSettled volume vols journal log → (image : List ℕ) → IsImage (volume vols (bodies journal).volume) image → Stands image log
-  IsSettled-stands vols journal log s image is = record { bodies = bodies_lemmas.IsSettled-stands volume vols (bodies journal) (bodies_of log) s.settled image is; entries = s.entries }
+  pub IsSettled-stands : (vols : D) (journal : UnitJournal) (log : List Entry) → IsSettled volume vols journal log → (image : List ℕ) →
+      IsImage (volume vols (bodies journal).volume) image → Stands image log
+  IsSettled-stands vols journal log s image is = record
+      { bodies = bodies_lemmas.IsSettled-stands volume vols (bodies journal) (bodies_of log) s.settled image is; entries = s.entries }
 
   module _ (moment : D → ℕ) (images_since : D → ℕ → ℕ → List ℕ → Type 0) where
     -- A journal that is settled stays so through calls on other volumes.
-    pub IsSettled-kept : (old new : D) (journal : UnitJournal) (log : List Entry) → KeepsVolume volume moment images_since old new (bodies journal).volume → IsSettled volume old journal log → IsSettled volume new journal log
+    pub IsSettled-kept : (old new : D) (journal : UnitJournal) (log : List Entry) → KeepsVolume volume moment images_since old new (bodies journal).volume →
+        IsSettled volume old journal log → IsSettled volume new journal log
     IsSettled-kept old new journal log kept s = record {
       settled = bodies_lemmas.IsSettled-kept volume moment images_since old new (bodies journal) (bodies_of log) kept s.settled;
       entries = s.entries;
     }
 
     -- While other volumes are called, a crash leaves of a settled journal's volume bytes that stand for its log.
-    pub IsSettled-any_moment : (old new : D) (journal : UnitJournal) (log : List Entry) → ((image : List ℕ) → images_since old (bodies journal).volume (moment old) image → IsImage (volume old (bodies journal).volume) image)
-        → KeepsVolume volume moment images_since old new (bodies journal).volume → IsSettled volume old journal log → LeavesOnly moment images_since old new (bodies journal).volume (λ image. Stands image log)
+    pub IsSettled-any_moment : (old new : D) (journal : UnitJournal) (log : List Entry) →
+        ((image : List ℕ) → images_since old (bodies journal).volume (moment old) image → IsImage (volume old (bodies journal).volume) image)
+        → KeepsVolume volume moment images_since old new (bodies journal).volume → IsSettled volume old journal log →
+        LeavesOnly moment images_since old new (bodies journal).volume (λ image. Stands image log)
     IsSettled-any_moment old new journal log only_now kept s =
-        LeavesOnly-kept moment images_since volume old new (bodies journal).volume _ (λ image left. IsSettled-stands old journal log s image (only_now image left)) kept
+        LeavesOnly-kept moment images_since volume old new (bodies journal).volume _
+        (λ image left. IsSettled-stands old journal log s image (only_now image left)) kept
 
     -- Where nothing is called, a crash leaves the log from before an append.
-    pub unappended : (vols : D) (journal : UnitJournal) (log : List Entry) (entry : Entry) → ((image : List ℕ) → images_since vols (bodies journal).volume (moment vols) image → IsImage (volume vols (bodies journal).volume) image)
+    pub unappended : (vols : D) (journal : UnitJournal) (log : List Entry) (entry : Entry) →
+        ((image : List ℕ) → images_since vols (bodies journal).volume (moment vols) image → IsImage (volume vols (bodies journal).volume) image)
         → IsSettled volume vols journal log → LeavesOnly moment images_since vols vols (bodies journal).volume (IsBeforeOrAfter log entry)
     unappended vols journal log entry only_now s =
-        started moment images_since vols (bodies journal).volume (IsBeforeOrAfter log entry) (λ image left. inl (IsSettled-stands vols journal log s image (only_now image left)))
+        started moment images_since vols (bodies journal).volume (IsBeforeOrAfter log entry)
+        (λ image left. inl (IsSettled-stands vols journal log s image (only_now image left)))
 
     -- What an append to the bodies leaves, said of entries.
     pub appended : (old new : D) (journal : UnitJournal) (log : List Entry) (entry : Entry) → IsSettled volume old journal log → EntryHasSpelling entry
         → LeavesOnly moment images_since old new (bodies journal).volume (bodies_settled.IsBeforeOrAfter (bodies_of log) (entry_spelling entry))
         → LeavesOnly moment images_since old new (bodies journal).volume (IsBeforeOrAfter log entry)
     appended old new journal log entry s is leaves =
-        weaker moment images_since old new (bodies journal).volume _ (IsBeforeOrAfter log entry) (λ image before. before_or_after log entry image s.entries is before) leaves
+        weaker moment images_since old new (bodies journal).volume _ (IsBeforeOrAfter log entry)
+        (λ image before. before_or_after log entry image s.entries is before) leaves

@@ -26,7 +26,8 @@ use Rattle.trfc_protocol.specs.Meaning.{Meaning}
 use Rattle.trfc_protocol.specs.Legal.{is_commit, is_operators, is_empty, may_follow, IsLawful}
 use Rattle.trfc_protocol.specs.Worlds.{log_of, is_up, offers_now, committed_unit, claim_of}
 use Rattle.trfc_protocol.specs.Offered.{may_arrive, answer_to, offers_received_now}
-use Rattle.trfc_protocol.specs.RecordOf.{Writing, record_asked, record_of_answer, record_of_arrival, record_of_run, record_of_work, record_of_failure, record_of_answered, record_of_reply, record_of_loss, record_of_confirmation, record_of_ending, record_of, may_operate}
+use Rattle.trfc_protocol.specs.RecordOf.{Writing, record_asked, record_of_answer, record_of_arrival, record_of_run, record_of_work, record_of_failure}
+use Rattle.trfc_protocol.specs.RecordOf.{record_of_answered, record_of_reply, record_of_loss, record_of_confirmation, record_of_ending, record_of, may_operate}
 use Rattle.trfc_protocol.specs.Safe.{Safe}
 use Rattle.trfc_protocol.proofs.SafeLemmas.{committed_unit-is}
 use Rattle.trfc_protocol.proofs.NextLemmas.{record_if-each}

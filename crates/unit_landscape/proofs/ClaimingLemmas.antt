@@ -27,7 +27,8 @@ use Rattle.unit_landscape.specs.declared.claims.InClaim.{InClaim}
 use Rattle.unit_landscape.specs.Calls.{ClaimedIn}
 use Rattle.unit_landscape.proofs.HappenedLemmas.{happened-none}
 use Rattle.unit_landscape.proofs.EndsLemmas.{landscape-step, landscape-same}
-use Rattle.unit_landscape.proofs.OfferedLemmas.{one-sender, may_go-outbound, may_go-inbound, first-outbound, none-outbound, first-inbound, none-inbound, outbound_unit, claim-after, run-after}
+use Rattle.unit_landscape.proofs.OfferedLemmas.{one-sender, may_go-outbound, may_go-inbound, first-outbound, none-outbound, first-inbound, none-inbound}
+use Rattle.unit_landscape.proofs.OfferedLemmas.{outbound_unit, claim-after, run-after}
 
 module _ {R : Type 0} (rules : Meaning) (lawful : IsLawful rules) (world : World R) (safe : Safe rules world) where
   -- a unit that is found by the id of the first to go outbound is the first that is offered

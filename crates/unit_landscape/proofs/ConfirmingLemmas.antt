@@ -78,11 +78,14 @@ module _ {R : Type 0} (rules : Meaning) (lawful : IsLawful rules) (world : World
     writes =
         let unit : AleUnit = done-named.0 in
         ap (option_and_then (record_of_confirmation world)) done-named.1
-        ∙ ap (λ t. record_if (is_listed t (done_in (log_of world t.system)) && is_up world unit.receiver && not (is_listed t (forgotten_in (log_of world unit.receiver))))
+        ∙ ap (λ t. record_if (is_listed t (done_in (log_of world t.system)) && is_up world unit.receiver
+        && not (is_listed t (forgotten_in (log_of world unit.receiver))))
         unit.receiver (log.Forget t)) done-named.2
-        ∙ ap (λ s. record_if (is_listed tid (done_in (log_of world tid.system)) && is_up world s && not (is_listed tid (forgotten_in (log_of world s)))) s (log.Forget tid))
+        ∙ ap (λ s. record_if (is_listed tid (done_in (log_of world tid.system)) && is_up world s && not (is_listed tid (forgotten_in (log_of world s)))) s
+        (log.Forget tid))
         (sym receiver-is)
-        ∙ ap (λ b. record_if (b && is_up world (receiver_of rules world tid) && not (is_forgotten rules world tid)) (receiver_of rules world tid) (log.Forget tid)) done
+        ∙ ap (λ b. record_if (b && is_up world (receiver_of rules world tid) && not (is_forgotten rules world tid)) (receiver_of rules world tid)
+        (log.Forget tid)) done
         ∙ ap (λ b. record_if (b && not (is_forgotten rules world tid)) (receiver_of rules world tid) (log.Forget tid)) up
         ∙ ap (λ b. record_if (not b) (receiver_of rules world tid) (log.Forget tid)) known;
     ends = refl;
@@ -99,7 +102,8 @@ module _ {R : Type 0} (rules : Meaning) (lawful : IsLawful rules) (world : World
     writes =
         let ended = is_listed tid (ended_in (log_of world tid.system)) in
         ap (option_and_then (record_of_ending world tid)) done-named.1
-        ∙ ap (λ b. record_if (b && is_listed tid (done_in (log_of world tid.system)) && not ended && is_listed tid (forgotten_in (log_of world done-named.0.receiver)))
+        ∙ ap (λ b. record_if (b && is_listed tid (done_in (log_of world tid.system)) && not ended
+        && is_listed tid (forgotten_in (log_of world done-named.0.receiver)))
         tid.system (log.Ended tid)) up
         ∙ ap (λ b. record_if (b && not ended && is_listed tid (forgotten_in (log_of world done-named.0.receiver))) tid.system (log.Ended tid)) done
         ∙ ap (λ b. record_if (not b && is_listed tid (forgotten_in (log_of world done-named.0.receiver))) tid.system (log.Ended tid)) open_
@@ -109,7 +113,8 @@ module _ {R : Type 0} (rules : Meaning) (lawful : IsLawful rules) (world : World
   }
 
 -- a unit whose id is forgotten is done
-pub forgotten-done : {R : Type 0} (rules : Meaning) → IsLawful rules → (world : World R) → Safe rules world → (tid : TidOf) → is_forgotten rules world tid ≡ true
+pub forgotten-done : {R : Type 0} (rules : Meaning) → IsLawful rules → (world : World R) → Safe rules world → (tid : TidOf) →
+    is_forgotten rules world tid ≡ true
     → is_listed tid (done_in (log_of world tid.system)) ≡ true
 forgotten-done rules lawful world safe tid forgotten = forgotten_unit rules lawful world safe (receiver_of rules world tid) tid forgotten
 
@@ -131,7 +136,8 @@ module _ {R A V : Type 0} (rules : Meaning) (lawful : IsLawful rules) (faults : 
     (result : Result Appended OutOfMemory) (safe : Safe rules before.world) where
   -- how a confirmation ends, by how its record was appended
   pub confirmed-as : IsToForget rules before.world tid system → EndsSo rules faults before after system (log.Forget tid) None result
-      → IfOk (confirmed_of result) (ConfirmedAs rules faults before after tid) × OnErr (confirmed_of result) (IsShort rules faults before after (event.Confirm tid))
+      → IfOk (confirmed_of result) (ConfirmedAs rules faults before after tid) × OnErr (confirmed_of result)
+      (IsShort rules faults before after (event.Confirm tid))
   confirmed-as is ends = at_end result refl
     where
       does : Appends rules before.world system (log.Forget tid) None (event.Confirm tid)
@@ -153,7 +159,8 @@ module _ {R A V : Type 0} (rules : Meaning) (lawful : IsLawful rules) (faults : 
 
   -- how the reply to a confirmation ends, by how its record was appended
   pub closed-as : IsToEnd rules before.world tid system → EndsSo rules faults before after system (log.Ended tid) None result
-      → IfOk (closed_of result) (ClosedAs rules faults before after tid) × OnErr (closed_of result) (IsShort rules faults before after (event.Reply (Forgotten tid)))
+      → IfOk (closed_of result) (ClosedAs rules faults before after tid) × OnErr (closed_of result)
+      (IsShort rules faults before after (event.Reply (Forgotten tid)))
   closed-as is ends = at_end result refl
     where
       does : Appends rules before.world system (log.Ended tid) None (event.Reply (Forgotten tid))

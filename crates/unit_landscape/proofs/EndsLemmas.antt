@@ -45,7 +45,8 @@ landscape-step {R} meaning lawful world after e is same =
     record { safe = step.1; writable = subst (λ r. CommitWritable (meaning r)) (sym step.0) is.writable }
 
 -- so do two
-pub landscape-steps : {R : Type 0} (meaning : R → Meaning) → ((r : R) → IsLawful (meaning r)) → (world after : World R) (first second : Event) → IsLandscape meaning world
+pub landscape-steps : {R : Type 0} (meaning : R → Meaning) → ((r : R) → IsLawful (meaning r)) → (world after : World R) (first second : Event) →
+    IsLandscape meaning world
     → after ≡ happens (meaning world.rules) (happens (meaning world.rules) world first) second → IsLandscape meaning after
 landscape-steps {R} meaning lawful world then first second is same =
     let between : World R = happens (meaning world.rules) world first in
@@ -58,7 +59,8 @@ pub landscape-same : {R : Type 0} (meaning : R → Meaning) (world after : World
 landscape-same meaning world then same is = subst (IsLandscape meaning) (sym same) is
 
 -- a claim that is given up
-pub landscape-released : {R : Type 0} (meaning : R → Meaning) → ((r : R) → IsLawful (meaning r)) → (world after : World R) (number : ℕ) → IsLandscape meaning world
+pub landscape-released : {R : Type 0} (meaning : R → Meaning) → ((r : R) → IsLawful (meaning r)) → (world after : World R) (number : ℕ) →
+    IsLandscape meaning world
     → after ≡ without_claim world number → IsLandscape meaning after
 landscape-released {R} meaning lawful world after number is same =
     subst (IsLandscape meaning) (sym same)
@@ -170,7 +172,8 @@ module _ {R A V : Type 0} (meaning : R → Meaning) (lawful : (r : R) → IsLawf
     }
 
     -- a landscape it is afterwards
-    pub landscape-ends : {T : Type 0} → (result : Result T AppendEnd) → AppendsAs rules faults before now e (at system next) result → IsLandscape meaning (now.world)
+    pub landscape-ends : {T : Type 0} → (result : Result T AppendEnd) → AppendsAs rules faults before now e (at system next) result →
+        IsLandscape meaning (now.world)
     landscape-ends (Ok done) ends = landscape-step meaning lawful before.world now.world e is ends.world
     landscape-ends (Err Volume) ends = landscape-step meaning lawful before.world now.world (Fall system (Some next)) is ends.world
     landscape-ends (Err (Full size)) ends = landscape-same meaning before.world now.world (ap (λ (k : KeptOf R A V). k.world) ends.same) is
@@ -194,7 +197,8 @@ overflowed {R} {A} {V} rules faults before mid then system next size up full fel
 }
 
 -- a record of which it was said that it does not fit
-pub was-full : {R A V T : Type 0} (rules : Meaning) (faults : V → ℕ → ℕ) (before after : KeptOf R A V) (e : Event) (it : Writing) (result : Result T AppendEnd) (end : AppendEnd) (size : ℕ)
+pub was-full : {R A V T : Type 0} (rules : Meaning) (faults : V → ℕ → ℕ) (before after : KeptOf R A V) (e : Event) (it : Writing) (result : Result T AppendEnd)
+    (end : AppendEnd) (size : ℕ)
     → result ≡ Err end → end ≡ Full size → AppendsAs rules faults before after e it result → IsFull rules faults before after it size
 was-full rules faults before then e it result end size is full ends = subst (AppendsAs rules faults before then e it) (is ∙ ap Err full) ends
 

@@ -24,7 +24,8 @@ use Rattle.trfc_protocol.specs.Meaning.{Meaning}
 use Rattle.trfc_protocol.specs.Legal.{is_commit, is_operators, may_follow, may_follow_others, IsLawful}
 use Rattle.trfc_protocol.specs.Worlds.{log_of, is_up, committed_unit, state_of, state_with, with_state_at, with_record, without_claim, claim_of}
 use Rattle.trfc_protocol.specs.Offered.{may_arrive, answer_to}
-use Rattle.trfc_protocol.specs.RecordOf.{Writing, record_of_answer, record_of_arrival, record_of_work, record_of_failure, record_of_reply, record_of_loss, record_of}
+use Rattle.trfc_protocol.specs.RecordOf.{Writing, record_of_answer, record_of_arrival, record_of_work, record_of_failure, record_of_reply, record_of_loss}
+use Rattle.trfc_protocol.specs.RecordOf.{record_of}
 use Rattle.trfc_protocol.specs.Happens.{written, with_run, after_arrival, after_work, after_busy, happens}
 use Rattle.trfc_protocol.specs.Safe.{Safe}
 use Rattle.trfc_protocol.proofs.WorldLemmas.{is_up-known}

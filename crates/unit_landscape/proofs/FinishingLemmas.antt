@@ -64,7 +64,8 @@ module _ {R : Type 0} (world : World R) (claim : InClaim) where
   pub in-found : (held : Held) → HoldsIn world claim held → claim_of held.number world.claims ≡ Some held
   in-found held holds = subst (λ n. claim_of n world.claims ≡ Some held) (sym (in-number held holds)) holds.found
 
-module _ {R : Type 0} (rules : Meaning) (lawful : IsLawful rules) (world : World R) (safe : Safe rules world) (held : Held) (found : claim_of held.number world.claims ≡ Some held) where
+module _ {R : Type 0} (rules : Meaning) (lawful : IsLawful rules) (world : World R) (safe : Safe rules world) (held : Held)
+    (found : claim_of held.number world.claims ≡ Some held) where
   has : Contains world.claims held
   has = (claim_of-Some held.number world.claims held found).0
 
@@ -73,11 +74,13 @@ module _ {R : Type 0} (rules : Meaning) (lawful : IsLawful rules) (world : World
 
   -- a unit that is claimed to be executed was received where it is claimed, and its function is asked for there
   received_here : held.kind ≡ In
-      → (unit : AleUnit) × (unit_named held.tid (received (log_of world held.system)) ≡ Some unit) × (committed_unit rules world held.tid ≡ Some unit) × (unit.receiver ≡ held.system)
+      → (unit : AleUnit) × (unit_named held.tid (received (log_of world held.system)) ≡ Some unit) × (committed_unit rules world held.tid
+      ≡ Some unit) × (unit.receiver ≡ held.system)
   received_here is =
       let l = log_of world held.system in
       let free : is_free_inbound l held.tid ≡ true = subst (λ k. is_due rules world held k ≡ true) is (hold rules lawful world safe held has).due in
-      let parts = is_free-parts (executed l) (is_marked Incoming held.tid l) (heads_inbound (executed l) (received l)) (unit_named held.tid (received l)) free in
+      let parts = is_free-parts (executed l) (is_marked Incoming held.tid l) (heads_inbound (executed l) (received l))
+      (unit_named held.tid (received l)) free in
       let there = unit_named-Some held.tid (received l) parts.0 parts.1 in
       let its = received-is rules lawful world safe held.system parts.0 there.0 in (
         parts.0,
@@ -109,7 +112,8 @@ module _ {R : Type 0} (rules : Meaning) (lawful : IsLawful rules) (world : World
   direct-appends is unit named =
       let run = IsRun-due rules world held.system held.tid (subst (λ k. is_due rules world held k ≡ true) is (hold rules lawful world safe held has).due) in
       let its : run.unit ≡ unit = cc (run.named, named) in
-      let offers : offers_now rules world held.system unit.function ≡ true = subst (λ (u : AleUnit). offers_now rules world held.system u.function ≡ true) its run.offers in
+      let offers : offers_now rules world held.system unit.function ≡ true = subst (λ (u : AleUnit). offers_now rules world held.system u.function ≡ true) its
+      run.offers in
       record {
         writes = of_kind (record_of_work rules world) Direct is
             ∙ ap (option_and_then (record_of_run rules world held)) named
@@ -129,14 +133,15 @@ module _ {R : Type 0} (rules : Meaning) (lawful : IsLawful rules) (world : World
   -- a unit that was taken in fails
   pub fail-appends : is_kind held.kind Out ≡ false → is_offered_function rules world held.tid ≡ false
       → Appends rules world held.system (log.Fail held.tid) (Some held.number) (event.Fail held.number)
-  fail-appends kind not_offered = by_kind (λ k. held.kind ≡ k → Appends rules world held.system (log.Fail held.tid) (Some held.number) (event.Fail held.number)) (record {
-    in_ = λ is. record {
-      writes = of_kind (record_of_failure rules world) In is ∙ ap (λ b. record_if (not b) held.system (log.Fail held.tid)) (same_offer is ∙ not_offered);
-      ends = refl;
-      texts = λ none. cc;
-    };
-    direct = λ is. absurd (both_ways (is_offered_function rules world held.tid) not_offered (direct-offered is));
-  }) held.kind kind refl
+  fail-appends kind not_offered = by_kind (λ k. held.kind ≡ k → Appends rules world held.system (log.Fail held.tid) (Some held.number) (event.Fail held.number))
+      (record {
+        in_ = λ is. record {
+          writes = of_kind (record_of_failure rules world) In is ∙ ap (λ b. record_if (not b) held.system (log.Fail held.tid)) (same_offer is ∙ not_offered);
+          ends = refl;
+          texts = λ none. cc;
+        };
+        direct = λ is. absurd (both_ways (is_offered_function rules world held.tid) not_offered (direct-offered is));
+      }) held.kind kind refl
 
 module _ {R : Type 0} (rules : Meaning) (world : World R) (claim : InClaim) (held : Held) (holds : HoldsIn world claim held) (next : Record) where
   -- the record of an execution is that of the event
@@ -150,14 +155,16 @@ module _ {R : Type 0} (rules : Meaning) (world : World R) (claim : InClaim) (hel
   failed-record does = subst (λ n. record_of rules world (event.Fail n) ≡ Some (at held.system next)) (in-number world claim held holds) does.writes
 
 -- a unit whose function is not offered fails
-pub failing : {R : Type 0} (rules : Meaning) → IsLawful rules → (world : World R) → Safe rules world → (claim : InClaim) (held : Held) → HoldsIn world claim held
+pub failing : {R : Type 0} (rules : Meaning) → IsLawful rules → (world : World R) → Safe rules world → (claim : InClaim) (held : Held) →
+    HoldsIn world claim held
     → is_offered_function rules world claim.tid ≡ false → Appends rules world held.system (log.Fail held.tid) (Some held.number) (event.Fail held.number)
 failing rules lawful world safe claim held holds offers =
     fail-appends rules lawful world safe held (in-found world claim held holds) holds.kind
     (ap (is_offered_function rules world) holds.its ∙ offers)
 
 -- how the work of a claim ends, by how its record was appended
-module _ {R A V : Type 0} (rules : Meaning) (faults : V → ℕ → ℕ) (before after : KeptOf R A V) (claim : InClaim) (held : Held) (holds : HoldsIn before.world claim held)
+module _ {R A V : Type 0} (rules : Meaning) (faults : V → ℕ → ℕ) (before after : KeptOf R A V) (claim : InClaim) (held : Held)
+    (holds : HoldsIn before.world claim held)
     (next : Record) (result : Result Appended OutOfMemory) (ends : EndsSo rules faults before after held.system next (Some held.number) result) where
   abbrev number : held.number ≡ claim.number
   number = in-number before.world claim held holds
@@ -191,7 +198,8 @@ module _ {R A V : Type 0} (rules : Meaning) (faults : V → ℕ → ℕ) (before
             (was-short rules faults before after held.system next (Some held.number) (event.Finish claim.number) does result ends short is),
       )
 
-  pub failed-as : is_offered_function rules before.world claim.tid ≡ false → Appends rules before.world held.system next (Some held.number) (event.Fail held.number)
+  pub failed-as : is_offered_function rules before.world claim.tid ≡ false →
+      Appends rules before.world held.system next (Some held.number) (event.Fail held.number)
       → FinishedAs rules faults before after claim (finished_of finished.Failed result)
   failed-as offers appends = at_end result refl
     where

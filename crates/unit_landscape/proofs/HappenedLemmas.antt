@@ -37,7 +37,8 @@ happened-none rules faults before now e none world keeps = record {
   overruns = keeps.overruns;
 }
 
-module _ {R A V : Type 0} (told : Type 0) (volume : V → ℕ → Volume) (moment : V → ℕ) (images_since : V → ℕ → ℕ → List ℕ → Type 0) (before after : KeptOf R A V) where
+module _ {R A V : Type 0} (told : Type 0) (volume : V → ℕ → Volume) (moment : V → ℕ) (images_since : V → ℕ → ℕ → List ℕ → Type 0)
+    (before after : KeptOf R A V) where
   -- a call that appends nothing calls no volume
   pub disk-none : (found : Option Writing) → found ≡ None → KeepsVolumes before after → DiskAs told volume moment images_since before after found
   disk-none found none keeps = subst (DiskAs told volume moment images_since before after) (sym none) keeps
@@ -49,7 +50,8 @@ module _ {R A V : Type 0} (told : Type 0) (volume : V → ℕ → Volume) (momen
 
   -- a call that was to append a record, and called no volume, leaves what it found
   pub writes-nothing : (told → (vols : V) (n : ℕ) (image : List ℕ) → images_since vols n (moment vols) image → IsImage (volume vols n) image)
-      → AreOnVolumes told volume before.vols (before.world).systems before.journals → (it : Writing) → is_up before.world it.system ≡ true → KeepsVolumes before after
+      → AreOnVolumes told volume before.vols (before.world).systems before.journals → (it : Writing) → is_up before.world it.system ≡ true →
+      KeepsVolumes before after
       → WritesOnly told volume moment images_since before after it
   writes-nothing only_now on_volumes it up keeps =
       let disk = on_disk-up told volume before.vols before.world before.journals it.system up on_volumes in
@@ -58,15 +60,18 @@ module _ {R A V : Type 0} (told : Type 0) (volume : V → ℕ → Volume) (momen
       record {
         any_moment = λ tells. subst (λ vols. LeavesOnly moment images_since before.vols vols place
             (IsBeforeOrAfter (entries_at before.journals place log) (entry_with (next_moment before.journals place) it.next))) (sym keeps.vols)
-            (started moment images_since before.vols place (IsBeforeOrAfter (entries_at before.journals place log) (entry_with (next_moment before.journals place) it.next))
-            (λ image left. inl (IsOnDisk-stands told volume before.vols place before.journals log tells disk image (only_now tells before.vols place image left))));
+            (started moment images_since before.vols place
+            (IsBeforeOrAfter (entries_at before.journals place log) (entry_with (next_moment before.journals place) it.next))
+            (λ image left. inl (IsOnDisk-stands told volume before.vols place before.journals log tells disk image
+            (only_now tells before.vols place image left))));
         others = λ tells. subst (λ vols. KeepsOthers volume moment images_since before.vols vols place) (sym keeps.vols)
             (others_kept moment images_since volume before.vols place);
       }
 
   -- whatever an event was to append: where no volume was called all are as they were
   pub disk-still : (told → (vols : V) (n : ℕ) (image : List ℕ) → images_since vols n (moment vols) image → IsImage (volume vols n) image)
-      → AreOnVolumes told volume before.vols (before.world).systems before.journals → (rules : Meaning) → IsLawful rules → Safe rules before.world → (e : Event) → KeepsVolumes before after
+      → AreOnVolumes told volume before.vols (before.world).systems before.journals → (rules : Meaning) → IsLawful rules → Safe rules before.world →
+      (e : Event) → KeepsVolumes before after
       → DiskAs told volume moment images_since before after (record_of rules before.world e)
   disk-still only_now on_volumes rules lawful safe e keeps = at (record_of rules before.world e) refl
     where

@@ -85,7 +85,8 @@ up-others rules lawful world safe system next up =
     begun_others rules system (log_of world system) next (begun rules lawful world safe system known.0 known.1)
 
 -- a Retry may follow where the unit is outstanding by the queues
-pub retry-may : {R : Type 0} (rules : Meaning) → IsLawful rules → (world : World R) → Safe rules world → (system : ℕ) (way : Way) (tid : TidOf) → is_up world system ≡ true
+pub retry-may : {R : Type 0} (rules : Meaning) → IsLawful rules → (world : World R) → Safe rules world → (system : ℕ) (way : Way) (tid : TidOf) →
+    is_up world system ≡ true
     → may_follow rules system (log_of world system) (log.Retry way tid)
     ≡ option_map_or (is_outstanding (through way (log_of world system)))
     (unit_named tid (units_of way (committed_by rules world system) (log_of world system))) false

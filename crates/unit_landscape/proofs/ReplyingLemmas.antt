@@ -41,7 +41,8 @@ pub among-takes : (tid : TidOf) (records : List Record) → list_any (takes tid)
 among-takes tid [] = refl
 among-takes tid (next ∷ records) = by_taken (among-takes tid records) (taken_by next) refl
   where
-    by_taken : list_any (takes tid) records ≡ is_among tid (received records) → (found : Option AleUnit) → taken_by next ≡ found → (takes tid next || list_any (takes tid) records) ≡ is_among tid (received (next ∷ records))
+    by_taken : list_any (takes tid) records ≡ is_among tid (received records) → (found : Option AleUnit) → taken_by next ≡ found →
+        (takes tid next || list_any (takes tid) records) ≡ is_among tid (received (next ∷ records))
     by_taken others None is =
         ap (λ f. option_map_or (λ (unit : AleUnit). is_tid unit.tid tid) f false || list_any (takes tid) records) is
         ∙ others
@@ -77,7 +78,8 @@ module _ {R : Type 0} (world : World R) (claim : OutClaim) (held : Held) (holds 
       ∙ ap (λ found. option_map_or (λ (h : Held). after_busy world h h.kind) found world) holds.found
       ∙ ap (after_busy world held) holds.kind
 
-module _ {R : Type 0} (rules : Meaning) (lawful : IsLawful rules) (world : World R) (safe : Safe rules world) (claim : OutClaim) (held : Held) (holds : HoldsOut world claim held) where
+module _ {R : Type 0} (rules : Meaning) (lawful : IsLawful rules) (world : World R) (safe : Safe rules world) (claim : OutClaim) (held : Held)
+    (holds : HoldsOut world claim held) where
   its_unit : (unit : AleUnit) × (committed_unit rules world held.tid ≡ Some unit)
   its_unit =
       let found = claim_of-Some claim.number world.claims held holds.found in

@@ -44,11 +44,13 @@ use Rattle.unit_landscape.specs.Calls.{receiver_of, is_forgotten}
 use Rattle.unit_landscape.specs.Ends.{Happened, Failed, Overflowed, Stays, FellBehind, AppendsAs}
 
 -- some event appends a record, which commits these units; and this was made of it for the application
-pub record IsDue {R A E V : Type 0} (meaning : R → Meaning) (goes_with : A → List Record → Record → E → Type 0) (kept : KeptOf R A V) (system : ℕ) (next : Record)
+pub record IsDue {R A E V : Type 0} (meaning : R → Meaning) (goes_with : A → List Record → Record → E → Type 0) (kept : KeptOf R A V) (system : ℕ)
+    (next : Record)
     (more : List AleUnit) (claim : Option ℕ) (extra : E) : Type 0 where
   pub event : Event
   pub appends : Appends (meaning kept.world.rules) kept.world system next claim event
-  pub commits : (meaning kept.world.rules).committed system (log_of kept.world system ++ next ∷ []) ≡ (meaning kept.world.rules).committed system (log_of kept.world system) ++ more
+  pub commits : (meaning kept.world.rules).committed system (log_of kept.world system ++ next ∷ []) ≡ (meaning kept.world.rules).committed system
+      (log_of kept.world system) ++ more
   pub goes : (its : TablesOf A) → slice_get kept.tables (system - 1) ≡ Some its → goes_with its.application (log_of kept.world system) next extra
 
 -- a record and its system

@@ -147,7 +147,8 @@ module _ {R A V : Type 0} (rules : Meaning) (faults : V → ℕ → ℕ) (before
   Arrived unit (Known receipt) = AnsweredIdle unit answer.Known × (receipt.tid ≡ unit.tid)
   Arrived unit Busy = AnsweredIdle unit answer.Busy
   Arrived unit SysFail = AnsweredIdle unit answer.SysFail
-  Arrived unit Down = AnsweredIdle unit answer.Down ⊎ ((answer_to rules before.world unit ≡ answer.New) × FellInstead rules faults before after (event.Arrive unit.tid))
+  Arrived unit Down = AnsweredIdle unit answer.Down ⊎
+      ((answer_to rules before.world unit ≡ answer.New) × FellInstead rules faults before after (event.Arrive unit.tid))
 
   -- a claim did not stand, and nothing has changed
   abbrev pub WasStale : Bool → Type 0
@@ -156,7 +157,8 @@ module _ {R A V : Type 0} (rules : Meaning) (faults : V → ℕ → ℕ) (before
   -- the work of a claim ended
   abbrev pub FinishedAs : InClaim → Result Finished WorkEnd → Type 0
   FinishedAs claim (Ok (finished.Executed receipt)) =
-      (stands_in before.world claim ≡ true) × (is_offered_function rules before.world claim.tid ≡ true) × Was (event.Finish claim.number) × (receipt.tid ≡ claim.tid)
+      (stands_in before.world claim ≡ true) × (is_offered_function rules before.world claim.tid ≡ true) × Was
+      (event.Finish claim.number) × (receipt.tid ≡ claim.tid)
   FinishedAs claim (Ok finished.Failed) =
       (stands_in before.world claim ≡ true) × (is_offered_function rules before.world claim.tid ≡ false) × Was (event.Fail claim.number)
   FinishedAs claim (Ok finished.Down) =
@@ -201,7 +203,8 @@ module _ {R A V : Type 0} (rules : Meaning) (faults : V → ℕ → ℕ) (before
 
   -- an operator's record was appended at a system, or it was refused and nothing has changed
   abbrev pub OperatedAs : {T : Type 0} → ℕ → Record → Result T OperatorEnd → Type 0
-  OperatedAs system next (Ok done) = Was (event.Operator (Append system next)) × (record_of rules before.world (event.Operator (Append system next)) ≡ Some (record { system = system; next = next }))
+  OperatedAs system next (Ok done) = Was (event.Operator (Append system next)) × (record_of rules before.world (event.Operator (Append system next))
+      ≡ Some (record { system = system; next = next }))
   OperatedAs system next (Err operator.Down) = (is_up before.world system ≡ false) × (after ≡ before)
   OperatedAs system next (Err operator.NotAllowed) =
       (is_up before.world system ≡ true) × (may_follow rules system (log_of before.world system) next ≡ false) × (after ≡ before)

@@ -8,7 +8,8 @@ use Rattle.kept_world.specs.Kept.{KeptOf}
 use Rattle.kept_world.specs.Answers.{AreTablesNow}
 
 -- tables are those that are kept of a system, which is up, and they are those of its log and of the claims at it
-pub record AreItsTables {R A V : Type 0} (stands : A → List Record → Type 0) (rules : Meaning) (kept : KeptOf R A V) (system : ℕ) (its : TablesOf A) : Type 0 where
+pub record AreItsTables {R A V : Type 0} (stands : A → List Record → Type 0) (rules : Meaning) (kept : KeptOf R A V) (system : ℕ)
+    (its : TablesOf A) : Type 0 where
   pub up : is_up kept.world system ≡ true
   pub kept_there : slice_get kept.tables (system - 1) ≡ Some its
   pub agree : AreTablesNow stands rules kept.world system its

@@ -62,10 +62,12 @@ MomentsAs before after (Some it) = HasOneMore (it.system - 1) before after
 pub record WritesOnly {R A V : Type 0} (told : Type 0) (volume : V → ℕ → Volume) (moment : V → ℕ) (images_since : V → ℕ → ℕ → List ℕ → Type 0)
     (before after : KeptOf R A V) (it : Writing) : Type 0 where
   pub any_moment : told → LeavesOnly moment images_since before.vols after.vols (it.system - 1)
-      (IsBeforeOrAfter (entries_at before.journals (it.system - 1) (log_of before.world it.system)) (entry_with (next_moment before.journals (it.system - 1)) it.next))
+      (IsBeforeOrAfter (entries_at before.journals (it.system - 1) (log_of before.world it.system))
+      (entry_with (next_moment before.journals (it.system - 1)) it.next))
   pub others : told → KeepsOthers volume moment images_since before.vols after.vols (it.system - 1)
 
 -- a call with a record leaves all volumes but that of its system; without one it calls none
-abbrev pub DiskAs : {R A V : Type 0} → Type 0 → (V → ℕ → Volume) → (V → ℕ) → (V → ℕ → ℕ → List ℕ → Type 0) → KeptOf R A V → KeptOf R A V → Option Writing → Type 0
+abbrev pub DiskAs : {R A V : Type 0} → Type 0 → (V → ℕ → Volume) → (V → ℕ) → (V → ℕ → ℕ → List ℕ → Type 0) → KeptOf R A V → KeptOf R A V → Option Writing →
+    Type 0
 DiskAs told volume moment images_since before after None = KeepsVolumes before after
 DiskAs told volume moment images_since before after (Some it) = WritesOnly told volume moment images_since before after it

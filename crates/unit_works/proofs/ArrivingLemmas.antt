@@ -351,7 +351,8 @@ claimed-committed meaning lawful before is claim stands =
     (unit.0, subst (λ t. committed_unit (meaning before.world.rules) before.world t ≡ Some unit.0) holds.its unit.1)
 
 -- a unit that brings nothing leaves all as it is as it arrives
-pub nothing-arrived : {R A V : Type 0} (rules : Meaning) (faults : V → ℕ → ℕ) (before after : KeptOf R A V) (claim : OutClaim) (unit : AleUnit) (given : Arrival)
+pub nothing-arrived : {R A V : Type 0} (rules : Meaning) (faults : V → ℕ → ℕ) (before after : KeptOf R A V) (claim : OutClaim) (unit : AleUnit)
+    (given : Arrival)
     → BringsNothing rules before.world claim unit → Arrived rules faults before after unit given → after ≡ before
 nothing-arrived rules faults before after claim unit (arrival.New receipt) none did = absurd (none.not_new did.0.0)
 nothing-arrived rules faults before after claim unit (arrival.Run begun) none did = absurd (none.none did.0.0)

@@ -2,7 +2,8 @@
 use Rattle.std.specs.Prelude.{Contains, fold, is_some}
 use Rattle.std.specs.List.{list_all, list_any}
 use Rattle.std.specs.Option.{option_map_or}
-use Rattle.std.proofs.Common.{◌≡◌, ◌&&◌, ℕ, not, Bool, true, false, cond, Option, Some, None, List, [], ◌∷◌, ◌++◌, inl, inr, refl, sym, ap, subst, ◌∙◌, append-nil, append_assoc}
+use Rattle.std.proofs.Common.{◌≡◌, ◌&&◌, ℕ, not, Bool, true, false, cond, Option, Some, None, List, [], ◌∷◌, ◌++◌, inl, inr, refl, sym, ap, subst, ◌∙◌}
+use Rattle.std.proofs.Common.{append-nil, append_assoc}
 use Rattle.std.proofs.lemmas.Bool.{and_parts, both_ways, cases_Bool, or_from}
 use Rattle.std.proofs.lemmas.List.Elements.{Contains-append_left, filter_map-append}
 use Rattle.std.proofs.lemmas.List.Sums.{fold-append}
@@ -115,8 +116,10 @@ clear-grown before after added grew each clear =
 -- ---- a shipment of a unit that its receiver takes
 
 answered-well : (up among claimed empty offers : Bool) → up ≡ true → offers ≡ true
-    → (cond (not up) answer.Down (cond among answer.Known (cond claimed answer.Busy (cond empty (cond offers answer.Run answer.SysFail) answer.New))) ≡ answer.Down → ⊥)
-    × (cond (not up) answer.Down (cond among answer.Known (cond claimed answer.Busy (cond empty (cond offers answer.Run answer.SysFail) answer.New))) ≡ answer.SysFail → ⊥)
+    → (cond (not up) answer.Down (cond among answer.Known (cond claimed answer.Busy (cond empty (cond offers answer.Run answer.SysFail) answer.New)))
+    ≡ answer.Down → ⊥)
+    × (cond (not up) answer.Down (cond among answer.Known (cond claimed answer.Busy (cond empty (cond offers answer.Run answer.SysFail) answer.New)))
+    ≡ answer.SysFail → ⊥)
 answered-well false among claimed empty offers up offers_is = cc
 answered-well true true claimed empty offers up offers_is = (λ is. cc, λ is. cc)
 answered-well true false true empty offers up offers_is = (λ is. cc, λ is. cc)
@@ -124,7 +127,8 @@ answered-well true false false true true up offers_is = (λ is. cc, λ is. cc)
 answered-well true false false true false up offers_is = cc
 answered-well true false false false offers up offers_is = (λ is. cc, λ is. cc)
 
-shipment-harmless : (given : Answer) (unit : AleUnit) → (given ≡ answer.Down → ⊥) → (given ≡ answer.SysFail → ⊥) → EachIs HoldsNothing (shipment Whole given unit)
+shipment-harmless : (given : Answer) (unit : AleUnit) → (given ≡ answer.Down → ⊥) → (given ≡ answer.SysFail → ⊥) →
+    EachIs HoldsNothing (shipment Whole given unit)
 shipment-harmless answer.New unit up offers = (refl, (refl, (refl, (refl, tt))))
 shipment-harmless answer.Run unit up offers = (refl, (refl, (refl, (refl, tt))))
 shipment-harmless answer.Known unit up offers = (refl, (refl, (refl, tt)))
@@ -323,7 +327,8 @@ module _ {V : Type 0} (faults : V → ℕ → ℕ) where
           same = λ tid. all-same acts between last did.2 lines_last did.5 tid ∙ acted-same start between lines did.2 act did.4 tid;
           back = λ system up. acted-up faults start between lines did.2 act did.4 system (back system up);
         } in
-        let went = acted-clear start between lines did.2 leads (only-clear now start did.3 clear) none (λ system up. back system (stay_start system up)) act did.4 in
+        let went = acted-clear start between lines did.2 leads (only-clear now start did.3 clear) none (λ system up. back system (stay_start system up)) act
+        did.4 in
         let rest = acts-clear acts between did.2 lines_last did.5 went.clear went.none
         (λ system up. stay_start system (acted-up faults start between lines did.2 act did.4 system up)) in
         (rest.0, rest.1, λ tid. or_from (loses tid act) (list_any (loses tid) acts) (went.lost tid) (rest.2 tid))

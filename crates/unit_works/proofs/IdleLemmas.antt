@@ -15,7 +15,8 @@ use Rattle.unit_core.specs.declared.ale_unit.AleUnit.{AleUnit}
 use Rattle.unit_core.specs.declared.queue.Queue.{Queue}
 use Rattle.unit_core.specs.declared.queue.Queue.TheVariants.{Outbound, Inbound}
 use Rattle.unit_core.specs.Filters.{done_in, ended_in, executed, forgotten_in, is_marked, is_stopped, received}
-use Rattle.unit_core.specs.Queues.{has_name, has_tid, head_of, heads_inbound, heads_outbound, is_among, is_head, is_listed, is_outstanding, stands_in, unit_named}
+use Rattle.unit_core.specs.Queues.{has_name, has_tid, head_of, heads_inbound, heads_outbound, is_among, is_head, is_listed, is_outstanding, stands_in}
+use Rattle.unit_core.specs.Queues.{unit_named}
 use Rattle.unit_core.proofs.TidLemmas.{Contains-is_listed, is_among-Contains, is_listed-Contains, is_tid-same, unit_named-Contains}
 use Rattle.system_tables.specs.OfLog.{is_unconfirmed}
 use Rattle.trfc_protocol.specs.declared.held.HeldKind.TheVariants.{In, Out}
@@ -93,7 +94,8 @@ through-found through units none unit has = shown (is_listed unit.tid through) (
 
 -- ---- a world in which no unit is offered
 
-module _ {R : Type 0} (rules : Meaning) (lawful : IsLawful rules) (world : World R) (safe : Safe rules world) (clear : IsClear world) (unclaimed : world.claims ≡ [])
+module _ {R : Type 0} (rules : Meaning) (lawful : IsLawful rules) (world : World R) (safe : Safe rules world) (clear : IsClear world)
+    (unclaimed : world.claims ≡ [])
     (ups : (system : ℕ) → 1 ≤ system → system ≤ rules.systems → is_up world system ≡ true) where
   none-stopped : (system : ℕ) (way : Way) (destination : ℕ) (names : List (List ℕ))
       → list_any (λ name. is_stopped way destination name (log_of world system)) names ≡ false
@@ -142,7 +144,8 @@ module _ {R : Type 0} (rules : Meaning) (lawful : IsLawful rules) (world : World
             ap (may_move (is_stopped_outbound records)) named
             ∙ not_from_false (is_stopped_outbound records unit) (none-stopped system Outgoing unit.receiver unit.outq) in
             let offered : (up && free && open_ && moves) ≡ true =
-            and_from (up && free && open_) moves (and_from (up && free) open_ (and_from up free (committed-up system unit there.0) is_free) is_open) is_moving in
+            and_from (up && free && open_) moves (and_from (up && free) open_ (and_from up free (committed-up system unit there.0) is_free) is_open)
+            is_moving in
             both_ways (is_offered_outbound rules world unit.tid) (outbound unit.tid)
             (subst (λ s. (is_up world s && is_free_outbound (committed_by rules world s) (log_of world s) unit.tid && not (is_claimed Out unit.tid world.claims)
             && may_move (is_stopped_outbound (log_of world s)) (unit_named unit.tid (committed_by rules world s))) ≡ true) (sym its) offered)
@@ -171,7 +174,8 @@ module _ {R : Type 0} (rules : Meaning) (lawful : IsLawful rules) (world : World
             let moves = may_move (is_stopped_inbound records) (unit_named unit.tid units) in
             let is_up_there : up ≡ true = subst (λ s. is_up world s ≡ true) got.0 (ups unit.receiver sent.3 sent.4) in
             let is_free : free ≡ true =
-            is_free-from (executed records) (is_marked Incoming unit.tid records) (heads_inbound (executed records) units) (unit_named unit.tid units) unit named
+            is_free-from (executed records) (is_marked Incoming unit.tid records) (heads_inbound (executed records) units)
+            (unit_named unit.tid units) unit named
             (not-true (is_listed unit.tid (executed records)) there.1) (clear.unmarked system Incoming unit.tid)
             (inbound-first (executed records) units unit first) in
             let is_open : open_ ≡ true = ap (λ claims. not (is_claimed In unit.tid claims)) unclaimed in

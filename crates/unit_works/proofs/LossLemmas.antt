@@ -1,6 +1,7 @@
 -- A confirmation that is due after acts was due before them, or was lost; and one that was due is, or its unit was visited.
 use Rattle.std.specs.List.{cons_option, filter_map, list_any}
-use Rattle.std.proofs.Common.{◌≡◌, ◌==◌, ◌&&◌, ◌||◌, ◌⊎◌, ℕ, not, Bool, true, false, cond, Option, Some, None, List, [], ◌∷◌, ◌++◌, inl, inr, refl, sym, ap, subst, ◌∙◌}
+use Rattle.std.proofs.Common.{◌≡◌, ◌==◌, ◌&&◌, ◌||◌, ◌⊎◌, ℕ, not, Bool, true, false, cond, Option, Some, None, List, [], ◌∷◌, ◌++◌, inl, inr, refl, sym, ap}
+use Rattle.std.proofs.Common.{subst, ◌∙◌}
 use Rattle.std.proofs.Math.Bool.{or-true}
 use Rattle.std.proofs.lemmas.Bool.{and_from, and_parts, both_ways, cases_Bool, not-true, or_from}
 use Rattle.std.proofs.lemmas.Option.{same_Some}
@@ -34,7 +35,8 @@ use Rattle.wires.specs.declared.letter.Letter.{Letter}
 use Rattle.wires.specs.declared.letter.Letter.TheVariants.{Whole, LostRequest, LostReply, Twice, LostConfirmation}
 use Rattle.unit_works.specs.Acts.{Act, Acted, HasConfirmed, HasShipped, HaveActed, confirm, execute, loses, ship, takes}
 use Rattle.unit_works.specs.Events.{arrives_under, is_confirmation, is_confirmed_under, is_execution, is_sent_under, is_shipping, is_work}
-use Rattle.unit_works.specs.Trips.{AppendedAs, HaveGrown, closing, confirmation, execution, forgot, is_done, is_due, learnt_under, may_ship, noted_of, one_at, records_at, shipment, taken_in}
+use Rattle.unit_works.specs.Trips.{AppendedAs, HaveGrown, closing, confirmation, execution, forgot, is_done, is_due, learnt_under, may_ship, noted_of, one_at}
+use Rattle.unit_works.specs.Trips.{records_at, shipment, taken_in}
 use Rattle.unit_works.specs.Worked.{HaveOnlyClaimed, Lines, Worked}
 use Rattle.unit_works.proofs.GrowthLemmas.{appended-up}
 use Rattle.unit_works.proofs.LogLemmas.{EachIs, each-append, each-first, each-if, each-next, each-wider, listed-behind, record-here, records-on}

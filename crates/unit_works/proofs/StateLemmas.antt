@@ -27,9 +27,11 @@ use Rattle.trfc_protocol.specs.Happens.{after_arrival, after_busy, after_run, af
 use Rattle.trfc_protocol.specs.Legal.{IsLawful, is_commit, is_empty, is_operators}
 use Rattle.trfc_protocol.specs.Meaning.{Meaning}
 use Rattle.trfc_protocol.specs.Offered.{answer_to, is_offered_inbound, is_offered_outbound, may_arrive, offers_received_now}
-use Rattle.trfc_protocol.specs.RecordOf.{Writing, record_if, record_of, record_of_answer, record_of_answered, record_of_arrival, record_of_confirmation, record_of_ending, record_of_failure, record_of_loss, record_of_reply, record_of_run, record_of_work}
+use Rattle.trfc_protocol.specs.RecordOf.{Writing, record_if, record_of, record_of_answer, record_of_answered, record_of_arrival, record_of_confirmation}
+use Rattle.trfc_protocol.specs.RecordOf.{record_of_ending, record_of_failure, record_of_loss, record_of_reply, record_of_run, record_of_work}
 use Rattle.trfc_protocol.specs.Safe.{Safe}
-use Rattle.trfc_protocol.specs.Worlds.{claim_of, committed_by, committed_unit, is_up, log_of, log_or_none, offers_now, one_fall_more, rest_of, rest_or_none, state_down, state_of, state_with, up_or_not, with_claim, with_fall, with_record}
+use Rattle.trfc_protocol.specs.Worlds.{claim_of, committed_by, committed_unit, is_up, log_of, log_or_none, offers_now, one_fall_more, rest_of, rest_or_none}
+use Rattle.trfc_protocol.specs.Worlds.{state_down, state_of, state_with, up_or_not, with_claim, with_fall, with_record}
 use Rattle.trfc_protocol.proofs.RecordLemmas.{MayWrite-record, each-record}
 use Rattle.trfc_protocol.proofs.SafeLemmas.{committed_unit-is}
 use Rattle.trfc_protocol.proofs.WorldLemmas.{at_each_state, is_up-known, joins-with_state, state_of-elsewhere, state_of-here}

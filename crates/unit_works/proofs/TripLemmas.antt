@@ -46,8 +46,10 @@ use Rattle.unit_landscape.specs.Calls.{is_refused, reply_event, stands_out, was_
 use Rattle.wires.specs.declared.letter.Letter.{Letter}
 use Rattle.wires.specs.declared.letter.Letter.TheVariants.{Whole, LostRequest, LostReply, Twice, LostConfirmation}
 use Rattle.unit_works.specs.Events.{arrives_under, is_answered_under, is_confirmed_under, told_of}
-use Rattle.unit_works.specs.Trips.{Appended, AppendedAs, HaveGrown, Wholly, back_of, closing, confirmation, forgot, is_done, is_due, learnt_under, noted_of, one_at, shipment, taken_in}
-use Rattle.unit_works.specs.steps.Arriving.{AnsweredSo, ClaimsAre, HasAnswered, HasArrived, HasDelivered, Says, Tells, accepted, back_under, delivery, event_of, run_held, run_of}
+use Rattle.unit_works.specs.Trips.{Appended, AppendedAs, HaveGrown, Wholly, back_of, closing, confirmation, forgot, is_done, is_due, learnt_under, noted_of}
+use Rattle.unit_works.specs.Trips.{one_at, shipment, taken_in}
+use Rattle.unit_works.specs.steps.Arriving.{AnsweredSo, ClaimsAre, HasAnswered, HasArrived, HasDelivered, Says, Tells, accepted, back_under, delivery, event_of}
+use Rattle.unit_works.specs.steps.Arriving.{run_held, run_of}
 use Rattle.unit_works.specs.steps.Claims.{AreWith, WasCut}
 use Rattle.unit_works.specs.steps.Confirming.{sent_to}
 use Rattle.unit_works.specs.steps.Ending.{FinishedSo, IsRun, run_at}

@@ -2,7 +2,8 @@
 use Rattle.std.specs.Prelude.{slice_get}
 use Rattle.std.specs.List.{list_all}
 use Rattle.std.specs.Option.{unwrap_or}
-use Rattle.std.proofs.Common.{◌≡◌, ◌≢◌, ◌≤◌, ◌-◌, ◌^◌, ℕ, Bool, true, false, ◌&&◌, Option, Some, None, List, [], ◌∷◌, ◌++◌, inl, inr, refl, sym, ap, subst, ◌∙◌, arith}
+use Rattle.std.proofs.Common.{◌≡◌, ◌≢◌, ◌≤◌, ◌-◌, ◌^◌, ℕ, Bool, true, false, ◌&&◌, Option, Some, None, List, [], ◌∷◌, ◌++◌, inl, inr, refl, sym, ap, subst, ◌∙◌}
+use Rattle.std.proofs.Common.{arith}
 use Rattle.std.proofs.lemmas.Bool.{and_parts, and_from, both_ways, cases_Bool, cases_eq}
 use Rattle.std.proofs.lemmas.List.{get_or-set_other}
 use Rattle.std.proofs.lemmas.List.Folds.{list_all-append}
@@ -34,7 +35,8 @@ use Rattle.unit_works.specs.Events.{is_works_record, is_works_rest}
 use Rattle.unit_works.specs.Went.{HasCause, HasNotFallen, HasRisen, HaveWorksBehind, IsUnfit, StaysDown, WentOn}
 use Rattle.unit_works.proofs.FellLemmas.{fell-failed, fell-full, fell-up}
 use Rattle.unit_works.proofs.LogLemmas.{works-event, works-on, works-same}
-use Rattle.unit_works.proofs.StateLemmas.{IsOfWorks, fall-committed, fall-down, fall-is_down, fall-log, fall-only, fall-rest, is_step, step-committed, step-down, step-sent, step-up, step-works}
+use Rattle.unit_works.proofs.StateLemmas.{IsOfWorks, fall-committed, fall-down, fall-is_down, fall-log, fall-only, fall-rest, is_step, step-committed}
+use Rattle.unit_works.proofs.StateLemmas.{step-down, step-sent, step-up, step-works}
 
 -- ---- one after the other
 
@@ -103,7 +105,15 @@ module _ {R A V : Type 0} (meaning : R → Meaning) (faults : V → ℕ → ℕ)
 
   -- a record that does not fit at last did not
   unfit-last : IsUnfit meaning faults between after system → IsUnfit meaning faults before after system
-  unfit-last unfit = record { next = unfit.next; works = unfit.works; may = unfit.may; sent = unfit.sent; size = unfit.size; long = unfit.long; told = unfit.told }
+  unfit-last unfit = record {
+    next = unfit.next;
+    works = unfit.works;
+    may = unfit.may;
+    sent = unfit.sent;
+    size = unfit.size;
+    long = unfit.long;
+    told = unfit.told;
+  }
 
   -- a system that fell at last did so for its cause
   cause-last : (rest : Option Record) → HasNotFallen (faults before.vols (system - 1)) (faults between.vols (system - 1))

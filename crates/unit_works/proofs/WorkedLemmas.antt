@@ -45,7 +45,8 @@ use Rattle.wires.specs.declared.letter.Letter.{Letter}
 use Rattle.wires.specs.declared.letter.Letter.TheVariants.{Whole}
 use Rattle.wires.specs.Wires.{letters_left, next_letter}
 use Rattle.unit_works.specs.Claims.{AreOrGone, NoneAdded, OneFell}
-use Rattle.unit_works.specs.Events.{arrives_under, is_answered_under, is_arrival, is_confirmation, is_confirmed_under, is_confirming, is_delivery, is_end, is_claim, is_run, is_execution, is_lost, is_reply, is_shipping, is_work, told_of}
+use Rattle.unit_works.specs.Events.{arrives_under, is_answered_under, is_arrival, is_confirmation, is_confirmed_under, is_confirming, is_delivery, is_end}
+use Rattle.unit_works.specs.Events.{is_claim, is_run, is_execution, is_lost, is_reply, is_shipping, is_work, told_of}
 use Rattle.unit_works.specs.Finished.{finished_in}
 use Rattle.unit_works.specs.Acts.{HasShipped}
 use Rattle.unit_works.specs.Trips.{Appended, AppendedAs, confirmation, execution, forgot, is_due, learnt_under, may_ship, noted_of, one_at, shipment}
@@ -59,7 +60,8 @@ use Rattle.unit_works.specs.steps.Ending.{FinishedSo, ended_by, worked_by}
 use Rattle.unit_works.proofs.ArrivingLemmas.{claimed-committed}
 use Rattle.unit_works.proofs.ClaimLemmas.{claimed-executes, claimed-ships, found-last, stands-gone}
 use Rattle.unit_works.proofs.GrowthLemmas.{appended-on}
-use Rattle.unit_works.proofs.TripLemmas.{confirmed-cut, confirmed-ended, delivered-first, delivered-on, delivered-run, event-told, sent-lasts, sent-up, shipped-cut, shipped-noted}
+use Rattle.unit_works.proofs.TripLemmas.{confirmed-cut, confirmed-ended, delivered-first, delivered-on, delivered-run, event-told, sent-lasts, sent-up}
+use Rattle.unit_works.proofs.TripLemmas.{shipped-cut, shipped-noted}
 use Rattle.unit_works.proofs.WentLemmas.{up-least, went-on, went-same, went-whole, went-wider}
 
 -- what the rules of a landscape mean

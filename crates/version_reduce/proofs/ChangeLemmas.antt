@@ -16,11 +16,13 @@ without-none (tree root below after) = ap (λ b. tree root b (without (λ segmen
 -- a forest of which none changes is the same
 pub map_nodes-same : (forest : Forest) → map_nodes (λ segment. segment) forest ≡ forest
 map_nodes-same no_trees = refl
-map_nodes-same (tree root below after) = ap (λ b. tree root b (map_nodes (λ segment. segment) after)) (map_nodes-same below) ∙ ap (tree root below) (map_nodes-same after)
+map_nodes-same (tree root below after) = ap (λ b. tree root b (map_nodes (λ segment. segment) after)) (map_nodes-same below)
+    ∙ ap (tree root below) (map_nodes-same after)
 
 module _ (change : Segment → Segment) (keeps : (segment : Segment) → (change segment).type ≡ segment.type) where
   -- it hangs together as before
-  pub Hangs-map_nodes : (entries : List TypePlace) (above : Option ℕ) (forest : Forest) → Hangs entries above forest → Hangs entries above (map_nodes change forest)
+  pub Hangs-map_nodes : (entries : List TypePlace) (above : Option ℕ) (forest : Forest) → Hangs entries above forest →
+      Hangs entries above (map_nodes change forest)
   Hangs-map_nodes entries above no_trees hangs = tt
   Hangs-map_nodes entries above (tree root below after) hangs = (
     ap (parent_of entries) (keeps root) ∙ hangs.0,
@@ -42,7 +44,8 @@ module _ (change : Segment → Segment) (keeps : (segment : Segment) → (change
   IsOrdered-map entries [] ordered = tt
   IsOrdered-map entries (segment ∷ segments) ordered = (
     AllByRecursion-map (λ other. place_in entries (change segment).type ≤ place_in entries other.type) change segments
-        (AllByRecursion-weaker _ _ segments (λ other less. omega (arith, less, ap (place_in entries) (keeps segment), ap (place_in entries) (keeps other))) ordered.0),
+        (AllByRecursion-weaker _ _ segments (λ other less. omega (arith, less, ap (place_in entries) (keeps segment), ap (place_in entries) (keeps other)))
+        ordered.0),
     IsOrdered-map entries segments ordered.1,
   )
 
@@ -59,8 +62,10 @@ module _ (change : Segment → Segment) (keeps : (segment : Segment) → (change
       AllByRecursion-weaker _ _ entries (λ entry suffices. λ mandatory own. let least : entry.min ≤ count_of entry.segment children = suffices mandatory own in
       omega (arith, least, count_of-map entry.segment children)) enough
 
-  module _ (P : Family → Type 0) (mapped : (above : Option ℕ) (children : List Segment) → P (record { above = above; children = children }) → P (record { above = above; children = map change children })) where
-    family-map : (above : Option ℕ) (forest : Forest) → P (record { above = above; children = roots forest }) → P (record { above = above; children = roots (map_nodes change forest) })
+  module _ (P : Family → Type 0) (mapped : (above : Option ℕ) (children : List Segment) → P (record { above = above; children = children }) →
+      P (record { above = above; children = map change children })) where
+    family-map : (above : Option ℕ) (forest : Forest) → P (record { above = above; children = roots forest }) →
+        P (record { above = above; children = roots (map_nodes change forest) })
     family-map above forest is = subst (λ rs. P (record { above = above; children = rs })) (sym (roots-map_nodes forest)) (mapped above (roots forest) is)
 
     families_below-map : (forest : Forest) → AllByRecursion P (families_below forest) → AllByRecursion P (families_below (map_nodes change forest))
@@ -68,7 +73,8 @@ module _ (change : Segment → Segment) (keeps : (segment : Segment) → (change
     families_below-map (tree root below after) all =
         let parts = AllByRecursion-parts P (families_below below) (families_below after) all.1 in (
           subst (λ t. P (record { above = Some t; children = roots (map_nodes change below) })) (sym (keeps root)) (family-map (Some root.type) below all.0),
-          AllByRecursion-append P (families_below (map_nodes change below)) (families_below (map_nodes change after)) (families_below-map below parts.0) (families_below-map after parts.1),
+          AllByRecursion-append P (families_below (map_nodes change below)) (families_below (map_nodes change after)) (families_below-map below parts.0)
+              (families_below-map after parts.1),
         )
 
     families-map : (above : Option ℕ) (forest : Forest) → AllByRecursion P (families above forest) → AllByRecursion P (families above (map_nodes change forest))

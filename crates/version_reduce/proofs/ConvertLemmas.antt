@@ -21,7 +21,8 @@ use Rattle.version_reduce.specs.Converted.{replaces, converted_text}
 use Rattle.version_reduce.proofs.TextLemmas.{fields_of-all}
 
 -- the first row replaces the value
-first-replaces : (row : Convert) (rows : List Convert) (type field : ℕ) (value : List ℕ) → replaces type field value row ≡ true → converted_text (row ∷ rows) type field value ≡ row.to
+first-replaces : (row : Convert) (rows : List Convert) (type field : ℕ) (value : List ℕ) → replaces type field value row ≡ true →
+    converted_text (row ∷ rows) type field value ≡ row.to
 first-replaces row rows type field value is =
     ap (λ o. option_map_or (λ (r : Convert). r.to) o value) (cond-true (replaces type field value row) (Some row) (find (replaces type field value) rows) is)
 
@@ -31,7 +32,8 @@ first-passes : (row : Convert) (rows : List Convert) (type field : ℕ) (value :
 first-passes row rows type field value is =
     ap (λ o. option_map_or (λ (r : Convert). r.to) o value) (cond-false (replaces type field value row) (Some row) (find (replaces type field value) rows) is)
 
-module _ (rows : List Convert) (type field : ℕ) (value : List ℕ) (at : ℕ) (so_far : converted_text (drop at rows) type field value ≡ converted_text rows type field value) where
+module _ (rows : List Convert) (type field : ℕ) (value : List ℕ) (at : ℕ)
+    (so_far : converted_text (drop at rows) type field value ≡ converted_text rows type field value) where
   -- a row is passed
   pub row-passes : (row : Convert) → at < length rows → row ≡ get_or rows at row → replaces type field value row ≡ false
       → converted_text (drop (at + 1) rows) type field value ≡ converted_text rows type field value
@@ -40,7 +42,8 @@ module _ (rows : List Convert) (type field : ℕ) (value : List ℕ) (at : ℕ) 
       ∙ ap (λ rs. converted_text rs type field value) (sym (drop-here rows at row within here)) ∙ so_far
 
   -- a row replaces the value
-  pub row-replaces : (row : Convert) → at < length rows → row ≡ get_or rows at row → replaces type field value row ≡ true → row.to ≡ converted_text rows type field value
+  pub row-replaces : (row : Convert) → at < length rows → row ≡ get_or rows at row → replaces type field value row ≡ true →
+      row.to ≡ converted_text rows type field value
   row-replaces row within here is =
       sym (first-replaces row (drop (at + 1) rows) type field value is)
       ∙ ap (λ rs. converted_text rs type field value) (sym (drop-here rows at row within here)) ∙ so_far
@@ -49,10 +52,12 @@ module _ (rows : List Convert) (type field : ℕ) (value : List ℕ) (at : ℕ) 
   pub none-replaces : length rows ≤ at → value ≡ converted_text rows type field value
   none-replaces past = ap (λ rs. converted_text rs type field value) (sym (drop-past rows at past)) ∙ so_far
 
-module _ (definitions : Definitions) (type place : ℕ) (field : Field) (here : slice_get (all_fields definitions type) place ≡ Some field) (value : List ℕ) (fits : length value ≤ field.length) where
+module _ (definitions : Definitions) (type place : ℕ) (field : Field) (here : slice_get (all_fields definitions type) place ≡ Some field) (value : List ℕ)
+    (fits : length value ≤ field.length) where
   value_of-fits : (segment at : ℕ) (to : List ℕ) → segment ≡ type → at ≡ place → IsValueOf definitions segment at to → length to ≤ field.length
   value_of-fits segment at to same_type same_place is =
-      let own : slice_get (all_fields definitions segment) at ≡ Some field = ap (λ s. slice_get (all_fields definitions s) at) same_type ∙ ap (slice_get (all_fields definitions type)) same_place ∙ here in
+      let own : slice_get (all_fields definitions segment) at ≡ Some field = ap (λ s. slice_get (all_fields definitions s) at) same_type
+      ∙ ap (slice_get (all_fields definitions type)) same_place ∙ here in
       let same : is.field ≡ field = same_Some is.field field (sym is.here ∙ own) in
       omega (arith, is.is.fits, ap (λ f. f.length) same)
 
@@ -69,7 +74,8 @@ module _ (definitions : Definitions) (type place : ℕ) (field : Field) (here : 
   ]
 
 -- the converted values of a segment have room
-pub HaveRoom-converted : (definitions : Definitions) (rows : List Convert) (segment : Segment) → AreDefinitions definitions → AllByRecursion (IsConvert definitions) rows
+pub HaveRoom-converted : (definitions : Definitions) (rows : List Convert) (segment : Segment) → AreDefinitions definitions →
+    AllByRecursion (IsConvert definitions) rows
     → HaveRoom (fields_of definitions segment) (λ field. converted_text rows segment.type field (text_at definitions segment field))
 HaveRoom-converted definitions rows segment are all place field here =
     converted-fits definitions segment.type place field (fields_of-all definitions segment place field are here) (text_at definitions segment place)

@@ -45,14 +45,17 @@ unfolding IsDistinct
 no_entries = tt
 
 -- no type has two entries in the IDoc type of a message
-entries_apart : (model : Lists) (message : ℕ) → IsModel model → IsDistinct nat_eq (map (λ entry. entry.segment) (message_entries model.types model.messages message))
+entries_apart : (model : Lists) (message : ℕ) → IsModel model →
+    IsDistinct nat_eq (map (λ entry. entry.segment) (message_entries model.types model.messages message))
 entries_apart model message is = of_message (slice_get model.messages message)
   where
-    of_type : (o : Option IdocType) → (place : ℕ) → slice_get model.types place ≡ o → IsDistinct nat_eq (map (λ (entry : TypePlace). entry.segment) (option_map_or (λ (type : IdocType). type.segments) o []))
+    of_type : (o : Option IdocType) → (place : ℕ) → slice_get model.types place ≡ o →
+        IsDistinct nat_eq (map (λ (entry : TypePlace). entry.segment) (option_map_or (λ (type : IdocType). type.segments) o []))
     of_type None place here = no_entries
     of_type (Some type) place here = (AllByRecursion-at (IsIdocType model.definitions) model.types place type is.types.each here).apart
 
-    of_message : (o : Option Message) → IsDistinct nat_eq (map (λ (entry : TypePlace). entry.segment) (option_map_or (λ (m : Message). entries_at model.types m.idoctype) o []))
+    of_message : (o : Option Message) → IsDistinct nat_eq
+        (map (λ (entry : TypePlace). entry.segment) (option_map_or (λ (m : Message). entries_at model.types m.idoctype) o []))
     of_message None = no_entries
     of_message (Some m) = of_type (slice_get model.types m.idoctype) m.idoctype refl
 
@@ -61,7 +64,8 @@ AllNodes-both P Q no_trees one two = tt
 AllNodes-both P Q (tree root below after) one two = ((one.0, two.0), AllNodes-both P Q below one.1 two.1, AllNodes-both P Q after one.2 two.2)
 
 -- where segments go and nothing mandatory is missing
-left-IsOfMessage : (model : Lists) (message : ℕ) (goes : ℕ → Bool) (stays : Option ℕ → Bool) (forest : Forest) → StaysWhole (message_entries model.types model.messages message) goes stays
+left-IsOfMessage : (model : Lists) (message : ℕ) (goes : ℕ → Bool) (stays : Option ℕ → Bool) (forest : Forest) →
+    StaysWhole (message_entries model.types model.messages message) goes stays
     → IsOfMessage model message forest → IsOfMessage model message (without (λ segment. goes segment.type) forest)
 left-IsOfMessage model message goes stays forest whole is = let entries = message_entries model.types model.messages message in record {
   nodes = AllNodes-without_kept (IsNode model.definitions) (λ segment. goes segment.type) forest is.nodes;
@@ -71,14 +75,17 @@ left-IsOfMessage model message goes stays forest whole is = let entries = messag
 }
 
 -- where each segment changes and keeps its type
-changed-IsOfMessage : (model : Lists) (message : ℕ) (change : Segment → Segment) (forest : Forest) → ((segment : Segment) → (change segment).type ≡ segment.type)
+changed-IsOfMessage : (model : Lists) (message : ℕ) (change : Segment → Segment) (forest : Forest) →
+    ((segment : Segment) → (change segment).type ≡ segment.type)
     → ((segment : Segment) → IsNode model.definitions segment → IsNode model.definitions (change segment))
     → ((segment : Segment) → IsNode model.definitions segment → IsFitted model.definitions segment → IsFitted model.definitions (change segment))
     → IsOfMessage model message forest → IsOfMessage model message (map_nodes change forest)
 changed-IsOfMessage model message change forest keeps node fitted is = let entries = message_entries model.types model.messages message in record {
-  nodes = AllNodes-map_nodes (IsNode model.definitions) change forest (AllNodes-weaker (IsNode model.definitions) (λ s. IsNode model.definitions (change s)) forest node is.nodes);
+  nodes = AllNodes-map_nodes (IsNode model.definitions) change forest
+      (AllNodes-weaker (IsNode model.definitions) (λ s. IsNode model.definitions (change s)) forest node is.nodes);
   fitted = AllNodes-map_nodes (IsFitted model.definitions) change forest
-      (AllNodes-weaker (λ s. IsNode model.definitions s × IsFitted model.definitions s) (λ s. IsFitted model.definitions (change s)) forest (λ s both. fitted s both.0 both.1)
+      (AllNodes-weaker (λ s. IsNode model.definitions s × IsFitted model.definitions s) (λ s. IsFitted model.definitions (change s)) forest
+      (λ s both. fitted s both.0 both.1)
       (AllNodes-both (IsNode model.definitions) (IsFitted model.definitions) forest is.nodes is.fitted));
   hangs = Hangs-map_nodes change keeps entries None forest is.hangs;
   valid = IsValid-map_nodes change keeps entries forest is.valid;
@@ -98,7 +105,8 @@ removed-IsOfMessage model profile forest kept among is =
 
 reduced-type : (definitions : Definitions) (keep : List FieldPlace) (segment : Segment) → (reduced_segment definitions keep segment).type ≡ segment.type
 reduced-type definitions keep segment =
-    either_has (λ (s : Segment). s.type ≡ segment.type) (are_of keep segment.type) (with_texts definitions (reduced_text definitions keep segment) segment) segment refl refl
+    either_has (λ (s : Segment). s.type ≡ segment.type) (are_of keep segment.type) (with_texts definitions (reduced_text definitions keep segment) segment)
+    segment refl refl
 
 -- after reduction
 pub reduced-IsOfMessage : (model : Lists) (profile : Outbound) (message : ℕ) (forest : Forest) → IsModel model
@@ -135,7 +143,8 @@ module _ (definitions : Definitions) (segment : Segment) (release : ℕ) where
   released-type (Some version) = refl
 
   module _ (node : IsNode definitions segment) where
-    released-IsNode : (o : Option ℕ) → given_version definitions release segment ≡ o → IsNode definitions (option_map_or (with_version definitions segment) o segment)
+    released-IsNode : (o : Option ℕ) → given_version definitions release segment ≡ o →
+        IsNode definitions (option_map_or (with_version definitions segment) o segment)
     released-IsNode None is = node
     released-IsNode (Some version) is =
         let newest = (found-newest (min release (own_release definitions segment)) (versions_of definitions segment.type) version).0 is in
@@ -144,7 +153,14 @@ module _ (definitions : Definitions) (segment : Segment) (release : ℕ) where
         record {
           definition = newest.version;
           here = newest.here;
-          short = omega (arith, ap length cut, length-trimmed (take (width_of newest.version.fields) segment.sdata), length-take (width_of newest.version.fields) segment.sdata, node.short);
+          short = omega (
+            arith,
+            ap length cut,
+            length-trimmed (take (width_of newest.version.fields) segment.sdata),
+            length-take
+                (width_of newest.version.fields) segment.sdata,
+            node.short,
+          );
           ends = ap trimmed cut ∙ trimmed-trimmed (take (width_of newest.version.fields) segment.sdata) ∙ sym cut;
         }
 
@@ -159,16 +175,19 @@ module _ (definitions : Definitions) (segment : Segment) (release : ℕ) where
 
 -- after the release, where none of a type that is removed was left
 pub released-IsOfMessage : (model : Lists) (profile : Outbound) (forest : Forest) → IsModel model → Contains model.outbound profile
-    → AllNodes (λ segment. removes profile segment.type ≡ false) forest → IsOfMessage model profile.message forest → IsOfMessage model profile.message (released model profile forest)
+    → AllNodes (λ segment. removes profile segment.type ≡ false) forest → IsOfMessage model profile.message forest →
+    IsOfMessage model profile.message (released model profile forest)
 released-IsOfMessage model profile forest kept among gone is =
     let definitions = model.definitions in
     let entries = message_entries model.types model.messages profile.message in
     let out = λ (type : ℕ). removes profile type || drops definitions profile type in
     let whole = leaves_whole model profile kept among in
     let left = left-IsOfMessage model profile.message out _ forest
-    (stays_whole out entries (entries_apart model profile.message kept) (none_missed (removes profile) (drops definitions profile) entries whole.removed whole.dropped)) is in
+    (stays_whole out entries (entries_apart model profile.message kept)
+    (none_missed (removes profile) (drops definitions profile) entries whole.removed whole.dropped)) is in
     let same = without-agree (λ s. drops definitions profile s.type) (λ s. out s.type) forest
-    (AllNodes-weaker (λ s. removes profile s.type ≡ false) (λ s. drops definitions profile s.type ≡ out s.type) forest (λ s stays. ap (λ b. b || drops definitions profile s.type) (sym stays)) gone) in
+    (AllNodes-weaker (λ s. removes profile s.type ≡ false) (λ s. drops definitions profile s.type ≡ out s.type) forest
+    (λ s stays. ap (λ b. b || drops definitions profile s.type) (sym stays)) gone) in
     changed-IsOfMessage model profile.message (released_segment definitions profile.release) (without (λ s. drops definitions profile s.type) forest)
     (λ s. released-type definitions s profile.release (given_version definitions profile.release s))
     (λ s node. released-IsNode definitions s profile.release node (given_version definitions profile.release s) refl)
@@ -180,12 +199,14 @@ changed-gone : (profile : Outbound) (change : Segment → Segment) (forest : For
     → AllNodes (λ segment. removes profile segment.type ≡ false) forest → AllNodes (λ segment. removes profile segment.type ≡ false) (map_nodes change forest)
 changed-gone profile change forest keeps gone =
     AllNodes-map_nodes (λ s. removes profile s.type ≡ false) change forest
-    (AllNodes-weaker (λ s. removes profile s.type ≡ false) (λ s. removes profile (change s).type ≡ false) forest (λ s is. ap (removes profile) (keeps s) ∙ is) gone)
+    (AllNodes-weaker (λ s. removes profile s.type ≡ false) (λ s. removes profile (change s).type ≡ false) forest (λ s is. ap (removes profile) (keeps s) ∙ is)
+    gone)
 
 pub reduced-gone : (model : Lists) (profile : Outbound) (forest : Forest) → AllNodes (λ segment. removes profile segment.type ≡ false) forest
     → AllNodes (λ segment. removes profile segment.type ≡ false) (reduced model profile forest)
 reduced-gone model profile forest gone =
-    changed-gone profile (reduced_segment model.definitions (kept_fields model profile)) forest (reduced-type model.definitions (kept_fields model profile)) gone
+    changed-gone profile (reduced_segment model.definitions (kept_fields model profile)) forest (reduced-type model.definitions (kept_fields model profile))
+    gone
 
 pub converted-gone : (model : Lists) (profile : Outbound) (forest : Forest) → AllNodes (λ segment. removes profile segment.type ≡ false) forest
     → AllNodes (λ segment. removes profile segment.type ≡ false) (converted model profile forest)

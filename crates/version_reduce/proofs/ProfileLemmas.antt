@@ -39,7 +39,8 @@ outbound_of-Contains model row profile found = of_row (slice_get model.rows row)
     at_place None found = absurd (cc)
     at_place (Some place) found = Contains-at model.outbound place profile found
 
-    of_row : (o : Option Row) → option_and_then (λ row. option_and_then (slice_get model.outbound) (position (same_way (row_way row)) (outbound_ways model.outbound))) o ≡ Some profile
+    of_row : (o : Option Row) → option_and_then
+        (λ row. option_and_then (slice_get model.outbound) (position (same_way (row_way row)) (outbound_ways model.outbound))) o ≡ Some profile
         → Contains model.outbound profile
     of_row None found = absurd (cc)
     of_row (Some row) found = at_place (position (same_way (row_way row)) (outbound_ways model.outbound)) found

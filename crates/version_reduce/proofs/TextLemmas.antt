@@ -2,7 +2,8 @@
 use Rattle.std.specs.Prelude.{slice_get}
 use Rattle.std.specs.List.{AllPairs, IsDistinct}
 use Rattle.std.specs.Option.{option_map_or}
-use Rattle.std.proofs.Common.{◌≡◌, ℕ, ◌+◌, ◌-◌, ◌<◌, ◌≤◌, ◌⊎◌, inl, inr, Option, Some, None, List, [], ◌∷◌, ◌++◌, length, take, get_or, length-append, true, false, eqb, ◌≢◌, refl, sym, ap, subst, ◌∙◌, arith}
+use Rattle.std.proofs.Common.{◌≡◌, ℕ, ◌+◌, ◌-◌, ◌<◌, ◌≤◌, ◌⊎◌, inl, inr, Option, Some, None, List, [], ◌∷◌, ◌++◌, length, take, get_or, length-append, true}
+use Rattle.std.proofs.Common.{false, eqb, ◌≢◌, refl, sym, ap, subst, ◌∙◌, arith}
 use Rattle.std.proofs.lemmas.Bool.Decides.{eqb_tells}
 use Rattle.std.proofs.lemmas.List.{take_more, length-take-le, get_or_append_left}
 use Rattle.std.proofs.lemmas.Option.{slice_get-get_or, slice_get_within, get_or_from_slice_get}
@@ -24,7 +25,8 @@ use Rattle.idoc_tree.specs.Spells.{fitted_by}
 use Rattle.version_reduce.specs.Texts.{fields_of, with_texts}
 
 -- the field at a place that was read
-pub field-at : (fields : List Field) (place : ℕ) (field : Field) → place < length fields → field ≡ get_or fields place field → slice_get fields place ≡ Some field
+pub field-at : (fields : List Field) (place : ℕ) (field : Field) → place < length fields → field ≡ get_or fields place field →
+    slice_get fields place ≡ Some field
 field-at fields place field within here = slice_get-get_or fields place field within ∙ ap Some (sym here)
 
 -- each field is as a definition may have it
@@ -32,11 +34,13 @@ pub field-is : (fields : List Field) (place : ℕ) (field : Field) → AreFields
 field-is fields place field are here = AllByRecursion-at IsField fields place field are.each here
 
 -- one more text is joined
-pub joined-more : (fields : List Field) (texts : ℕ → List ℕ) (place : ℕ) (field : Field) (before after text : List ℕ) → place < length fields → field ≡ get_or fields place field
+pub joined-more : (fields : List Field) (texts : ℕ → List ℕ) (place : ℕ) (field : Field) (before after text : List ℕ) → place < length fields →
+    field ≡ get_or fields place field
     → before ≡ texts_joined (take place fields) texts → after ≡ before ++ padded field.length text → text ≡ texts place
     → after ≡ texts_joined (take (place + 1) fields) texts
 joined-more fields texts place field before after text within here so_far written is =
-    let more : take (place + 1) fields ≡ take place fields ++ field ∷ [] = take_more fields place field within ∙ ap (λ f. take place fields ++ f ∷ []) (sym here) in
+    let more : take (place + 1) fields ≡ take place fields ++ field ∷ [] = take_more fields place field within
+    ∙ ap (λ f. take place fields ++ f ∷ []) (sym here) in
     let long : length (take place fields) ≡ place = length-take-le place fields (omega (arith, within)) in
     written ∙ ap (λ b. b ++ padded field.length text) so_far
     ∙ ap (λ t. texts_joined (take place fields) texts ++ padded field.length t) (is ∙ ap texts (sym long))
@@ -56,7 +60,8 @@ fields_of-AreFields definitions segment are = at (version_of definitions segment
     at (Some version) here = (version-IsVersion definitions segment.type segment.version version are here).fields
 
 -- a segment with texts that have room is a segment
-pub with_texts-IsNode : (definitions : Definitions) (texts : ℕ → List ℕ) (segment : Segment) → AreDefinitions definitions → HaveRoom (fields_of definitions segment) texts
+pub with_texts-IsNode : (definitions : Definitions) (texts : ℕ → List ℕ) (segment : Segment) → AreDefinitions definitions →
+    HaveRoom (fields_of definitions segment) texts
     → IsNode definitions segment → IsNode definitions (with_texts definitions texts segment)
 with_texts-IsNode definitions texts segment are room is = record {
   definition = is.definition;
@@ -76,15 +81,18 @@ with_texts-IsFitted definitions texts segment room is =
     ∙ ap (λ fs. data_of fs texts) (sym fields_are)
 
 -- a field of an earlier definition is the field at its place of the newest one
-continued-at : (earlier newest : Version) (place : ℕ) (field : Field) → Continues earlier newest → slice_get earlier.fields place ≡ Some field → slice_get newest.fields place ≡ Some field
+continued-at : (earlier newest : Version) (place : ℕ) (field : Field) → Continues earlier newest → slice_get earlier.fields place ≡ Some field →
+    slice_get newest.fields place ≡ Some field
 continued-at earlier newest place field continues here =
     let within : place < length earlier.fields = slice_get_within earlier.fields place field here in
-    let longer : length newest.fields ≡ length earlier.fields + length continues.added = ap length continues.fields ∙ length-append earlier.fields continues.added in
+    let longer : length newest.fields ≡ length earlier.fields + length continues.added = ap length continues.fields
+    ∙ length-append earlier.fields continues.added in
     slice_get-get_or newest.fields place field (omega arith)
     ∙ ap Some (ap (λ fs. get_or fs place field) continues.fields ∙ get_or_append_left earlier.fields continues.added field place within
     ∙ get_or_from_slice_get earlier.fields place field field here)
 
-last_fields-at : (versions : List Version) (version place : ℕ) (one : Version) (field : Field) → AllPairs Continues versions → slice_get versions version ≡ Some one
+last_fields-at : (versions : List Version) (version place : ℕ) (one : Version) (field : Field) → AllPairs Continues versions →
+    slice_get versions version ≡ Some one
     → slice_get one.fields place ≡ Some field → slice_get (last_fields versions) place ≡ Some field
 last_fields-at versions version place one field pairs here at =
     let within : version < length versions = slice_get_within versions version one here in
@@ -107,7 +115,8 @@ last_fields-at versions version place one field pairs here at =
         m_or_n (inr other) = inr (omega (arith, other.1))
 
 -- a field of a segment is the field at its place among all of its type
-pub fields_of-all : (definitions : Definitions) (segment : Segment) (place : ℕ) (field : Field) → AreDefinitions definitions → slice_get (fields_of definitions segment) place ≡ Some field
+pub fields_of-all : (definitions : Definitions) (segment : Segment) (place : ℕ) (field : Field) → AreDefinitions definitions →
+    slice_get (fields_of definitions segment) place ≡ Some field
     → slice_get (all_fields definitions segment.type) place ≡ Some field
 fields_of-all definitions segment place field are here = in_type (slice_get definitions.types segment.type) refl here
   where
@@ -117,7 +126,9 @@ fields_of-all definitions segment place field are here = in_type (slice_get defi
     in_version type (Some one) is at here = last_fields-at type.versions segment.version place one field is.continued at here
 
     in_type : (o : Option SegmentType) → slice_get definitions.types segment.type ≡ o
-        → slice_get (option_map_or (λ (v : Version). v.fields) (slice_get (option_map_or (λ (type : SegmentType). type.versions) o []) segment.version) []) place ≡ Some field
+        → slice_get (option_map_or (λ (v : Version). v.fields) (slice_get (option_map_or (λ (type : SegmentType). type.versions) o []) segment.version) [])
+        place ≡ Some field
         → slice_get (last_fields (option_map_or (λ (type : SegmentType). type.versions) o [])) place ≡ Some field
     in_type None at here = absurd (cc)
-    in_type (Some type) at here = in_version type (slice_get type.versions segment.version) (AllByRecursion-at IsSegmentType definitions.types segment.type type are.each at) refl here
+    in_type (Some type) at here = in_version type (slice_get type.versions segment.version)
+        (AllByRecursion-at IsSegmentType definitions.types segment.type type are.each at) refl here

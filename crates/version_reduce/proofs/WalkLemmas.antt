@@ -26,25 +26,29 @@ module _ (goes : Segment → Bool) (change : Segment → Segment) where
     counted = long ∙ ap length (sym same);
   }
 
-  module _ (made left all rest : List Node) (count next : ℕ) (node : Node) (walk : IsWalk goes change made left count all) (first : left ≡ node ∷ rest) (less : next + 1 ≡ count) where
+  module _ (made left all rest : List Node) (count next : ℕ) (node : Node) (walk : IsWalk goes change made left count all) (first : left ≡ node ∷ rest)
+      (less : next + 1 ≡ count) where
     counted_behind : next ≡ length rest
     counted_behind = omega (arith, walk.counted, ap length first)
 
     -- a node goes
     pub walk-passes : goes (tree_of node).root ≡ true → IsWalk goes change made rest next all
     walk-passes is = record {
-      so_far = ap (joined (forest_of made)) (sym (walked-gone (tree_of node).root (tree_of node).below (forest_of rest) is) ∙ ap (λ ns. walked goes change (forest_of ns)) (sym first)) ∙ walk.so_far;
+      so_far = ap (joined (forest_of made)) (sym (walked-gone (tree_of node).root (tree_of node).below (forest_of rest) is)
+          ∙ ap (λ ns. walked goes change (forest_of ns)) (sym first)) ∙ walk.so_far;
       counted = counted_behind;
     }
 
     -- a node stays
-    pub walk-keeps : (one : Node) (more : List Node) → more ≡ made ++ one ∷ [] → goes (tree_of node).root ≡ false → (tree_of one).root ≡ change (tree_of node).root
+    pub walk-keeps : (one : Node) (more : List Node) → more ≡ made ++ one ∷ [] → goes (tree_of node).root ≡ false →
+        (tree_of one).root ≡ change (tree_of node).root
         → (tree_of one).below ≡ walked goes change (tree_of node).below → IsWalk goes change more rest next all
     walk-keeps one more pushed is root below = let others = walked goes change (forest_of rest) in record {
       so_far = ap (λ ns. joined (forest_of ns) others) pushed ∙ forest_of-push made one others
           ∙ ap (λ r. joined (forest_of made) (tree r (tree_of one).below others)) root
           ∙ ap (λ b. joined (forest_of made) (tree (change (tree_of node).root) b others)) below
-          ∙ ap (joined (forest_of made)) (sym (walked-kept (tree_of node).root (tree_of node).below (forest_of rest) is) ∙ ap (λ ns. walked goes change (forest_of ns)) (sym first))
+          ∙ ap (joined (forest_of made)) (sym (walked-kept (tree_of node).root (tree_of node).below (forest_of rest) is)
+          ∙ ap (λ ns. walked goes change (forest_of ns)) (sym first))
           ∙ walk.so_far;
       counted = counted_behind;
     }

@@ -2,7 +2,8 @@
 use Rattle.std.specs.Prelude.{nat_eq, slice_get, option_and_then}
 use Rattle.std.specs.List.{AllByRecursion, IsDistinct}
 use Rattle.std.specs.Option.{option_map, option_map_or}
-use Rattle.std.proofs.Common.{◌≡◌, ℕ, zero, suc, ◌+◌, ◌≤◌, ◌==◌, ◌||◌, ◌&&◌, Bool, true, false, not, cond, Option, Some, None, List, [], ◌∷◌, ◌++◌, length, map, refl, sym, ap, subst, ◌∙◌, arith, append_assoc, append-nil, length-append}
+use Rattle.std.proofs.Common.{◌≡◌, ℕ, zero, suc, ◌+◌, ◌≤◌, ◌==◌, ◌||◌, ◌&&◌, Bool, true, false, not, cond, Option, Some, None, List, [], ◌∷◌, ◌++◌, length, map}
+use Rattle.std.proofs.Common.{refl, sym, ap, subst, ◌∙◌, arith, append_assoc, append-nil, length-append}
 use Rattle.std.specs.List.{AllZip}
 use Rattle.std.proofs.lemmas.Bool.{eq-eqb, cond-true, cond-false}
 use Rattle.std.proofs.lemmas.Option.{same_Some, slice_get_past, slice_get-map}
@@ -41,7 +42,8 @@ told_at goes before (first ∷ entries) zero entry here =
     record {
       front = before;
       rest = behind.0;
-      parts = behind.1 ∙ append_assoc before (own ∷ []) behind.0 ∙ ap (λ (e : TypePlace). before ++ (goes e.segment || goes_below before e.parent) ∷ behind.0) same;
+      parts = behind.1 ∙ append_assoc before (own ∷ []) behind.0
+          ∙ ap (λ (e : TypePlace). before ++ (goes e.segment || goes_below before e.parent) ∷ behind.0) same;
       counted = omega arith;
     }
 told_at goes before (first ∷ entries) (suc place) entry here =
@@ -55,7 +57,8 @@ length-gone goes before (entry ∷ entries) =
     let own = goes entry.segment || goes_below before entry.parent in
     omega (arith, length-gone goes (before ++ own ∷ []) entries, length-append before (own ∷ []))
 
-at_front : (front rest : List Bool) (place : ℕ) → option_map_or (λ b. b) (slice_get (front ++ rest) place) false ≡ false → option_map_or (λ b. b) (slice_get front place) false ≡ false
+at_front : (front rest : List Bool) (place : ℕ) → option_map_or (λ b. b) (slice_get (front ++ rest) place) false ≡ false →
+    option_map_or (λ b. b) (slice_get front place) false ≡ false
 at_front [] rest place none = refl
 at_front (b ∷ front) rest zero none = none
 at_front (b ∷ front) rest (suc place) none = at_front front rest place none
@@ -69,12 +72,14 @@ at_middle [] rest b = refl
 at_middle (x ∷ front) rest b = at_middle front rest b
 
 -- where no type has two entries, the place of a type is that of its entry
-place_in-own : (entries : List TypePlace) (place : ℕ) (entry : TypePlace) → IsDistinct nat_eq (map (λ entry. entry.segment) entries) → slice_get entries place ≡ Some entry
+place_in-own : (entries : List TypePlace) (place : ℕ) (entry : TypePlace) → IsDistinct nat_eq (map (λ entry. entry.segment) entries) →
+    slice_get entries place ≡ Some entry
     → place_in entries entry.segment ≡ place
 unfolding IsDistinct
 place_in-own [] place entry apart here = absurd (cc)
 place_in-own (first ∷ entries) zero entry apart here =
-    cond-true (first.segment == entry.segment) 0 (suc (place_in entries entry.segment)) (eq-eqb first.segment entry.segment (ap (λ e. e.segment) (same_Some first entry here)))
+    cond-true (first.segment == entry.segment) 0 (suc (place_in entries entry.segment))
+    (eq-eqb first.segment entry.segment (ap (λ e. e.segment) (same_Some first entry here)))
 place_in-own (first ∷ entries) (suc place) entry apart here =
     let named : slice_get (map (λ (e : TypePlace). e.segment) entries) place ≡ Some entry.segment
     = slice_get-map (λ (e : TypePlace). e.segment) entries place ∙ ap (option_map (λ (e : TypePlace). e.segment)) here in
@@ -101,7 +106,8 @@ module _ (goes : ℕ → Bool) (entries : List TypePlace) (apart : IsDistinct na
   abbrev stays : Option ℕ → Bool
   stays above = may_stay (gone goes entries) entries above
 
-  stays-above : (parent : Option ℕ) (above : Option TypePlace) → option_and_then (slice_get entries) parent ≡ above → stays (option_map (λ e. e.segment) above) ≡ true
+  stays-above : (parent : Option ℕ) (above : Option TypePlace) → option_and_then (slice_get entries) parent ≡ above →
+      stays (option_map (λ e. e.segment) above) ≡ true
       → goes_below (gone goes entries) parent ≡ false
   stays-above None above found is = refl
   stays-above (Some place) None found is =
@@ -117,7 +123,8 @@ module _ (goes : ℕ → Bool) (entries : List TypePlace) (apart : IsDistinct na
 
   -- where what is above an entry stays, the entry does not go with it
   stays-below : (entry : TypePlace) → stays (type_above entries entry) ≡ true → goes_below (gone goes entries) entry.parent ≡ false
-  stays-below entry is = stays-above entry.parent (option_and_then (slice_get entries) entry.parent) refl (subst (λ o. stays o ≡ true) (by_entry entry.parent) is)
+  stays-below entry is = stays-above entry.parent (option_and_then (slice_get entries) entry.parent) refl
+      (subst (λ o. stays o ≡ true) (by_entry entry.parent) is)
     where
       by_entry : (parent : Option ℕ) → option_and_then (λ place. option_map (λ (above : TypePlace). above.segment) (slice_get entries place)) parent
           ≡ option_map (λ (above : TypePlace). above.segment) (option_and_then (slice_get entries) parent)
@@ -134,7 +141,8 @@ module _ (goes : ℕ → Bool) (entries : List TypePlace) (apart : IsDistinct na
       let parts : gone goes entries ≡ told.front ++ (goes entry.segment || goes_below told.front entry.parent) ∷ told.rest = told.parts in
       let at : length told.front ≡ place_in entries type = omega (arith, told.counted) in
       let front : goes_below told.front entry.parent ≡ false
-      = below_front told.front ((goes entry.segment || goes_below told.front entry.parent) ∷ told.rest) entry.parent (ap (λ g. goes_below g entry.parent) (sym parts) ∙ below) in
+      = below_front told.front ((goes entry.segment || goes_below told.front entry.parent) ∷ told.rest) entry.parent
+      (ap (λ g. goes_below g entry.parent) (sym parts) ∙ below) in
       let none : (goes entry.segment || goes_below told.front entry.parent) ≡ false
       = ap (λ b. b || goes_below told.front entry.parent) (ap goes own ∙ not_own) ∙ front in
       ap (λ o. not (option_map_or (λ b. b) o false))
@@ -163,7 +171,8 @@ at_wider (a ∷ few) [] place zip is = absurd zip
 at_wider (a ∷ few) (b ∷ more) zero zip is = zip.0 is
 at_wider (a ∷ few) (b ∷ more) (suc place) zip is = at_wider few more place zip.1 is
 
-below_wider : (few more : List Bool) (parent : Option ℕ) → AllZip (λ a b. a ≡ true → b ≡ true) few more → goes_below few parent ≡ true → goes_below more parent ≡ true
+below_wider : (few more : List Bool) (parent : Option ℕ) → AllZip (λ a b. a ≡ true → b ≡ true) few more → goes_below few parent ≡ true →
+    goes_below more parent ≡ true
 below_wider few more None zip is = absurd (cc)
 below_wider few more (Some place) zip is = at_wider few more place zip is
 
@@ -175,9 +184,11 @@ gone-wider goes wider each few more (entry ∷ entries) zip =
     let two = wider entry.segment || goes_below more entry.parent in
     gone-wider goes wider each (few ++ one ∷ []) (more ++ two ∷ []) entries
     (AllZip-snoc (λ a b. a ≡ true → b ≡ true) few more one two zip
-    (either (goes entry.segment) (goes_below few entry.parent) (wider entry.segment) (goes_below more entry.parent) (each entry.segment) (below_wider few more entry.parent zip)))
+    (either (goes entry.segment) (goes_below few entry.parent) (wider entry.segment) (goes_below more entry.parent) (each entry.segment)
+    (below_wider few more entry.parent zip)))
 
-missed-either : (mandatory one two below wider : Bool) → (mandatory && (one && not below)) ≡ false → (mandatory && (two && not wider)) ≡ false → (below ≡ true → wider ≡ true)
+missed-either : (mandatory one two below wider : Bool) → (mandatory && (one && not below)) ≡ false → (mandatory && (two && not wider)) ≡ false →
+    (below ≡ true → wider ≡ true)
     → (mandatory && ((one || two) && not wider)) ≡ false
 missed-either false one two below wider a b c = refl
 missed-either true false two below wider a b c = b
@@ -193,12 +204,15 @@ none_missed one two entries first second =
     let both = λ (type : ℕ). one type || two type in
     let wider = gone-wider one both (λ type is. ap (λ b. b || two type) is) [] [] entries tt in
     AllByRecursion-weaker _ _ entries
-    (λ entry missed. missed-either entry.mandatory (one entry.segment) (two entry.segment) (goes_below (gone one entries) entry.parent) (goes_below (gone both entries) entry.parent)
+    (λ entry missed. missed-either entry.mandatory (one entry.segment) (two entry.segment) (goes_below (gone one entries) entry.parent)
+    (goes_below (gone both entries) entry.parent)
     missed.0 missed.1 (below_wider (gone one entries) (gone both entries) entry.parent wider))
-    (AllByRecursion-both (λ entry. is_missed one (gone one entries) entry ≡ false) (λ entry. is_missed two (gone both entries) entry ≡ false) entries first second)
+    (AllByRecursion-both (λ entry. is_missed one (gone one entries) entry ≡ false) (λ entry. is_missed two (gone both entries) entry ≡ false) entries first
+    second)
 
 -- two tests that agree on each segment leave the same
-pub without-agree : (goes other : Segment → Bool) (forest : Forest) → AllNodes (λ segment. goes segment ≡ other segment) forest → without goes forest ≡ without other forest
+pub without-agree : (goes other : Segment → Bool) (forest : Forest) → AllNodes (λ segment. goes segment ≡ other segment) forest →
+    without goes forest ≡ without other forest
 without-agree goes other no_trees agree = refl
 without-agree goes other (tree root below after) agree =
     ap (λ b. cond b (without goes after) (tree root (without goes below) (without goes after))) agree.0

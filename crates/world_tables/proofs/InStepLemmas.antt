@@ -3,7 +3,8 @@ use Rattle.std.specs.Prelude.{slice_get, slice_set, slice_index_or, drop, is_som
 use Rattle.std.specs.Result.{is_err}
 use Rattle.std.specs.List.{list_all}
 use Rattle.std.specs.Option.{option_and_then, option_map_or}
-use Rattle.std.proofs.Common.{◌≡◌, ◌≢◌, ℕ, zero, suc, ◌-◌, ◌≤◌, ◌<◌, Bool, true, false, not, cond, ◌==◌, ◌&&◌, Option, Some, None, List, [], ◌∷◌, ◌++◌, length, inl, inr, refl, sym, ap, subst, ◌∙◌, arith}
+use Rattle.std.proofs.Common.{◌≡◌, ◌≢◌, ℕ, zero, suc, ◌-◌, ◌≤◌, ◌<◌, Bool, true, false, not, cond, ◌==◌, ◌&&◌, Option, Some, None, List, [], ◌∷◌, ◌++◌, length}
+use Rattle.std.proofs.Common.{inl, inr, refl, sym, ap, subst, ◌∙◌, arith}
 use Rattle.std.proofs.lemmas.Bool.{cases_eq, and_parts, and_left, and_right, both_ways, ne_eqb}
 use Rattle.std.proofs.lemmas.Option.{none-some, slice_get_within}
 use Rattle.std.proofs.lemmas.List.{length-set}
@@ -52,7 +53,8 @@ claim-there : (way : Way) (all : List AleUnit) (log : List Record) (claims : Tid
     → AreQueuesOver way all log claims queues → unit_of tid queues ≡ Some unit → claim_of tid queues ≡ claims tid
 claim-there way all log claims queues tid unit are there =
     let open_ = not (is_listed tid (through way log)) in
-    let from = option_map-Some (queued way log claims) (cond open_ (unit_named tid all) None) unit (sym (unit_of-log way all log claims queues tid are) ∙ there) in
+    let from = option_map-Some (queued way log claims) (cond open_ (unit_named tid all) None) unit (sym (unit_of-log way all log claims queues tid are)
+    ∙ there) in
     ap (option_and_then (λ (u : QueuedUnit). u.claim)) there
     ∙ ap (λ (u : QueuedUnit). u.claim) (sym from.2)
     ∙ ap claims (unit_named-Some tid all from.0 (if-Some open_ (unit_named tid all) from.0 from.1)).1
@@ -157,7 +159,8 @@ ChangedAt-set Change place xs old new at changes = record {
 }
 
 -- the item of a number, from 1, is set
-pub ChangedAt-row : {A : Type 0} (Change : A → A → Type 0) (number n : ℕ) (xs : List A) (old new : A) → n ≡ number → slice_get xs (n - 1) ≡ Some old → Change old new
+pub ChangedAt-row : {A : Type 0} (Change : A → A → Type 0) (number n : ℕ) (xs : List A) (old new : A) → n ≡ number → slice_get xs (n - 1) ≡ Some old →
+    Change old new
     → ChangedAt Change (number - 1) xs (slice_set xs (n - 1) new)
 ChangedAt-row Change number n xs old new same at changes =
     subst (λ k. ChangedAt Change (k - 1) xs (slice_set xs (n - 1) new)) same (ChangedAt-set Change (n - 1) xs old new at changes)
@@ -291,7 +294,8 @@ module _ {A : Type 0} (stands : A → List Record → Type 0) (rules : Meaning) 
   of_other held kind system tid differs =
       and_left (is_kind held.kind kind && (held.system == system)) (is_tid held.tid tid) (and_left (is_kind held.kind kind) (held.system == system) differs)
 
-  module _ (claims after : List Held) (held : Held) (number : Option ℕ) (place : ℕ) (at : held.system ≡ suc place) (is : IsClaimed held number claims after) where
+  module _ (claims after : List Held) (held : Held) (number : Option ℕ) (place : ℕ) (at : held.system ≡ suc place)
+      (is : IsClaimed held number claims after) where
     -- the claims of a kind at a system, by their units' ids
     pub claims-by : (kind : HeldKind) → held.kind ≡ kind → Claims held.tid number (claim_at kind (suc place) claims) (claim_at kind (suc place) after)
     claims-by kind same = record {
@@ -376,7 +380,8 @@ module _ {A : Type 0} (stands : A → List Record → Type 0) (rules : Meaning) 
   }
 
   -- a claim is made or given up in the tables of its system, by its kind
-  pub in_step-by_kind : (claims after : List Held) (held : Held) (number : Option ℕ) (kind : HeldKind) (systems : List SystemState) (tables its : List (TablesOf A))
+  pub in_step-by_kind : (claims after : List Held) (held : Held) (number : Option ℕ) (kind : HeldKind) (systems : List SystemState)
+      (tables its : List (TablesOf A))
       → held.kind ≡ kind → 1 ≤ held.system → ChangedAt (λ old now. now ≡ tables_claimed kind held.tid number old) (held.system - 1) tables its
       → AreInStep stands rules systems claims tables → IsClaimed held number claims after → AreInStep stands rules systems after its
   in_step-by_kind claims after held number kind systems tables its same least changed are is =

@@ -50,7 +50,8 @@ module _ {A : Type 0} (stands : A → List Record → Type 0) (rules : Meaning) 
       gone : IsClaimed held None claims after
       gone = numbered-gone number held claims apart ends.found
 
-      by : (kind : HeldKind) (tid : TidOf) → held.kind ≡ kind → held.tid ≡ tid → Claims tid None (claim_at kind (suc place) claims) (claim_at kind (suc place) after)
+      by : (kind : HeldKind) (tid : TidOf) → held.kind ≡ kind → held.tid ≡ tid →
+          Claims tid None (claim_at kind (suc place) claims) (claim_at kind (suc place) after)
       by kind tid same its = subst (λ t. Claims t None (claim_at kind (suc place) claims) (claim_at kind (suc place) after)) its
           (claims-by stands rules claims after held None place ends.at gone kind same)
 
@@ -88,7 +89,8 @@ module _ {A : Type 0} (stands : A → List Record → Type 0) (rules : Meaning) 
     -- a record joins the log of a system that is up, its units are entered, and it is noted, with what goes with it and that log
     pub in_step-noted : (goes : A → List Record → Type 0) (systems_after : List SystemState) (after : List (TablesOf A)) (claim : Option ℕ)
         → ((state : SystemState) → slice_get systems place ≡ Some state
-        → (state.up ≡ true) × Joins (rules.committed (suc place) state.log) more state.log claim (claim_at Out (suc place) claims) (claim_at In (suc place) claims) next)
+        → (state.up ≡ true) × Joins (rules.committed (suc place) state.log) more state.log claim (claim_at Out (suc place) claims)
+        (claim_at In (suc place) claims) next)
         → EndsNamed claims (suc place) next claim
         → ChangedAt (λ old new. new ≡ state_with next old) place systems systems_after
         → ChangedAt (λ old now. Noted stands goes next more (entered more old) now) place tables after
@@ -96,14 +98,16 @@ module _ {A : Type 0} (stands : A → List Record → Type 0) (rules : Meaning) 
         → AreInStep stands rules systems_after (claims_without claims claim) after
     in_step-noted goes systems_after after claim joins ends grown noted made =
         in_step-changed stands rules systems systems_after claims (claims_without claims claim) tables after place (λ old new. new ≡ state_with next old)
-        (λ old now. Noted stands goes next more (entered more old) now × (slice_get tables place ≡ Some old)) is grown (ChangedAt-known place tables after noted)
+        (λ old now. Noted stands goes next more (entered more old) now × (slice_get tables place ≡ Some old)) is grown
+        (ChangedAt-known place tables after noted)
         (elsewhere claim next ends)
         (λ state new old now known same its are.
         let committed = rules.committed (suc place) state.log in
         let sent = claim_at Out (suc place) (claims_without claims claim) in
         let arrived = claim_at In (suc place) (claims_without claims claim) in
         let join = joins state known in
-        let one = AreTablesOf-noted stands goes committed more state.log claim (claim_at Out (suc place) claims) (claim_at In (suc place) claims) sent arrived next old now
+        let one = AreTablesOf-noted stands goes committed more state.log claim (claim_at Out (suc place) claims) (claim_at In (suc place) claims) sent arrived
+        next old now
         (are.up join.0) join.1 (claims_after-joins committed more state.log claim next ends join.1) its.0 (made state old known its.1) in
         subst (λ (s : SystemState). AreTablesAt stands rules (claims_without claims claim) (suc place) s now) (sym same) (record {
           units = (its.0).units ∙ ap (λ units. units ++ more) are.units ∙ sym (commits state known);

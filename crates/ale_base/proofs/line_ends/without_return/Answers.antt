@@ -19,7 +19,8 @@ kept : (line : List ℕ) → Snoc line → pointwise nat_eq (drop (length line -
 kept _ none differs = refl
 kept _ (some front last) differs =
     elim (eqb_tells last 13) [
-      | inl is ↦ absurd (false≢true (sym differs ∙ (bytes_decides (drop (length (front ++ last ∷ []) - 1) (front ++ last ∷ [])) (13 ∷ [])).1 (last_byte front last ∙ ap (λ b. b ∷ []) is.1)))
+      | inl is ↦ absurd (false≢true (sym differs ∙ (bytes_decides (drop (length (front ++ last ∷ []) - 1) (front ++ last ∷ [])) (13 ∷ [])).1
+          (last_byte front last ∙ ap (λ b. b ∷ []) is.1)))
       | inr other ↦ sym (without_return-other front last other.0)
     ]
 
@@ -28,7 +29,8 @@ returns-in-Some c =
     let line = c.args.line.now in
     let found = c.in-Some.ensures.cases in
     let ends : drop (length line - 1) line ≡ 13 ∷ [] = (bytes_decides (drop (length line - 1) line) (13 ∷ [])).0 found.0 in
-    let whole : take (length line - 1) line ++ 13 ∷ [] ≡ line = ap (λ end. take (length line - 1) line ++ end) (sym ends) ∙ take-append-drop (length line - 1) line in
+    let whole : take (length line - 1) line ++ 13 ∷ [] ≡ line = ap (λ end. take (length line - 1) line ++ end) (sym ends)
+    ∙ take-append-drop (length line - 1) line in
     found.1 ∙ sym (without_return-return (take (length line - 1) line)) ∙ ap without_return whole
 
 pub returns-in-None : goal.returns-in-None

@@ -15,7 +15,8 @@ run-requires-clause-said g c = λ lives outlive.
     let order = c.in-Ok.ensures.runs in
     ap said order.1.1.1.2.text_is
     ∙ said-of order.0 order.1.0
-    (asks-said (map string_bytes c.args.words.now) (g.F.Files.told c.args.files.now) c.in-Ok.field-0.report order.0 order.1.0 order.1.1.0 order.1.1.1.0 order.1.1.1.1)
+    (asks-said (map string_bytes c.args.words.now) (g.F.Files.told c.args.files.now) c.in-Ok.field-0.report order.0 order.1.0 order.1.1.0 order.1.1.1.0
+    order.1.1.1.1)
     ∙ ap (λ (model : Lists). Some model) (sym order.1.1.1.2.model_is)
 
 pub returns-in-Err-clause-ended : goal.returns-in-Err-clause-ended

@@ -7,7 +7,10 @@ use Rattle.ale_host.proofs.ClosingLemmas.{none-failed}
 use Rattle.ale_host.proofs.running.load_opened.Goals as goal
 
 pub close_load-status-requires : goal.close_load-status-requires
-close_load-status-requires g c = record { taken = none-failed c.run_script-stage.result.end _ _ c.run_script-stage.ensures.run.0 c.run_script-stage.ensures.run.2 }
+close_load-status-requires g c = record {
+  taken = none-failed c.run_script-stage.result.end _ _ c.run_script-stage.ensures.run.0
+      c.run_script-stage.ensures.run.2;
+}
 
 pub returns-clause-ended : goal.returns-clause-ended
 returns-clause-ended g c = λ not_6.
@@ -26,7 +29,8 @@ returns-clause-ended g c = λ not_6.
           left = c.run_script-stage.result.stage;
           run = ran.1;
           line = last.0;
-          ends = subst (λ (counts : Counts). EndsCounting counts (arc_value c.args.inputs.now.model) ends c.close_load-status.result last.0) c.counts-counts.ensures
+          ends = subst (λ (counts : Counts). EndsCounting counts (arc_value c.args.inputs.now.model) ends c.close_load-status.result last.0)
+              c.counts-counts.ensures
               (subst (λ (model : Lists). EndsCounting c.counts-counts.result model ends c.close_load-status.result last.0) c.deref.ensures last.1);
           printed_is = refl;
           sure_is = refl;

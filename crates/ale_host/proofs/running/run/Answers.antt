@@ -49,7 +49,14 @@ returns-in-Err-clause-write_fault g c = λ is_6.
 pub run_opened-requires : goal.run_opened-requires
 run_opened-requires g c = (
   c.type_bounds.send-V,
-  (c.type_bounds.sync-R, (c.type_bounds.sync-G, opened-up (length (arc_value c.args.prepared.model).systems) c.args.prepared.text (Some c.now-moment.result) c.in-Ok.landscape c.in-Ok.ensures.opened)),
+  (
+    c.type_bounds.sync-R,
+    (
+      c.type_bounds.sync-G,
+      opened-up (length (arc_value c.args.prepared.model).systems) c.args.prepared.text
+          (Some c.now-moment.result) c.in-Ok.landscape c.in-Ok.ensures.opened,
+    ),
+  ),
 )
 
 pub returns-in-Commands-clause-ended : goal.returns-in-Commands-clause-ended
@@ -66,11 +73,13 @@ returns-in-Commands-clause-ended g c = λ not_6.
       (
         ran.1.0,
         ran-from disk c.args.prepared.text (arc_value c.args.prepared.model) c.args.prepared.inputs.masters c.args.prepared.commands
-            c.as_slice-commands.result.now c.args.vols c.run_opened.result.vols c.args.report Commands (g.C.Clock.told c.run_opened.new.clock) (g.C.Clock.given c.args.clock.now)
+            c.as_slice-commands.result.now c.args.vols c.run_opened.result.vols c.args.report Commands (g.C.Clock.told c.run_opened.new.clock)
+            (g.C.Clock.given c.args.clock.now)
             (g.C.Clock.given c.now-moment.new.self) (g.C.Clock.given c.run_opened.new.clock) c.run_opened.result.status ran.0 ran.1.0
             c.now-moment.result c.in-Ok.landscape c.args.prepared.inputs
             (record { world = c.in-Ok.ensures.opened; empty = c.in-Ok.ensures.why; still = c.in-Ok.ensures.faults; left = c.in-Ok.ensures.volumes })
-            c.requires.names refl (λ tells. c.now-moment.ensures.given (c.run_opened.ensures.told tells)) c.as_slice-commands.ensures (sym c.in-Commands.is) ran.1.1,
+            c.requires.names refl (λ tells. c.now-moment.ensures.given (c.run_opened.ensures.told tells)) c.as_slice-commands.ensures
+            (sym c.in-Commands.is) ran.1.1,
         ran.1.2,
       ),
     )
@@ -91,11 +100,13 @@ returns-in-Commands-clause-write_fault g c = λ is_6.
         (
           ran.1.1.0,
           ran-from disk c.args.prepared.text (arc_value c.args.prepared.model) c.args.prepared.inputs.masters c.args.prepared.commands
-              c.as_slice-commands.result.now c.args.vols c.run_opened.result.vols c.args.report Commands (g.C.Clock.told c.run_opened.new.clock) (g.C.Clock.given c.args.clock.now)
+              c.as_slice-commands.result.now c.args.vols c.run_opened.result.vols c.args.report Commands (g.C.Clock.told c.run_opened.new.clock)
+              (g.C.Clock.given c.args.clock.now)
               (g.C.Clock.given c.now-moment.new.self) (g.C.Clock.given c.run_opened.new.clock) ran.0 ran.1.0 ran.1.1.0
               c.now-moment.result c.in-Ok.landscape c.args.prepared.inputs
               (record { world = c.in-Ok.ensures.opened; empty = c.in-Ok.ensures.why; still = c.in-Ok.ensures.faults; left = c.in-Ok.ensures.volumes })
-              c.requires.names refl (λ tells. c.now-moment.ensures.given (c.run_opened.ensures.told tells)) c.as_slice-commands.ensures (sym c.in-Commands.is) ran.1.1.1,
+              c.requires.names refl (λ tells. c.now-moment.ensures.given (c.run_opened.ensures.told tells)) c.as_slice-commands.ensures
+              (sym c.in-Commands.is) ran.1.1.1,
           ran.1.1.2,
         ),
       ),
@@ -104,7 +115,14 @@ returns-in-Commands-clause-write_fault g c = λ is_6.
 pub load_opened-requires : goal.load_opened-requires
 load_opened-requires g c = (
   c.type_bounds.send-V,
-  (c.type_bounds.sync-R, (c.type_bounds.sync-G, opened-up (length (arc_value c.args.prepared.model).systems) c.args.prepared.text (Some c.now-moment.result) c.in-Ok.landscape c.in-Ok.ensures.opened)),
+  (
+    c.type_bounds.sync-R,
+    (
+      c.type_bounds.sync-G,
+      opened-up (length (arc_value c.args.prepared.model).systems) c.args.prepared.text
+          (Some c.now-moment.result) c.in-Ok.landscape c.in-Ok.ensures.opened,
+    ),
+  ),
 )
 
 pub returns-clause-ended : goal.returns-clause-ended
@@ -121,11 +139,13 @@ returns-clause-ended g c = λ not_6.
       (
         ran.1.0,
         ran-from disk c.args.prepared.text (arc_value c.args.prepared.model) c.args.prepared.inputs.masters c.args.prepared.commands
-            c.as_slice-commands.result.now c.args.vols c.load_opened.result.vols c.args.report Counts (g.C.Clock.told c.load_opened.new.clock) (g.C.Clock.given c.args.clock.now)
+            c.as_slice-commands.result.now c.args.vols c.load_opened.result.vols c.args.report Counts (g.C.Clock.told c.load_opened.new.clock)
+            (g.C.Clock.given c.args.clock.now)
             (g.C.Clock.given c.now-moment.new.self) (g.C.Clock.given c.load_opened.new.clock) c.load_opened.result.status ran.0 ran.1.0
             c.now-moment.result c.in-Ok.landscape c.args.prepared.inputs
             (record { world = c.in-Ok.ensures.opened; empty = c.in-Ok.ensures.why; still = c.in-Ok.ensures.faults; left = c.in-Ok.ensures.volumes })
-            c.requires.names refl (λ tells. c.now-moment.ensures.given (c.load_opened.ensures.told tells)) c.as_slice-commands.ensures (sym c.in-Counts.is) ran.1.1,
+            c.requires.names refl (λ tells. c.now-moment.ensures.given (c.load_opened.ensures.told tells)) c.as_slice-commands.ensures
+            (sym c.in-Counts.is) ran.1.1,
         ran.1.2,
       ),
     )
@@ -146,11 +166,13 @@ returns-clause-write_fault g c = λ is_6.
         (
           ran.1.1.0,
           ran-from disk c.args.prepared.text (arc_value c.args.prepared.model) c.args.prepared.inputs.masters c.args.prepared.commands
-              c.as_slice-commands.result.now c.args.vols c.load_opened.result.vols c.args.report Counts (g.C.Clock.told c.load_opened.new.clock) (g.C.Clock.given c.args.clock.now)
+              c.as_slice-commands.result.now c.args.vols c.load_opened.result.vols c.args.report Counts (g.C.Clock.told c.load_opened.new.clock)
+              (g.C.Clock.given c.args.clock.now)
               (g.C.Clock.given c.now-moment.new.self) (g.C.Clock.given c.load_opened.new.clock) ran.0 ran.1.0 ran.1.1.0
               c.now-moment.result c.in-Ok.landscape c.args.prepared.inputs
               (record { world = c.in-Ok.ensures.opened; empty = c.in-Ok.ensures.why; still = c.in-Ok.ensures.faults; left = c.in-Ok.ensures.volumes })
-              c.requires.names refl (λ tells. c.now-moment.ensures.given (c.load_opened.ensures.told tells)) c.as_slice-commands.ensures (sym c.in-Counts.is) ran.1.1.1,
+              c.requires.names refl (λ tells. c.now-moment.ensures.given (c.load_opened.ensures.told tells)) c.as_slice-commands.ensures
+              (sym c.in-Counts.is) ran.1.1.1,
           ran.1.1.2,
         ),
       ),

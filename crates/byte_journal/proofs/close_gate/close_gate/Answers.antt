@@ -37,7 +37,8 @@ pub write_synced-requires-clause-place : goal.write_synced-requires-clause-place
 write_synced-requires-clause-place g c = λ told.
     let held = (g.V.Volumes.volume c.args.vols.now c.args.n).contents in
     let log = c.requires.reads.0 in
-    gate_within held log c.args.gate (ReadsTo-front held log c.args.gate (subst (λ (b : List ℕ). ReadsTo b log c.args.gate) (c.requires.front told) c.requires.reads.1))
+    gate_within held log c.args.gate (ReadsTo-front held log c.args.gate
+    (subst (λ (b : List ℕ). ReadsTo b log c.args.gate) (c.requires.front told) c.requires.reads.1))
 
 pub returns-clause-closed : goal.returns-clause-closed
 returns-clause-closed g c = λ told log front_reads.
@@ -46,8 +47,10 @@ returns-clause-closed g c = λ told log front_reads.
     let new = V.volume c.write_synced.new.vols c.args.n in
     let reads = ReadsTo-front old.contents log c.args.gate (subst (λ (b : List ℕ). ReadsTo b log c.args.gate) (c.requires.front told) front_reads) in
     let whole = closed-front old.contents c.args.bytes.now c.args.gate (gate-low old.contents log c.args.gate reads) (c.requires.front told) in
-    let not_closed : (c.args.gate < length old.contents) × (get_or old.contents c.args.gate 0 ≢ open_gate) → ⊥ = λ here. let yes : c.is_closed.result ≡ true = c.is_closed.ensures.1 (whole.0 here) in cc in
-    on_ok c.write_synced.result (c.write_synced.ensures.written told) (λ written. subst (λ (v : Volume). IsClosed v.contents log) (sym written) (gate_closed old.contents log c.args.gate reads not_closed))
+    let not_closed : (c.args.gate < length old.contents) × (get_or old.contents c.args.gate 0 ≢ open_gate) → ⊥ = λ here.
+    let yes : c.is_closed.result ≡ true = c.is_closed.ensures.1 (whole.0 here) in cc in
+    on_ok c.write_synced.result (c.write_synced.ensures.written told)
+    (λ written. subst (λ (v : Volume). IsClosed v.contents log) (sym written) (gate_closed old.contents log c.args.gate reads not_closed))
 
 pub returns-clause-leaves : goal.returns-clause-leaves
 returns-clause-leaves g c = λ told.
@@ -58,8 +61,10 @@ returns-clause-leaves g c = λ told.
     let new = V.volume c.write_synced.new.vols c.args.n in
     let reads = ReadsTo-front old.contents log c.args.gate (subst (λ (b : List ℕ). ReadsTo b log c.args.gate) (c.requires.front told) front_reads) in
     let whole = closed-front old.contents c.args.bytes.now c.args.gate (gate-low old.contents log c.args.gate reads) (c.requires.front told) in
-    let not_closed : (c.args.gate < length old.contents) × (get_or old.contents c.args.gate 0 ≢ open_gate) → ⊥ = λ here. let yes : c.is_closed.result ≡ true = c.is_closed.ensures.1 (whole.0 here) in cc in
-    closed-leaves old new log c.args.gate reads not_closed c.write_synced.result (c.write_synced.ensures.written told) (c.write_synced.ensures.torn told) (c.write_synced.ensures.no_memory told)
+    let not_closed : (c.args.gate < length old.contents) × (get_or old.contents c.args.gate 0 ≢ open_gate) → ⊥ = λ here.
+    let yes : c.is_closed.result ≡ true = c.is_closed.ensures.1 (whole.0 here) in cc in
+    closed-leaves old new log c.args.gate reads not_closed c.write_synced.result (c.write_synced.ensures.written told) (c.write_synced.ensures.torn told)
+    (c.write_synced.ensures.no_memory told)
 
 -- a crash before the gate is durable leaves the same log
 pub returns-clause-any_moment : goal.returns-clause-any_moment
@@ -68,7 +73,8 @@ returns-clause-any_moment g c = λ told log front_reads.
     let old = V.volume c.args.vols.now c.args.n in
     let reads = ReadsTo-front old.contents log c.args.gate (subst (λ (b : List ℕ). ReadsTo b log c.args.gate) (c.requires.front told) front_reads) in
     let whole = closed-front old.contents c.args.bytes.now c.args.gate (gate-low old.contents log c.args.gate reads) (c.requires.front told) in
-    let not_closed : (c.args.gate < length old.contents) × (get_or old.contents c.args.gate 0 ≢ open_gate) → ⊥ = λ here. let yes : c.is_closed.result ≡ true = c.is_closed.ensures.1 (whole.0 here) in cc in
+    let not_closed : (c.args.gate < length old.contents) × (get_or old.contents c.args.gate 0 ≢ open_gate) → ⊥ = λ here.
+    let yes : c.is_closed.result ≡ true = c.is_closed.ensures.1 (whole.0 here) in cc in
     weaker V.moment V.images_since c.args.vols.now c.write_synced.new.vols c.args.n _ (λ image. Stands image log)
     (torn_close old.contents log c.args.gate reads not_closed)
     (c.write_synced.ensures.any_moment told (c.requires.held told))

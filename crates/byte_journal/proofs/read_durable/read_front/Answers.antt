@@ -11,6 +11,7 @@ returns-clause-read g c = λ told.
     let into = c.read_at.new.into in
     let same = ap (λ (v : Volume). v.contents) (c.in_ok-length.ensures.same told) in
     let long : length c.as_mut_slice.result.now ≡ min (length held) (most_bytes + 1) = search rules in
-    let read = c.in_ok-read_at.ensures.read told ∙ ap (λ (b : List ℕ). take (length c.as_mut_slice.result.now) b) same ∙ front-read held (length c.as_mut_slice.result.now) long in
+    let read = c.in_ok-read_at.ensures.read told ∙ ap (λ (b : List ℕ). take (length c.as_mut_slice.result.now) b) same
+    ∙ front-read held (length c.as_mut_slice.result.now) long in
     let size : length into ≡ c.in_ok-bytes.bytes.len = search rules in
     take_at into (drop (length into) c.in_ok-bytes.bytes.items) c.in_ok-bytes.bytes.len size ∙ read

@@ -12,4 +12,5 @@ records-preserved c =
     let found = subst (λ (behind : List ℕ). BeginsWithRecord gate behind body) c.split_at.ensures.back c.in-Some.ensures.found in
     let pushed : c.push.new.self ≡ c.records.log ++ body ∷ [] =
     c.in_ok-push.ensures.ok ∙ ap (λ (b : List ℕ). c.records.log ++ b ∷ []) (c.from_vec.ensures ∙ c.in_ok-from_slice.ensures.items) in
-    subst (λ (log : List (List ℕ)). IsReadTo bytes log (gate + (5 + length body))) (sym pushed) (read-more bytes c.records.log gate c.records.invariant opens.0 opens.1 body found)
+    subst (λ (log : List (List ℕ)). IsReadTo bytes log (gate + (5 + length body))) (sym pushed)
+    (read-more bytes c.records.log gate c.records.invariant opens.0 opens.1 body found)

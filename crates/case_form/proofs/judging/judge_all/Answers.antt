@@ -12,4 +12,5 @@ loop-file-preserved g c =
     let R : CaseFile → JudgedCase → Type 0 = IsJudgementOf (g.S.Suite.comes_out c.args.suite.now) in
     let more = take_more c.args.files.now c.loop-file.file-index c.file-item.result c.loop-file-test.true in
     rw (c.in_ok-push.ensures.items, more, ← c.file-item.is)
-    (AllZip-snoc R (take c.loop-file.file-index c.args.files.now) c.loop-file.judged.items c.file-item.result c.in_ok-judge.field-0 c.loop-file.invariant c.in_ok-judge.ensures)
+    (AllZip-snoc R (take c.loop-file.file-index c.args.files.now) c.loop-file.judged.items c.file-item.result c.in_ok-judge.field-0 c.loop-file.invariant
+    c.in_ok-judge.ensures)

@@ -22,5 +22,6 @@ loop-place-preserved c =
     c.text_of-text.ensures.text ∙ ap (λ (at : ℕ). take field.length (if place == at then key else value_in field.name values)) c.from.ensures in
     c.in_ok-put_text.ensures.ok
     ∙ ap (λ (front : List ℕ). front ++ padded field.length c.text_of-text.result.now) c.loop-place.invariant
-    ∙ ap (λ (t : List ℕ). texts_joined (take place fields) texts ++ padded field.length t) (text ∙ sym (object_text-at fields c.args.key_place key values place field here))
+    ∙ ap (λ (t : List ℕ). texts_joined (take place fields) texts ++ padded field.length t)
+    (text ∙ sym (object_text-at fields c.args.key_place key values place field here))
     ∙ sym (texts-more fields texts place field c.loop-place-test.true c.index-fields-place.is)

@@ -25,10 +25,12 @@ loop-place-preserved c =
           ∙ append_assoc front (map point so_far) (point place ∷ [])
           ∙ ap (λ (more : List Pointer). front ++ more) (sym (map-append point so_far (place ∷ [])))
           ∙ ap (λ (places : List ℕ). front ++ map point places)
-          (sym (places_more_yes test messages place listed c.loop-place-test.true c.index-messages-place.is (sym c.lists_field.ensures ∙ w.if-lists_field.true)))
+          (sym (places_more_yes test messages place listed c.loop-place-test.true c.index-messages-place.is
+          (sym c.lists_field.ensures ∙ w.if-lists_field.true)))
       | else-lists_field w ↦
           w.pointers-is
           ∙ c.loop-place.invariant
           ∙ ap (λ (places : List ℕ). front ++ map point places)
-          (sym (places_more_no test messages place listed c.loop-place-test.true c.index-messages-place.is (sym c.lists_field.ensures ∙ w.if-lists_field.false)))
+          (sym (places_more_no test messages place listed c.loop-place-test.true c.index-messages-place.is
+          (sym c.lists_field.ensures ∙ w.if-lists_field.false)))
     ]

@@ -14,7 +14,8 @@ returns-then-eq c =
     let other = c.index-messages-place.result in
     let name = c.message_name-name.result.now in
     let at = drop-cons messages place other c.loop-place-test.true ∙ ap (λ (m : Message). m ∷ drop (suc place) messages) (sym c.index-messages-place.is) in
-    let here : drop place messages ≡ other ∷ drop (place + 1) messages = subst (λ (n : ℕ). drop place messages ≡ other ∷ drop n messages) (sym (add-one place)) at in
+    let here : drop place messages ≡ other ∷ drop (place + 1) messages = subst (λ (n : ℕ). drop place messages ≡ other ∷ drop n messages)
+    (sym (add-one place)) at in
     let same : is_text name other.name ≡ true = ap (is_text name) (sym c.as_slice.ensures) ∙ sym c.eq.ensures ∙ c.if-eq.true in
     sym (found-here (λ (m : Message). m.name) (is_text name) place messages other here same)
     ∙ c.loop-place.invariant
@@ -28,6 +29,7 @@ loop-place-preserved c =
     let other = c.index-messages-place.result in
     let name = c.message_name-name.result.now in
     let at = drop-cons messages place other c.loop-place-test.true ∙ ap (λ (m : Message). m ∷ drop (suc place) messages) (sym c.index-messages-place.is) in
-    let here : drop place messages ≡ other ∷ drop (place + 1) messages = subst (λ (n : ℕ). drop place messages ≡ other ∷ drop n messages) (sym (add-one place)) at in
+    let here : drop place messages ≡ other ∷ drop (place + 1) messages = subst (λ (n : ℕ). drop place messages ≡ other ∷ drop n messages)
+    (sym (add-one place)) at in
     let differs : is_text name other.name ≡ false = ap (is_text name) (sym c.as_slice.ensures) ∙ sym c.eq.ensures ∙ c.if-eq.false in
     found-behind (λ (m : Message). m.name) (is_text name) place messages other here differs ∙ c.loop-place.invariant

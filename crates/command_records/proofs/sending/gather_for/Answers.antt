@@ -28,8 +28,11 @@ commit_gathered-requires-clause-short c =
 
 pub returns : goal.returns
 returns c log are same is type here =
-    let its : c.type_at-ty.result.now ≡ type = same_Some c.type_at-ty.result.now type (sym (subst (λ (m : Lists). slice_get m.messages c.args.message ≡ Some c.type_at-ty.result.now) c.as_lists-lists.ensures.same c.type_at-ty.ensures) ∙ here) in
-    let asks = gathers log c.args.model.now c.args.message c.type_at-ty.result.now (λ none. let is_none = c.is_empty.ensures.1 none in let isnt = c.if-is_empty.false in cc) in
+    let its : c.type_at-ty.result.now ≡ type = same_Some c.type_at-ty.result.now type
+    (sym (subst (λ (m : Lists). slice_get m.messages c.args.message ≡ Some c.type_at-ty.result.now) c.as_lists-lists.ensures.same c.type_at-ty.ensures)
+    ∙ here) in
+    let asks = gathers log c.args.model.now c.args.message c.type_at-ty.result.now
+    (λ none. let is_none = c.is_empty.ensures.1 none in let isnt = c.if-is_empty.false in cc) in
     let objects = c.objects.ensures (applied_by log).application (c.inbound.ensures log are) in
     let pointers = c.pointers.ensures (applied_by log).application (c.inbound-2.ensures log are) in
     let docs : gathered_or_none (with_room log) c.type_at-ty.result.now.name
@@ -40,4 +43,5 @@ returns c log are same is type here =
     ∙ ap (λ (p : List Pointer). gathered c.args.model.now c.objects.result.now p c.args.message) (sym pointers) ∙ sym c.in_ok-docs.ensures)
     ∙ ap (λ (name : List ℕ). gathered_or_none (with_room log) name c.in_ok-docs.docs) (sym c.as_slice.ensures) in
     subst (λ (t : Message). JudgedOrNone log is_commit (gathered_for log c.args.model.now c.args.message t) c.commit_gathered.result) its
-    (subst (λ (asked : Asked). JudgedOrNone log is_commit asked c.commit_gathered.result) (sym (asks ∙ docs)) (c.commit_gathered.ensures log are same c.args.model.now is))
+    (subst (λ (asked : Asked). JudgedOrNone log is_commit asked c.commit_gathered.result) (sym (asks ∙ docs))
+    (c.commit_gathered.ensures log are same c.args.model.now is))

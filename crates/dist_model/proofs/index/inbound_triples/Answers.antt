@@ -15,9 +15,12 @@ pub unwrap-name-requires : goal.unwrap-name-requires
 unwrap-name-requires c =
     let profile = c.profile-item.result in
     let place = c.loop-profile.profile-index in
-    let here : slice_get c.args.profiles.now place ≡ Some profile = slice_get-get_or c.args.profiles.now place profile c.loop-profile-test.true ∙ ap Some (sym c.profile-item.is) in
-    let named : Contains c.args.names.now profile.message = AllByRecursion-at (λ (p : Inbound). Contains c.args.names.now p.message) c.args.profiles.now place profile c.requires.named here in
-    let found : position (is_text profile.message) c.args.names.now ≡ c.place.result = ap (λ n. position (is_text n) c.args.names.now) (sym c.as_slice.ensures) ∙ sym c.place.ensures.place in
+    let here : slice_get c.args.profiles.now place ≡ Some profile = slice_get-get_or c.args.profiles.now place profile c.loop-profile-test.true
+    ∙ ap Some (sym c.profile-item.is) in
+    let named : Contains c.args.names.now profile.message = AllByRecursion-at (λ (p : Inbound). Contains c.args.names.now p.message) c.args.profiles.now place
+    profile c.requires.named here in
+    let found : position (is_text profile.message) c.args.names.now ≡ c.place.result = ap (λ n. position (is_text n) c.args.names.now) (sym c.as_slice.ensures)
+    ∙ sym c.place.ensures.place in
     is_some c.place.result (λ none. (position-none profile.message c.args.names.now).0 (found ∙ none) named)
 
 pub loop-profile-preserved : goal.loop-profile-preserved
@@ -25,8 +28,10 @@ loop-profile-preserved c =
     let profile = c.profile-item.result in
     let found : position (is_text profile.message) c.args.names.now ≡ Some c.unwrap-name.result =
     ap (λ n. position (is_text n) c.args.names.now) (sym c.as_slice.ensures) ∙ sym c.place.ensures.place ∙ c.unwrap-name.ensures in
-    added_next same_triple same_triple-symmetric (inbound_triple c.args.names.now) c.args.profiles.now c.loop-profile.profile-index profile (c.from-receiver.result, c.from-sender.result, c.unwrap-name.result) []
-    c.loop-profile.triples c.add.new.self c.in_ok-add.field-0 (triples-apart c.args.names.now c.args.profiles.now c.requires.named c.requires.apart) c.profile-item.is
+    added_next same_triple same_triple-symmetric (inbound_triple c.args.names.now) c.args.profiles.now c.loop-profile.profile-index profile
+    (c.from-receiver.result, c.from-sender.result, c.unwrap-name.result) []
+    c.loop-profile.triples c.add.new.self c.in_ok-add.field-0 (triples-apart c.args.names.now c.args.profiles.now c.requires.named c.requires.apart)
+    c.profile-item.is
     (triple_same c.from-receiver.result c.from-sender.result c.unwrap-name.result profile.receiver profile.sender (name_place c.args.names.now profile.message)
     (c.from-receiver.ensures ∙ c.get.ensures.number) (c.from-sender.ensures ∙ c.get-in-loop-profile.ensures.number)
     (name_place-found c.args.names.now profile.message c.unwrap-name.result found))

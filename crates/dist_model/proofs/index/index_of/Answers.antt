@@ -6,4 +6,5 @@ use Rattle.dist_model.proofs.index.index_of.Goals as goal
 pub inbound_triples-requires-clause-named : goal.inbound_triples-requires-clause-named
 inbound_triples-requires-clause-named c =
     let model = c.args.lists.now in
-    rw (c.as_slice-6.ensures, c.in_ok-names.ensures, c.as_slice.ensures, c.as_slice-2.ensures) (AreNamed-of (length model.systems) (all_names model) model.inbound c.requires.inbound.each)
+    rw (c.as_slice-6.ensures, c.in_ok-names.ensures, c.as_slice.ensures, c.as_slice-2.ensures)
+    (AreNamed-of (length model.systems) (all_names model) model.inbound c.requires.inbound.each)

@@ -12,8 +12,11 @@ pub loop-number-preserved : goal.loop-number-preserved
 loop-number-preserved g c =
     let none = c.in_ok-claim_at.ensures.none (subst IsNone (sym c.in-None.is) refl) in (
       none.0 ∙ c.loop-number.invariant.0,
-      nothing-more c.args.landscape.now.world c.loop-number.number c.in-Some.system c.in-Some.ensures.found
-          (c.loop-number.invariant.1, subst (λ (k : KeptOf ModelRules DocumentTables g.row.V.Denot). NothingAt k.world c.in-Some.system) c.loop-number.invariant.0 none.1),
+      nothing-more c.args.landscape.now.world c.loop-number.number c.in-Some.system c.in-Some.ensures.found (
+        c.loop-number.invariant.1,
+        subst (λ (k : KeptOf ModelRules DocumentTables g.row.V.Denot). NothingAt k.world c.in-Some.system)
+            c.loop-number.invariant.0 none.1,
+      ),
     )
 
 pub returns-clause-claims : goal.returns-clause-claims

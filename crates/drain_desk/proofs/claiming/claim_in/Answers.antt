@@ -19,16 +19,19 @@ returns-in-None-clause-claims g c =
 
 pub returns-in_err-basis-in-Some-clause-claims : goal.returns-in_err-basis-in-Some-clause-claims
 returns-in_err-basis-in-Some-clause-claims g c =
-    let is = subst (λ found. IfSome found (IsExecuted (meaning c.args.landscape.now.world.rules) c.args.landscape.now.world c.claim_to_execute.new.landscape.world
+    let is = subst (λ found. IfSome found (IsExecuted (meaning c.args.landscape.now.world.rules) c.args.landscape.now.world
+    c.claim_to_execute.new.landscape.world
     c.args.system))
     c.in-Some.is c.in_ok-claim_to_execute.ensures.claim in
-    claims-in g.V.Volumes.faults c.args.landscape.now c.claim_to_execute.new.landscape (is_ok c.from_residual-in_err-basis-in-Some.result) c.args.system c.in-Some.claim
+    claims-in g.V.Volumes.faults c.args.landscape.now c.claim_to_execute.new.landscape (is_ok c.from_residual-in_err-basis-in-Some.result) c.args.system
+    c.in-Some.claim
     (whole-or-not is_run g.V.Volumes.faults c.args.landscape.now c.claim_to_execute.new.landscape (is_ok c.from_residual-in_err-basis-in-Some.result)
     c.in_ok-claim_to_execute.ensures.went) c.in_ok-claim_to_execute.ensures.only is
 
 pub returns-in_ok-basis-in-Some-clause-claims : goal.returns-in_ok-basis-in-Some-clause-claims
 returns-in_ok-basis-in-Some-clause-claims g c =
-    let is = subst (λ found. IfSome found (IsExecuted (meaning c.args.landscape.now.world.rules) c.args.landscape.now.world c.claim_to_execute.new.landscape.world
+    let is = subst (λ found. IfSome found (IsExecuted (meaning c.args.landscape.now.world.rules) c.args.landscape.now.world
+    c.claim_to_execute.new.landscape.world
     c.args.system))
     c.in-Some.is c.in_ok-claim_to_execute.ensures.claim in
     claims-in g.V.Volumes.faults c.args.landscape.now c.claim_to_execute.new.landscape true c.args.system c.in-Some.claim
@@ -36,10 +39,12 @@ returns-in_ok-basis-in-Some-clause-claims g c =
 
 pub returns-in_ok-basis-in-Some-clause-offer : goal.returns-in_ok-basis-in-Some-clause-offer
 returns-in_ok-basis-in-Some-clause-offer g c =
-    let is = subst (λ found. IfSome found (IsExecuted (meaning c.args.landscape.now.world.rules) c.args.landscape.now.world c.claim_to_execute.new.landscape.world
+    let is = subst (λ found. IfSome found (IsExecuted (meaning c.args.landscape.now.world.rules) c.args.landscape.now.world
+    c.claim_to_execute.new.landscape.world
     c.args.system))
     c.in-Some.is c.in_ok-claim_to_execute.ensures.claim in
     record {
-      may = may-in g.V.Volumes.faults c.args.landscape.now c.claim_to_execute.new.landscape c.args.system c.in-Some.claim c.world.ensures.safe c.in_ok-claim_to_execute.ensures.only is;
+      may = may-in g.V.Volumes.faults c.args.landscape.now c.claim_to_execute.new.landscape c.args.system c.in-Some.claim c.world.ensures.safe
+          c.in_ok-claim_to_execute.ensures.only is;
       base = subst (λ t. IsBasis c.claim_to_execute.new.landscape.world t c.in_ok-basis-in-Some.basis) c.tid.ensures c.in_ok-basis-in-Some.ensures;
     }

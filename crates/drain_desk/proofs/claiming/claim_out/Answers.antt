@@ -22,7 +22,8 @@ returns-in_err-basis-in-Some-clause-claims g c =
     let is = subst (λ found. IfSome found (IsShipped (meaning c.args.landscape.now.world.rules) c.args.landscape.now.world c.claim_to_ship.new.landscape.world
     c.args.system))
     c.in-Some.is c.in_ok-claim_to_ship.ensures.claim in
-    claims-out g.V.Volumes.faults c.args.landscape.now c.claim_to_ship.new.landscape (is_ok c.from_residual-in_err-basis-in-Some.result) c.args.system c.in-Some.claim
+    claims-out g.V.Volumes.faults c.args.landscape.now c.claim_to_ship.new.landscape (is_ok c.from_residual-in_err-basis-in-Some.result) c.args.system
+    c.in-Some.claim
     (whole-or-not is_claim g.V.Volumes.faults c.args.landscape.now c.claim_to_ship.new.landscape (is_ok c.from_residual-in_err-basis-in-Some.result)
     c.in_ok-claim_to_ship.ensures.went) c.in_ok-claim_to_ship.ensures.only is
 

@@ -14,7 +14,8 @@ work-drained-requires-clause-bare g c = λ lives outlive.
 
 pub returns-in-Ok : goal.returns-in-Ok
 returns-in-Ok g c =
-    drained-on g.V.Volumes.faults c.args.landscape c.revoke.new.self c.confirm_all.new.landscape c.work-drained.result.landscape c.args.wires c.confirm_all.new.wires
+    drained-on g.V.Volumes.faults c.args.landscape c.revoke.new.self c.confirm_all.new.landscape c.work-drained.result.landscape c.args.wires
+    c.confirm_all.new.wires
     c.work-drained.result.wires c.work-drained.result.end c.world.ensures.safe c.world-in-Ok.ensures.safe
     (revoked-went g.V.Volumes.faults c.args.landscape c.revoke.new.self c.world.ensures.safe c.revoke.ensures.event)
     (revoked-only g.V.Volumes.faults c.args.landscape c.revoke.new.self c.world.ensures.safe c.revoke.ensures.event c.revoke.ensures.volumes)

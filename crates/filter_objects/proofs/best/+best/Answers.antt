@@ -29,7 +29,8 @@ loop-node-preserved t c =
     let below_is : set_of below.items ≡ under =
     c.in_ok-below.ensures ∙ ap (λ ns. best needs test (forest_of ns)) c.deref.ensures.value ∙ ap (best needs test) (sym (below-out item)) in
     let kept_is = c.is_kept-kept.ensures
-    ∙ ap (λ m. test own.root && list_all (is_enough (part own.below m)) (needs (Some own.root.type))) (ap set_of c.deref-in-loop-node.ensures.value ∙ below_is) in
+    ∙ ap (λ m. test own.root && list_all (is_enough (part own.below m)) (needs (Some own.root.type))) (ap set_of c.deref-in-loop-node.ensures.value
+    ∙ below_is) in
     record {
       nodes = all.2;
       same =

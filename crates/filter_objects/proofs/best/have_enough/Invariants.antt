@@ -8,4 +8,5 @@ use Rattle.filter_objects.proofs.best.have_enough.Given as goal
 
 abbrev pub invariant-loop-entry : goal.invariant-loop-entry
 invariant-loop-entry l =
-    list_all (is_enough (part (forest_of l.nodes) (set_of l.set))) (drop l.entry-index l.entries) ≡ list_all (is_enough (part (forest_of l.nodes) (set_of l.set))) l.entries
+    list_all (is_enough (part (forest_of l.nodes) (set_of l.set))) (drop l.entry-index l.entries)
+    ≡ list_all (is_enough (part (forest_of l.nodes) (set_of l.set))) l.entries

@@ -26,7 +26,8 @@ loop-choice-preserved c = λ segment.
       | in-Some+in_ok-values+in_ok-push w ↦
           ap (λ v. suits_all model.definitions v.items segment && met rest) w.conditions-is
           ∙ ap (λ items. suits_all model.definitions items segment && met rest) w.in_ok-push.ensures.items
-          ∙ suits-push model segment old (record { segment = w.in-Some.filter.now.segment; field = w.in-Some.filter.now.field; values = w.in_ok-values.values }) choice w.in-Some.filter.now rest
+          ∙ suits-push model segment old (record { segment = w.in-Some.filter.now.segment; field = w.in-Some.filter.now.field; values = w.in_ok-values.values })
+          choice w.in-Some.filter.now rest
           (found ∙ ap option_copied w.in-Some.is) refl refl
           (subst (HasSame w.in_ok-values.values) w.as_slice.ensures w.in_ok-values.ensures)
           ∙ onward

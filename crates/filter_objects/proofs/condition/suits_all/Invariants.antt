@@ -6,4 +6,5 @@ use Rattle.filter_objects.proofs.condition.suits_all.Given as goal
 
 abbrev pub invariant-loop-condition : goal.invariant-loop-condition
 invariant-loop-condition l =
-    list_all (suits l.definitions (tree_of l.node).root) (drop l.condition-index l.conditions) ≡ list_all (suits l.definitions (tree_of l.node).root) l.conditions
+    list_all (suits l.definitions (tree_of l.node).root) (drop l.condition-index l.conditions)
+    ≡ list_all (suits l.definitions (tree_of l.node).root) l.conditions

@@ -15,5 +15,6 @@ loop-value-preserved c = λ text.
     (c.in_ok-add.ensures.new ∙ ap (λ v. not (list_any (is_text v) c.loop-value.table)) c.as_slice.ensures)
     (λ new. c.in_ok-add.ensures.added new ∙ ap (λ v. c.loop-value.table ++ v ∷ []) c.as_slice.ensures)
     c.in_ok-add.ensures.known text
-    ∙ ap (λ vs. list_any (is_text text) c.loop-value.table || list_any (is_text text) vs) (sym (drop-here values at value c.loop-value-test.true c.value-item.is))
+    ∙ ap (λ vs. list_any (is_text text) c.loop-value.table || list_any (is_text text) vs)
+    (sym (drop-here values at value c.loop-value-test.true c.value-item.is))
     ∙ c.loop-value.invariant text

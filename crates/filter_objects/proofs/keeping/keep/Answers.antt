@@ -22,7 +22,8 @@ pub returns-clause-one : goal.returns-clause-one
 returns-clause-one c =
     one_part c.args.model.now c.args.ty.now.segments (groups_of c.args.model.now c.args.row) (forest_of c.args.forest.now)
 
-is_kept : (c : In_ok-kept) → IsKeptPart c.args.model.now c.args.ty.now.segments (groups_of c.args.model.now c.args.row) (forest_of c.args.forest.now) (forest_of c.in_ok-kept.kept.items)
+is_kept : (c : In_ok-kept) → IsKeptPart c.args.model.now c.args.ty.now.segments (groups_of c.args.model.now c.args.row) (forest_of c.args.forest.now)
+    (forest_of c.in_ok-kept.kept.items)
 is_kept c =
     let entries = c.args.ty.now.segments in
     let forest = forest_of c.args.forest.now in
@@ -54,10 +55,12 @@ returns-clause-valid c =
 
 pub returns-clause-hangs : goal.returns-clause-hangs
 returns-clause-hangs c =
-    law-hangs c.args.model.now c.args.ty.now.segments None (groups_of c.args.model.now c.args.row) (forest_of c.args.forest.now) (forest_of c.in_ok-kept.kept.items)
+    law-hangs c.args.model.now c.args.ty.now.segments None (groups_of c.args.model.now c.args.row) (forest_of c.args.forest.now)
+    (forest_of c.in_ok-kept.kept.items)
     (is_kept (goal.at.returns-clause-hangs c).In_ok-kept)
 
 pub returns-clause-nodes : goal.returns-clause-nodes
 returns-clause-nodes c =
-    law-nodes (IsNode c.args.model.now.definitions) c.args.model.now c.args.ty.now.segments (groups_of c.args.model.now c.args.row) (forest_of c.args.forest.now) (forest_of c.in_ok-kept.kept.items)
+    law-nodes (IsNode c.args.model.now.definitions) c.args.model.now c.args.ty.now.segments (groups_of c.args.model.now c.args.row)
+    (forest_of c.args.forest.now) (forest_of c.in_ok-kept.kept.items)
     (is_kept (goal.at.returns-clause-nodes c).In_ok-kept) c.requires.nodes

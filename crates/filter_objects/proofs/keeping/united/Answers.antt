@@ -32,5 +32,6 @@ returns c =
     let needs = needs_at c.args.needs.now in
     let done = set_of c.loop-group.set.items in
     sym (union-none done)
-    ∙ ap (λ gs. union done (united needs (map (passes model) gs) (forest_of c.args.forest.now))) (sym (drop-past c.args.groups.now c.loop-group.group-index (omega arith)))
+    ∙ ap (λ gs. union done (united needs (map (passes model) gs) (forest_of c.args.forest.now)))
+    (sym (drop-past c.args.groups.now c.loop-group.group-index (omega arith)))
     ∙ c.loop-group.invariant

@@ -17,7 +17,8 @@ union_of-loop-at-preserved t c =
     let in_two : at < length two = omega arith in
     ap (λ items. followed (set_of items) rest) c.in_ok-push.ensures.items
     ∙ set_of-one c.loop-at.all.items member rest
-    ∙ ap (followed old) (sym (union-drop one two at c.index-one-at.result c.index-other-at.result member in_one in_two c.index-one-at.is c.index-other-at.is c.in_ok-member.ensures))
+    ∙ ap (followed old) (sym (union-drop one two at c.index-one-at.result c.index-other-at.result member in_one in_two c.index-one-at.is c.index-other-at.is
+    c.in_ok-member.ensures))
     ∙ c.loop-at.invariant
 
 pub union_of-returns : goal.union_of-returns

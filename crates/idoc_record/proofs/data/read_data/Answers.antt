@@ -20,4 +20,5 @@ pub invariant_of-result : goal.invariant_of-result
 invariant_of-result c = (read (goal.at.invariant_of-result c).In_ok-sdata).kept
 
 pub returns-clause-found : goal.returns-clause-found
-returns-clause-found c = λ data_record same. subst (IsDataLine c.args.bytes.now) (Ok-injective _ data_record same) (read (goal.at.returns-clause-found c).In_ok-sdata)
+returns-clause-found c = λ data_record same.
+    subst (IsDataLine c.args.bytes.now) (Ok-injective _ data_record same) (read (goal.at.returns-clause-found c).In_ok-sdata)

@@ -10,7 +10,16 @@ returns-clause-again c =
 
 pub returns-clause-bytes : goal.returns-clause-bytes
 returns-clause-bytes c =
-    rw (c.put_at-2.ensures, c.put_place.ensures, c.put_address.ensures, c.put_at.ensures, c.blank_record-record.ensures, c.trimmed.ensures.text, c.as_slice.ensures, ← c.line.view_is) refl
+    rw (
+      c.put_at-2.ensures,
+      c.put_place.ensures,
+      c.put_address.ensures,
+      c.put_at.ensures,
+      c.blank_record-record.ensures,
+      c.trimmed.ensures.text,
+      c.as_slice.ensures,
+      ← c.line.view_is,
+    ) refl
 
 pub returns-clause-whole : goal.returns-clause-whole
 returns-clause-whole c =

@@ -20,16 +20,19 @@ pub returns-clause-one_forest : goal.returns-clause-one_forest
 returns-clause-one_forest c = one_forest c.args.definitions.now c.args.ty.now.segments c.requires.kept.preorder c.args.lines.now
 
 pub returns-clause-nodes : goal.returns-clause-nodes
-returns-clause-nodes c = Spells-nodes c.args.definitions.now c.requires.definitions c.args.ty.now.segments c.args.lines.now (forest_of c.in_ok-forest.forest.items) c.in_ok-forest.ensures.nodes.0
+returns-clause-nodes c = Spells-nodes c.args.definitions.now c.requires.definitions c.args.ty.now.segments c.args.lines.now
+    (forest_of c.in_ok-forest.forest.items) c.in_ok-forest.ensures.nodes.0
 
 pub returns-clause-fitted : goal.returns-clause-fitted
-returns-clause-fitted c = Spells-fitted c.args.definitions.now c.requires.definitions c.args.ty.now.segments c.args.lines.now (forest_of c.in_ok-forest.forest.items) c.in_ok-forest.ensures.nodes.0
+returns-clause-fitted c = Spells-fitted c.args.definitions.now c.requires.definitions c.args.ty.now.segments c.args.lines.now
+    (forest_of c.in_ok-forest.forest.items) c.in_ok-forest.ensures.nodes.0
 
 same_fault : {T : Type 0} (fault other : SyntaxFault) → ◌≡◌ {A = Result T SyntaxFault} (Err fault) (Err other) → fault ≡ other
 same_fault fault other same = cc
 
 pub returns-clause-computed : goal.returns-clause-computed
-returns-clause-computed c = Builds-built c.args.definitions.now c.args.ty.now.segments c.requires.kept.preorder c.args.lines.now (Ok (forest_of c.in_ok-forest.forest.items)) c.in_ok-forest.ensures.nodes
+returns-clause-computed c = Builds-built c.args.definitions.now c.args.ty.now.segments c.requires.kept.preorder c.args.lines.now
+    (Ok (forest_of c.in_ok-forest.forest.items)) c.in_ok-forest.ensures.nodes
 
 pub returns-in_err-forest-clause-computed_fault : goal.returns-in_err-forest-clause-computed_fault
 returns-in_err-forest-clause-computed_fault c = λ fault returned other.

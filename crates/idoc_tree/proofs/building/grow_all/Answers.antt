@@ -22,12 +22,15 @@ pub returns-in_err-grow-clause-first_fault : goal.returns-in_err-grow-clause-fir
 returns-in_err-grow-clause-first_fault c = λ fault returned other.
     let exit = err_from_is_err_and c.from_residual.result c.from_residual.ensures.1 in
     let same : ◌≡◌ {A = SyntaxFault} exit.0 fault = same_fault exit.0 fault (sym exit.1 ∙ returned) in
-    refused_turn c.args.definitions.now c.args.ty.now.segments c.args.lines.now c.loop-index.index c.index-lines-index.result (forest_of c.loop-index.forest.items) c.loop-index-test.true c.index-lines-index.is c.loop-index.invariant fault
+    refused_turn c.args.definitions.now c.args.ty.now.segments c.args.lines.now c.loop-index.index c.index-lines-index.result
+    (forest_of c.loop-index.forest.items) c.loop-index-test.true c.index-lines-index.is c.loop-index.invariant fault
     (c.in_err-grow.ensures.fault fault (ap Err (sym exit.2 ∙ same)) other)
 
 pub loop-index-preserved : goal.loop-index-preserved
 loop-index-preserved c =
-    grown_turn c.args.definitions.now c.args.ty.now.segments c.args.lines.now c.loop-index.index c.index-lines-index.result (forest_of c.loop-index.forest.items) c.loop-index-test.true c.index-lines-index.is c.loop-index.invariant c.requires.kept.apart (forest_of c.grow.new.forest.items) c.in_ok-grow.ensures.ok
+    grown_turn c.args.definitions.now c.args.ty.now.segments c.args.lines.now c.loop-index.index c.index-lines-index.result
+    (forest_of c.loop-index.forest.items) c.loop-index-test.true c.index-lines-index.is c.loop-index.invariant c.requires.kept.apart
+    (forest_of c.grow.new.forest.items) c.in_ok-grow.ensures.ok
 
 pub index-requires : goal.index-requires
 index-requires c =
@@ -36,7 +39,8 @@ index-requires c =
     let lack = c.in-Some.ensures.some c.in-Some.segment refl in
     subst (λ n. n < length definitions.types) (sym (c.from.ensures ∙ c.segment.view_is))
     (first_lack-known (λ type. type < length definitions.types) entries (families None (forest_of c.deref.result.now)) c.in-Some.segment lack.0
-    (AllByRecursion-weaker (IsEntry definitions) (λ entry. entry.segment < length definitions.types) entries (λ entry kept. kept.known) c.requires.kept.each) lack.2)
+    (AllByRecursion-weaker (IsEntry definitions) (λ entry. entry.segment < length definitions.types) entries (λ entry kept. kept.known) c.requires.kept.each)
+    lack.2)
 
 pub returns-in-Some-clause-first_fault : goal.returns-in-Some-clause-first_fault
 returns-in-Some-clause-first_fault c = λ fault returned other.
@@ -44,9 +48,11 @@ returns-in-Some-clause-first_fault c = λ fault returned other.
     let entries = c.args.ty.now.segments in
     let lines = c.args.lines.now in
     let lack = c.in-Some.ensures.some c.in-Some.segment refl in
-    let same : ◌≡◌ {A = SyntaxFault} (Missing c.in_ok-name.name c.told_length.result) fault = same_fault (Missing c.in_ok-name.name c.told_length.result) fault returned in
+    let same : ◌≡◌ {A = SyntaxFault} (Missing c.in_ok-name.name c.told_length.result) fault = same_fault (Missing c.in_ok-name.name c.told_length.result) fault
+    returned in
     subst (IsFirstFault definitions entries lines) same
-    (missing_of_all definitions entries lines (forest_of c.loop-index.forest.items) c.in-Some.segment lack.0 c.index.result.now c.in_ok-name.name c.told_length.result
+    (missing_of_all definitions entries lines (forest_of c.loop-index.forest.items) c.in-Some.segment lack.0 c.index.result.now c.in_ok-name.name
+    c.told_length.result
     (all_stand definitions entries lines c.loop-index.index (forest_of c.loop-index.forest.items) c.loop-index-test.false c.loop-index.invariant)
     (sym (ap (λ nodes. first_lack entries (families None (forest_of nodes))) c.deref.ensures.value) ∙ lack.2)
     (ap (slice_get definitions.types) (sym (c.from.ensures ∙ c.segment.view_is)) ∙ c.index.ensures)
@@ -54,7 +60,8 @@ returns-in-Some-clause-first_fault c = λ fault returned other.
     (c.told_length.ensures ∙ ap told_length (lack.1 ∙ zero-add lack.0)))
 
 stood : (c : In_default) → SpellsInOrder c.args.definitions.now c.args.ty.now.segments c.args.lines.now (forest_of c.loop-index.forest.items)
-stood c = all_stand c.args.definitions.now c.args.ty.now.segments c.args.lines.now c.loop-index.index (forest_of c.loop-index.forest.items) c.loop-index-test.false c.loop-index.invariant
+stood c = all_stand c.args.definitions.now c.args.ty.now.segments c.args.lines.now c.loop-index.index
+    (forest_of c.loop-index.forest.items) c.loop-index-test.false c.loop-index.invariant
 
 pub returns-clause-nodes : goal.returns-clause-nodes
 returns-clause-nodes c =

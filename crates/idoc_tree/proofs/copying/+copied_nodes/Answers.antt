@@ -13,7 +13,8 @@ loop-node-preserved t c =
     let one = c.in_ok-one.one in
     let old = forest_of c.loop-node.copy.items in
     let rest = forest_of (drop (at + 1) nodes) in
-    let below_is : (tree_of one).below ≡ (tree_of item).below = c.in_ok-one.ensures.below ∙ c.in_ok-children.ensures ∙ ap forest_of c.deref.ensures.value ∙ sym (below-out item) in
+    let below_is : (tree_of one).below ≡ (tree_of item).below = c.in_ok-one.ensures.below ∙ c.in_ok-children.ensures ∙ ap forest_of c.deref.ensures.value
+    ∙ sym (below-out item) in
     ap (λ items. joined (forest_of items) rest) c.in_ok-push.ensures.items
     ∙ forest_of-push c.loop-node.copy.items one rest
     ∙ ap (λ r. joined old (tree r (tree_of one).below rest)) c.in_ok-one.ensures.root

@@ -27,7 +27,8 @@ has_later-requires c = ordered (goal.at.has_later-requires c).After-place_of
 pub is_full-requires-clause-least : goal.is_full-requires-clause-least
 is_full-requires-clause-least c =
     let entries = c.args.ty.now.segments in
-    let kept = AllByRecursion-at (IsEntry c.args.definitions.now) entries (place_in entries c.in-Some.found.0) c.in-Some-entry.entry.now c.requires.kept.each (sym c.in-Some-entry.ensures) in
+    let kept = AllByRecursion-at (IsEntry c.args.definitions.now) entries (place_in entries c.in-Some.found.0) c.in-Some-entry.entry.now c.requires.kept.each
+    (sym c.in-Some-entry.ensures) in
     omega (arith, kept.least, kept.ordered)
 
 pub is_full-requires-clause-last : goal.is_full-requires-clause-last
@@ -37,7 +38,8 @@ is_full-requires-clause-last c =
     let among = roots (forest_of c.in-Some-siblings.among.now) in
     AreLast-ordered entries type among (slice_get_within entries (place_in entries type) c.in-Some-entry.entry.now (sym c.in-Some-entry.ensures))
     (ordered (goal.at.is_full-requires-clause-last c).After-place_of)
-    (none_later entries (place_in entries type) among (sym (ap (λ place. has_later entries place among) c.place_of.ensures) ∙ sym c.has_later.ensures ∙ c.if-has_later.false))
+    (none_later entries (place_in entries type) among (sym (ap (λ place. has_later entries place among) c.place_of.ensures) ∙ sym c.has_later.ensures
+    ∙ c.if-has_later.false))
 
 pub leaf-requires-clause-exists : goal.leaf-requires-clause-exists
 leaf-requires-clause-exists c =

@@ -11,7 +11,8 @@ returns-then-max-among c =
     let among = c.args.among.now in
     let at = length among - c.args.max in
     c.eq.ensures
-    ∙ sym (is_full-nodes c.args.segment c.args.max among (get_or among at c.index-among-among.result) c.requires.last c.requires.least c.if-max-among.true (slice_get-get_or among at c.index-among-among.result (omega arith)))
+    ∙ sym (is_full-nodes c.args.segment c.args.max among (get_or among at c.index-among-among.result) c.requires.last c.requires.least c.if-max-among.true
+    (slice_get-get_or among at c.index-among-among.result (omega arith)))
 
 pub returns-else-max-among : goal.returns-else-max-among
 returns-else-max-among c =

@@ -26,7 +26,8 @@ returns-then-is_some-2-clause-some t c = λ type is.
     let found = c.first_lack-lack.ensures.some type is in
     let place = found.0 in
     let own = sym (ap (λ ns. first_lack entries (families (Some root.type) (forest_of ns))) c.deref.ensures.value) ∙ found.2 in
-    let here = ap (λ f. first_lack entries (families_below f)) (forest_of-drop nodes at c.node-item.result c.loop-node-test.true c.node-item.is) ∙ first_lack-own entries root under after (type, place) own in
+    let here = ap (λ f. first_lack entries (families_below f)) (forest_of-drop nodes at c.node-item.result c.loop-node-test.true c.node-item.is)
+    ∙ first_lack-own entries root under after (type, place) own in
     let all = c.loop-node.invariant.lack ∙ ap (shifted before) here in
     let none = sym c.lack_of-lack.ensures ∙ is_none c.lack_of-lack.result (sym c.is_some.ensures ∙ c.if-is_some.false) in
     let later : c.args.number.now ≤ c.loop-node.number = c.loop-node.invariant.later in
@@ -45,10 +46,12 @@ loop-node-preserved t c =
     let here = forest_of-drop nodes at c.node-item.result c.loop-node-test.true c.node-item.is in
     let told = c.first_lack-lack.ensures.none (is_none c.first_lack-lack.result (sym c.is_some-in-loop-node.ensures ∙ c.if-is_some-2.false)) in
     let lacks = sym (ap (λ ns. first_lack entries (families (Some root.type) (forest_of ns))) c.deref.ensures.value) ∙ told.0 in
-    let number : c.first_lack-lack.new.number ≡ c.loop-node.number + 1 + length (preorder under) = told.1 ∙ ap (λ ns. c.loop-node.number + 1 + length (preorder (forest_of ns))) c.deref.ensures.value in
+    let number : c.first_lack-lack.new.number ≡ c.loop-node.number + 1 + length (preorder under) = told.1
+    ∙ ap (λ ns. c.loop-node.number + 1 + length (preorder (forest_of ns))) c.deref.ensures.value in
     let later : c.args.number.now ≤ c.loop-node.number = c.loop-node.invariant.later in
     let count = c.loop-node.invariant.count in
-    let long : length (preorder (forest_of (drop at nodes))) ≡ 1 + length (preorder under) + length (preorder after) = ap (λ f. length (preorder f)) here ∙ length-tree entries root under after in
+    let long : length (preorder (forest_of (drop at nodes))) ≡ 1 + length (preorder under) + length (preorder after) = ap (λ f. length (preorder f)) here
+    ∙ length-tree entries root under after in
     let sum : before + (1 + length (preorder under)) ≡ c.first_lack-lack.new.number - c.args.number.now = omega (arith, later, number) in
     record {
       later = omega (arith, later, number);

@@ -10,5 +10,6 @@ abbrev pub invariant-loop-node : goal.invariant-loop-node
 invariant-loop-node l = record {
   later : l.fn.number ≤ l.number;
   count : l.number + length (preorder (forest_of (drop l.node-index l.nodes))) ≡ l.fn.number + length (preorder (forest_of l.nodes));
-  lack : first_lack l.ty.segments (families_below (forest_of l.nodes)) ≡ shifted (l.number - l.fn.number) (first_lack l.ty.segments (families_below (forest_of (drop l.node-index l.nodes))));
+  lack : first_lack l.ty.segments (families_below (forest_of l.nodes))
+      ≡ shifted (l.number - l.fn.number) (first_lack l.ty.segments (families_below (forest_of (drop l.node-index l.nodes))));
 }

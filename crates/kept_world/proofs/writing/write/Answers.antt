@@ -25,7 +25,8 @@ pub returns-in-Err-clause-any_moment : goal.returns-in-Err-clause-any_moment
 returns-in-Err-clause-any_moment g c = λ tells.
     let system = c.args.system in
     let log = log_of c.args.both.now.world system in
-    let disk = on_disk-up g.V.Volumes.told g.V.Volumes.volume c.args.vols.now c.args.both.now.world c.args.journals.now system c.requires.can.up c.requires.kept.on_volumes in
+    let disk = on_disk-up g.V.Volumes.told g.V.Volumes.volume c.args.vols.now c.args.both.now.world c.args.journals.now system c.requires.can.up
+    c.requires.kept.on_volumes in
     started g.V.Volumes.moment g.V.Volumes.images_since c.args.vols.now (system - 1)
     (IsBeforeOrAfter (entries_at c.args.journals.now (system - 1) log) (entry_with (next_moment c.args.journals.now (c.args.system - 1)) c.args.next))
     (λ image left. inl (IsOnDisk-stands g.V.Volumes.told g.V.Volumes.volume c.args.vols.now (system - 1) c.args.journals.now log tells disk image
@@ -33,7 +34,8 @@ returns-in-Err-clause-any_moment g c = λ tells.
 
 pub unreachable-requires : goal.unreachable-requires
 unreachable-requires g c =
-    let last = ap (λ w. last_of (log_of w c.args.system)) c.in-Ok.ensures.world ∙ last-entered c.args.both.now.world c.args.system c.args.next c.requires.can.up in
+    let last = ap (λ w. last_of (log_of w c.args.system)) c.in-Ok.ensures.world
+    ∙ last-entered c.args.both.now.world c.args.system c.args.next c.requires.can.up in
     none-some c.args.next (sym (sym c.last.ensures ∙ ap option_copied c.in_default.is) ∙ last)
 
 pub write-requires-clause-entry : goal.write-requires-clause-entry
@@ -77,7 +79,8 @@ fall-requires-clause-in_step g c =
     (record { world = c.in-Ok.ensures.world; tables = c.in-Ok.ensures.entered }) c.count-count.ensures c.leave-rest.ensures.world c.leave-rest.ensures.left in
     subst (λ (b : WorldTables g.row.R.Denot g.row.A.Denot g.row.A-Extra.Denot). AreInStep g.A.Application.stands (g.R.Rules.meaning b.world.rules)
     (with_state b.world c.args.system (state_down c.leave-rest.result)).systems b.world.claims b.tables) (sym back)
-    (in_step-fell g.A.Application.stands g.R.Rules.meaning c.args.both.now.world c.args.both.now.tables c.args.system c.leave-rest.result c.requires.can.up c.requires.kept.in_step)
+    (in_step-fell g.A.Application.stands g.R.Rules.meaning c.args.both.now.world c.args.both.now.tables c.args.system c.leave-rest.result c.requires.can.up
+    c.requires.kept.in_step)
 
 pub returns-in-Ok-write-clause-written : goal.returns-in-Ok-write-clause-written
 returns-in-Ok-write-clause-written g c =
@@ -91,7 +94,8 @@ returns-in-Ok-write-clause-written g c =
     let disk = on_disk-up told volume c.args.vols.now world c.args.journals.now c.args.system c.requires.can.up c.requires.kept.on_volumes in
     let order = AreInOrder-grown (c.args.system - 1) c.args.journals.now c.write.new.self c.in-Ok-write.ensures.grown
     (c.requires.kept.on_volumes.order (c.args.system - 1)) in
-    let written = subst (λ n. IsOnDisk told volume c.write.new.vols (c.args.system - 1) c.write.new.self (log ++ n ∷ [])) same (c.in-Ok-write.ensures.written log disk) in
+    let written = subst (λ n. IsOnDisk told volume c.write.new.vols (c.args.system - 1) c.write.new.self (log ++ n ∷ [])) same
+    (c.in-Ok-write.ensures.written log disk) in
     record {
       world = c.in-Ok.ensures.world;
       entered = c.in-Ok.ensures.entered;
@@ -118,7 +122,8 @@ returns-in-Ok-write-clause-any_moment g c = λ tells.
 pub returns-in-Err-OutOfMemory-clause-ended : goal.returns-in-Err-OutOfMemory-clause-ended
 returns-in-Err-OutOfMemory-clause-ended g c =
     let back : c.undo.new.both ≡ c.args.both.now =
-    c.undo.ensures c.args.both.now c.args.next c.args.more.now (record { world = c.in-Ok.ensures.world; tables = c.in-Ok.ensures.entered }) c.count-count.ensures in
+    c.undo.ensures c.args.both.now c.args.next c.args.more.now (record { world = c.in-Ok.ensures.world; tables = c.in-Ok.ensures.entered })
+    c.count-count.ensures in
     ap (λ (b : WorldTables g.row.R.Denot g.row.A.Denot g.row.A-Extra.Denot). b.world) back
 
 pub returns-in-Err-OutOfMemory-clause-kept : goal.returns-in-Err-OutOfMemory-clause-kept
@@ -129,7 +134,8 @@ returns-in-Err-OutOfMemory-clause-kept g c =
     let log = log_of world c.args.system in
     let disk = on_disk-up told volume c.args.vols.now world c.args.journals.now c.args.system c.requires.can.up c.requires.kept.on_volumes in
     let back : c.undo.new.both ≡ c.args.both.now =
-    c.undo.ensures c.args.both.now c.args.next c.args.more.now (record { world = c.in-Ok.ensures.world; tables = c.in-Ok.ensures.entered }) c.count-count.ensures in
+    c.undo.ensures c.args.both.now c.args.next c.args.more.now (record { world = c.in-Ok.ensures.world; tables = c.in-Ok.ensures.entered })
+    c.count-count.ensures in
     let order = subst (λ j. AreInOrder (moments_at j (c.args.system - 1))) (sym c.in-Err-OutOfMemory.ensures.err)
     (c.requires.kept.on_volumes.order (c.args.system - 1)) in
     let stays = on_volumes-stays told volume c.args.vols.now c.write.new.vols world c.args.journals.now c.write.new.self c.args.system c.requires.can.up
@@ -192,7 +198,8 @@ returns-in-Err-Volume-clause-kept g c =
     record {
       in_step = c.fall.ensures.in_step;
       on_volumes = subst (λ w. AreOnVolumes told volume c.write.new.vols w.systems c.write.new.self) (sym fell)
-          (on_volumes-fell told volume c.args.vols.now c.write.new.vols world c.args.journals.now c.write.new.self c.args.system (Some c.args.next) c.requires.can.up
+          (on_volumes-fell told volume c.args.vols.now c.write.new.vols world c.args.journals.now c.write.new.self c.args.system
+          (Some c.args.next) c.requires.can.up
           c.requires.kept.on_volumes c.write.ensures.one order (λ other differs tells. (c.write.ensures.others tells).known other differs) left);
       overruns = overruns-none c.fall.new.self.world.systems;
     }
@@ -214,13 +221,15 @@ returns-in-Err-Volume-clause-any_moment g c = λ tells.
 pub returns-in-Err-Full-clause-ended : goal.returns-in-Err-Full-clause-ended
 returns-in-Err-Full-clause-ended g c =
     let back : c.undo-in-Err-Full.new.both ≡ c.args.both.now =
-    c.undo-in-Err-Full.ensures c.args.both.now c.args.next c.args.more.now (record { world = c.in-Ok.ensures.world; tables = c.in-Ok.ensures.entered }) c.count-count.ensures in
+    c.undo-in-Err-Full.ensures c.args.both.now c.args.next c.args.more.now (record { world = c.in-Ok.ensures.world; tables = c.in-Ok.ensures.entered })
+    c.count-count.ensures in
     ap (λ (b : WorldTables g.row.R.Denot g.row.A.Denot g.row.A-Extra.Denot). b.world) back
 
 pub returns-in-Err-Full-clause-kept : goal.returns-in-Err-Full-clause-kept
 returns-in-Err-Full-clause-kept g c =
     let back : c.undo-in-Err-Full.new.both ≡ c.args.both.now =
-    c.undo-in-Err-Full.ensures c.args.both.now c.args.next c.args.more.now (record { world = c.in-Ok.ensures.world; tables = c.in-Ok.ensures.entered }) c.count-count.ensures in
+    c.undo-in-Err-Full.ensures c.args.both.now c.args.next c.args.more.now (record { world = c.in-Ok.ensures.world; tables = c.in-Ok.ensures.entered })
+    c.count-count.ensures in
     let same_vols : c.write.new.vols ≡ c.args.vols.now = c.in-Err-Full.ensures.full_same c.in-Err-Full.place (ap Err c.in-Err-Full.field-0-is) in
     let same_journals : c.write.new.self ≡ c.args.journals.now = c.in-Err-Full.ensures.err in
     let all : kept_of c.undo-in-Err-Full.new.both c.write.new.self c.write.new.vols ≡ kept_of c.args.both.now c.args.journals.now c.args.vols.now =
@@ -230,7 +239,8 @@ returns-in-Err-Full-clause-kept g c =
 pub returns-in-Err-Full-clause-unchanged : goal.returns-in-Err-Full-clause-unchanged
 returns-in-Err-Full-clause-unchanged g c =
     let back : c.undo-in-Err-Full.new.both ≡ c.args.both.now =
-    c.undo-in-Err-Full.ensures c.args.both.now c.args.next c.args.more.now (record { world = c.in-Ok.ensures.world; tables = c.in-Ok.ensures.entered }) c.count-count.ensures in
+    c.undo-in-Err-Full.ensures c.args.both.now c.args.next c.args.more.now (record { world = c.in-Ok.ensures.world; tables = c.in-Ok.ensures.entered })
+    c.count-count.ensures in
     let same_vols : c.write.new.vols ≡ c.args.vols.now = c.in-Err-Full.ensures.full_same c.in-Err-Full.place (ap Err c.in-Err-Full.field-0-is) in
     let same_journals : c.write.new.self ≡ c.args.journals.now = c.in-Err-Full.ensures.err in
     λ i. kept_of (back i) (same_journals i) (same_vols i)
@@ -252,7 +262,8 @@ returns-in-Err-Full-clause-any_moment g c = λ tells.
 pub returns-in-Err-OutOfMemory-clause-unchanged : goal.returns-in-Err-OutOfMemory-clause-unchanged
 returns-in-Err-OutOfMemory-clause-unchanged g c =
     let back : c.undo.new.both ≡ c.args.both.now =
-    c.undo.ensures c.args.both.now c.args.next c.args.more.now (record { world = c.in-Ok.ensures.world; tables = c.in-Ok.ensures.entered }) c.count-count.ensures in (
+    c.undo.ensures c.args.both.now c.args.next c.args.more.now (record { world = c.in-Ok.ensures.world; tables = c.in-Ok.ensures.entered })
+    c.count-count.ensures in (
       ap (λ (b : WorldTables g.row.R.Denot g.row.A.Denot g.row.A-Extra.Denot). b.world) back,
       ap (λ (b : WorldTables g.row.R.Denot g.row.A.Denot g.row.A-Extra.Denot). b.tables) back,
       c.in-Err-OutOfMemory.ensures.err,
@@ -267,7 +278,8 @@ returns-in-Ok-write-clause-full g c = λ journal at place not_before.
     let disk = on_disk-up g.V.Volumes.told g.V.Volumes.volume c.args.vols.now c.args.both.now.world c.args.journals.now c.args.system c.requires.can.up
     c.requires.kept.on_volumes in
     let its : disk.journal ≡ journal = same_Some disk.journal journal (sym disk.here ∙ at) in
-    let size : full_at disk.journal (entry_with (next_moment c.args.journals.now (c.args.system - 1)) c.in-Some.next.now) ≡ full_at journal (entry_with (next_moment c.args.journals.now (c.args.system - 1)) c.args.next) =
+    let size : full_at disk.journal (entry_with (next_moment c.args.journals.now (c.args.system - 1)) c.in-Some.next.now)
+    ≡ full_at journal (entry_with (next_moment c.args.journals.now (c.args.system - 1)) c.args.next) =
     λ i. full_at (its i) (entry_with (next_moment c.args.journals.now (c.args.system - 1)) (same i)) in
     let told = c.in-Ok-write.ensures.full log disk place (λ is. cc) in (
       λ is. cc,
@@ -283,7 +295,8 @@ returns-in-Err-Volume-clause-full g c = λ journal at place not_before.
     let disk = on_disk-up g.V.Volumes.told g.V.Volumes.volume c.args.vols.now c.args.both.now.world c.args.journals.now c.args.system c.requires.can.up
     c.requires.kept.on_volumes in
     let its : disk.journal ≡ journal = same_Some disk.journal journal (sym disk.here ∙ at) in
-    let size : full_at disk.journal (entry_with (next_moment c.args.journals.now (c.args.system - 1)) c.in-Some.next.now) ≡ full_at journal (entry_with (next_moment c.args.journals.now (c.args.system - 1)) c.args.next) =
+    let size : full_at disk.journal (entry_with (next_moment c.args.journals.now (c.args.system - 1)) c.in-Some.next.now)
+    ≡ full_at journal (entry_with (next_moment c.args.journals.now (c.args.system - 1)) c.args.next) =
     λ i. full_at (its i) (entry_with (next_moment c.args.journals.now (c.args.system - 1)) (same i)) in
     let told = c.in-Err-Volume.ensures.full log disk place (λ is. let v = c.in-Err-Volume.field-0-is in cc) in (
       λ is. cc,
@@ -299,7 +312,8 @@ returns-in-Err-Full-clause-full g c = λ journal at place not_before.
     let disk = on_disk-up g.V.Volumes.told g.V.Volumes.volume c.args.vols.now c.args.both.now.world c.args.journals.now c.args.system c.requires.can.up
     c.requires.kept.on_volumes in
     let its : disk.journal ≡ journal = same_Some disk.journal journal (sym disk.here ∙ at) in
-    let size : full_at disk.journal (entry_with (next_moment c.args.journals.now (c.args.system - 1)) c.in-Some.next.now) ≡ full_at journal (entry_with (next_moment c.args.journals.now (c.args.system - 1)) c.args.next) =
+    let size : full_at disk.journal (entry_with (next_moment c.args.journals.now (c.args.system - 1)) c.in-Some.next.now)
+    ≡ full_at journal (entry_with (next_moment c.args.journals.now (c.args.system - 1)) c.args.next) =
     λ i. full_at (its i) (entry_with (next_moment c.args.journals.now (c.args.system - 1)) (same i)) in
     let told = c.in-Err-Full.ensures.full log disk place (λ is. let v = c.in-Err-Full.field-0-is in cc) in (
       λ is. let fits = told.0 (let v = c.in-Err-Full.field-0-is in cc) in (fits.0 ∙ size, fits.1),

@@ -37,23 +37,27 @@ returns-in-Err-After-clause-begun g c =
 pub returns-in-Ok-clause-any_moment : goal.returns-in-Ok-clause-any_moment
 returns-in-Ok-clause-any_moment g c = λ tells.
     first-any_moment g.R.Rules.meaning g.met.R.Rules.lawful g.A.Application.stands g.A.Application.goes_with g.V.Volumes.told g.V.Volumes.volume c.args.kept.now
-    c.args.system c.args.text c.args.extra c.get.ensures.least c.world.ensures.kept c.requires g.V.Volumes.moment g.V.Volumes.images_since c.append.new.self.vols
+    c.args.system c.args.text c.args.extra c.get.ensures.least c.world.ensures.kept c.requires g.V.Volumes.moment g.V.Volumes.images_since
+    c.append.new.self.vols
     c.get.result c.get.ensures.number (c.append.ensures.any_moment tells)
 
 pub returns-in-Err-Volume-clause-any_moment : goal.returns-in-Err-Volume-clause-any_moment
 returns-in-Err-Volume-clause-any_moment g c = λ tells.
     first-any_moment g.R.Rules.meaning g.met.R.Rules.lawful g.A.Application.stands g.A.Application.goes_with g.V.Volumes.told g.V.Volumes.volume c.args.kept.now
-    c.args.system c.args.text c.args.extra c.get.ensures.least c.world.ensures.kept c.requires g.V.Volumes.moment g.V.Volumes.images_since c.append.new.self.vols
+    c.args.system c.args.text c.args.extra c.get.ensures.least c.world.ensures.kept c.requires g.V.Volumes.moment g.V.Volumes.images_since
+    c.append.new.self.vols
     c.get.result c.get.ensures.number (c.append.ensures.any_moment tells)
 
 pub returns-in-Err-Before-clause-any_moment : goal.returns-in-Err-Before-clause-any_moment
 returns-in-Err-Before-clause-any_moment g c = λ tells.
     first-any_moment g.R.Rules.meaning g.met.R.Rules.lawful g.A.Application.stands g.A.Application.goes_with g.V.Volumes.told g.V.Volumes.volume c.args.kept.now
-    c.args.system c.args.text c.args.extra c.get.ensures.least c.world.ensures.kept c.requires g.V.Volumes.moment g.V.Volumes.images_since c.append.new.self.vols
+    c.args.system c.args.text c.args.extra c.get.ensures.least c.world.ensures.kept c.requires g.V.Volumes.moment g.V.Volumes.images_since
+    c.append.new.self.vols
     c.get.result c.get.ensures.number (c.append.ensures.any_moment tells)
 
 pub returns-in-Err-After-clause-any_moment : goal.returns-in-Err-After-clause-any_moment
 returns-in-Err-After-clause-any_moment g c = λ tells.
     first-any_moment g.R.Rules.meaning g.met.R.Rules.lawful g.A.Application.stands g.A.Application.goes_with g.V.Volumes.told g.V.Volumes.volume c.args.kept.now
-    c.args.system c.args.text c.args.extra c.get.ensures.least c.world.ensures.kept c.requires g.V.Volumes.moment g.V.Volumes.images_since c.append.new.self.vols
+    c.args.system c.args.text c.args.extra c.get.ensures.least c.world.ensures.kept c.requires g.V.Volumes.moment g.V.Volumes.images_since
+    c.append.new.self.vols
     c.get.result c.get.ensures.number (c.append.ensures.any_moment tells)

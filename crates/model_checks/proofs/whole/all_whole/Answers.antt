@@ -8,7 +8,8 @@ use Rattle.model_checks.proofs.whole.all_whole.Goals as goal
 pub returns-in-Err : goal.returns-in-Err
 returns-in-Err c =
     let test = λ (profile : Outbound). whole c.args.definitions.now (message_entries c.args.types.now c.args.messages.now profile.message) profile in
-    loop-fails OUTBOUND.now test c.args.profiles.now c.loop-place.place _ c.in-Err.error c.within.result c.index-profiles-place.result c.index-profiles-place.is c.loop-place-test.true
+    loop-fails OUTBOUND.now test c.args.profiles.now c.loop-place.place _ c.in-Err.error c.within.result c.index-profiles-place.result c.index-profiles-place.is
+    c.loop-place-test.true
     (rw c.message_entries-entries.ensures at c.in-Err.ensures) c.within.ensures c.loop-place.invariant
 
 pub loop-place-preserved : goal.loop-place-preserved

@@ -16,7 +16,9 @@ returns-clause-kept c =
     let messages = c.args.messages.now.things.now in
     let table = table_view c.args.table.now in
     let ds = items_view c.in_ok-values.values.now in
-    given-holds (filters_of definitions types messages ds) (AreFilters definitions types messages) (λ all is. filters_at-keeps definitions types messages table all (filters_at-list definitions types messages table ds c.in_ok-values.ensures.given ∙ is))
+    given-holds (filters_of definitions types messages ds) (AreFilters definitions types messages)
+    (λ all is. filters_at-keeps definitions types messages table all (filters_at-list definitions types messages table ds c.in_ok-values.ensures.given
+    ∙ is))
     c.filters_of.result c.filters_of.ensures
 
 pub returns-clause-entries : goal.returns-clause-entries
@@ -27,4 +29,5 @@ returns-clause-entries c =
     let table = table_view c.args.table.now in
     let ds = items_view c.in_ok-values.values.now in
     given-holds (filters_of definitions types messages ds) (SaysListOrNone (SaysFilter definitions messages) FILTER.now table)
-    (λ all is. filters_at-says definitions types messages table all (filters_at-list definitions types messages table ds c.in_ok-values.ensures.given ∙ is)) c.filters_of.result c.filters_of.ensures
+    (λ all is. filters_at-says definitions types messages table all (filters_at-list definitions types messages table ds c.in_ok-values.ensures.given ∙ is))
+    c.filters_of.result c.filters_of.ensures

@@ -5,4 +5,5 @@ use Rattle.model_messages.proofs.keep.place_split.Goals as goal
 
 pub returns : goal.returns
 returns c =
-    c.place_named.ensures ∙ ap (λ (field : List ℕ). place_named c.args.definitions.now c.args.types.now (take c.args.dot c.args.text.now) field) (take_rest c.args.text.now (c.args.dot + 1))
+    c.place_named.ensures ∙ ap (λ (field : List ℕ). place_named c.args.definitions.now c.args.types.now (take c.args.dot c.args.text.now) field)
+    (take_rest c.args.text.now (c.args.dot + 1))

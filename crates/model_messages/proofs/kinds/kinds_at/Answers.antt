@@ -14,7 +14,8 @@ returns-clause-kept c =
     let definitions = c.args.definitions.now in
     let table = table_view c.args.table.now in
     let ds = items_view c.in_ok-values.values.now in
-    given-holds (kinds_of definitions ds) (AreKinds definitions) (λ kinds is. kinds_at-keeps definitions table kinds (kinds_at-list definitions table ds c.in_ok-values.ensures.given ∙ is))
+    given-holds (kinds_of definitions ds) (AreKinds definitions)
+    (λ kinds is. kinds_at-keeps definitions table kinds (kinds_at-list definitions table ds c.in_ok-values.ensures.given ∙ is))
     c.kinds_of.result c.kinds_of.ensures.given
 
 pub returns-clause-entries : goal.returns-clause-entries
@@ -23,4 +24,5 @@ returns-clause-entries c =
     let table = table_view c.args.table.now in
     let ds = items_view c.in_ok-values.values.now in
     given-holds (kinds_of definitions ds) (SaysListOrNone (SaysKind definitions) KIND.now table)
-    (λ kinds is. kinds_at-says definitions table kinds (kinds_at-list definitions table ds c.in_ok-values.ensures.given ∙ is)) c.kinds_of.result c.kinds_of.ensures.given
+    (λ kinds is. kinds_at-says definitions table kinds (kinds_at-list definitions table ds c.in_ok-values.ensures.given ∙ is)) c.kinds_of.result
+    c.kinds_of.ensures.given

@@ -16,7 +16,8 @@ returns-clause-kept c =
     let kinds = c.args.kinds.now.things.now in
     let table = table_view c.args.table.now in
     let ds = items_view c.in_ok-values.values.now in
-    given-holds (messages_of definitions types kinds ds) (AreMessages definitions types kinds) (λ all is. messages_at-keeps definitions types kinds table all (messages_at-list definitions types kinds table ds c.in_ok-values.ensures.given ∙ is))
+    given-holds (messages_of definitions types kinds ds) (AreMessages definitions types kinds)
+    (λ all is. messages_at-keeps definitions types kinds table all (messages_at-list definitions types kinds table ds c.in_ok-values.ensures.given ∙ is))
     c.messages_of.result c.messages_of.ensures.given
 
 pub returns-clause-entries : goal.returns-clause-entries
@@ -27,4 +28,5 @@ returns-clause-entries c =
     let table = table_view c.args.table.now in
     let ds = items_view c.in_ok-values.values.now in
     given-holds (messages_of definitions types kinds ds) (SaysListOrNone (SaysMessage definitions types kinds) MESSAGE.now table)
-    (λ all is. messages_at-says definitions types kinds table all (messages_at-list definitions types kinds table ds c.in_ok-values.ensures.given ∙ is)) c.messages_of.result c.messages_of.ensures.given
+    (λ all is. messages_at-says definitions types kinds table all (messages_at-list definitions types kinds table ds c.in_ok-values.ensures.given ∙ is))
+    c.messages_of.result c.messages_of.ensures.given

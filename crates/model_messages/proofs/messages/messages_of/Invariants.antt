@@ -11,4 +11,5 @@ use Rattle.model_messages.proofs.messages.messages_of.Given as goal
 abbrev pub invariant-loop-place : goal.invariant-loop-place
 invariant-loop-place l =
     let read = λ (done : List Message) (d : Data). message_of l.definitions l.types.things.now l.kinds.things.now (message_names done) d in
-    (l.names ≡ message_names l.messages) × (each MESSAGE.now read l.place l.messages (items_view (drop l.place l.values)) ≡ each MESSAGE.now read 0 [] (items_view l.values))
+    (l.names ≡ message_names l.messages) × (each MESSAGE.now read l.place l.messages (items_view (drop l.place l.values))
+    ≡ each MESSAGE.now read 0 [] (items_view l.values))

@@ -11,4 +11,5 @@ abbrev pub invariant-loop-place : goal.invariant-loop-place
 invariant-loop-place l =
     let messages = l.messages.things.now in
     let read = λ (done : List Reduced) (d : Data). reduced_of l.definitions l.types messages (names_with messages done) d in
-    (l.names ≡ names_with messages l.reduced) × (each REDUCED.now read l.place l.reduced (items_view (drop l.place l.values)) ≡ each REDUCED.now read 0 [] (items_view l.values))
+    (l.names ≡ names_with messages l.reduced) × (each REDUCED.now read l.place l.reduced (items_view (drop l.place l.values))
+    ≡ each REDUCED.now read 0 [] (items_view l.values))

@@ -16,7 +16,9 @@ returns-clause-kept c =
     let messages = c.args.messages.now.things.now in
     let table = table_view c.args.table.now in
     let ds = items_view c.in_ok-values.values.now in
-    given-holds (all_reduced_of definitions types messages ds) (AreReduced definitions types messages) (λ all is. reduced_at-keeps definitions types messages table all c.requires.apart (reduced_at-list definitions types messages table ds c.in_ok-values.ensures.given ∙ is))
+    given-holds (all_reduced_of definitions types messages ds) (AreReduced definitions types messages)
+    (λ all is. reduced_at-keeps definitions types messages table all c.requires.apart
+    (reduced_at-list definitions types messages table ds c.in_ok-values.ensures.given ∙ is))
     c.all_reduced_of.result c.all_reduced_of.ensures.given
 
 pub returns-clause-entries : goal.returns-clause-entries
@@ -27,4 +29,5 @@ returns-clause-entries c =
     let table = table_view c.args.table.now in
     let ds = items_view c.in_ok-values.values.now in
     given-holds (all_reduced_of definitions types messages ds) (SaysListOrNone (SaysReduced definitions messages) REDUCED.now table)
-    (λ all is. reduced_at-says definitions types messages table all (reduced_at-list definitions types messages table ds c.in_ok-values.ensures.given ∙ is)) c.all_reduced_of.result c.all_reduced_of.ensures.given
+    (λ all is. reduced_at-says definitions types messages table all (reduced_at-list definitions types messages table ds c.in_ok-values.ensures.given ∙ is))
+    c.all_reduced_of.result c.all_reduced_of.ensures.given

@@ -18,4 +18,5 @@ loop-place-preserved c =
 
 pub returns : goal.returns
 returns c =
-    loop-ends REMOVE.now (λ (done : List ℕ) (d : Data). removed_of c.args.types.now d) c.args.values.now c.loop-place.place _ c.loop-place.segments c.loop-place-test.false c.loop-place.invariant
+    loop-ends REMOVE.now (λ (done : List ℕ) (d : Data). removed_of c.args.types.now d) c.args.values.now c.loop-place.place _ c.loop-place.segments
+    c.loop-place-test.false c.loop-place.invariant

@@ -10,18 +10,27 @@ use Rattle.model_profiles.proofs.rows.rows_of.Goals as goal
 
 pub returns-in-Err : goal.returns-in-Err
 returns-in-Err c =
-    loop-fails ROW.now (λ (done : List Row) (d : Data). row_of c.args.systems.now c.args.definitions.now c.args.messages.now c.args.filters.now (row_ways done) d) c.args.values.now c.loop-place.place _ c.in-Err.error c.within.result
-    c.loop-place.rows c.index-values-place.result c.index-values-place.is c.loop-place-test.true (rw (← c.loop-place.invariant.0) c.in-Err.ensures.given) c.within.ensures c.loop-place.invariant.1
+    loop-fails ROW.now (λ (done : List Row) (d : Data).
+    row_of c.args.systems.now c.args.definitions.now c.args.messages.now c.args.filters.now (row_ways done) d) c.args.values.now c.loop-place.place _
+    c.in-Err.error c.within.result
+    c.loop-place.rows c.index-values-place.result c.index-values-place.is c.loop-place-test.true (rw (← c.loop-place.invariant.0) c.in-Err.ensures.given)
+    c.within.ensures c.loop-place.invariant.1
 
 pub loop-place-preserved : goal.loop-place-preserved
 loop-place-preserved c =
     let pushed : c.push.new.self ≡ c.loop-place.rows ++ c.in-Ok.row ∷ [] = c.in_ok-push-in-Ok.ensures.ok in
     rw pushed (
-      c.in-Ok.ensures.added ∙ ap (λ (before : List Way). before ++ row_way c.in-Ok.row ∷ []) c.loop-place.invariant.0 ∙ sym (map_push (λ (one : Row). row_way one) c.loop-place.rows c.in-Ok.row),
-      loop-goes ROW.now (λ (done : List Row) (d : Data). row_of c.args.systems.now c.args.definitions.now c.args.messages.now c.args.filters.now (row_ways done) d) c.args.values.now c.loop-place.place _ c.loop-place.rows
-          c.index-values-place.result c.in-Ok.row c.index-values-place.is c.loop-place-test.true (rw (← c.loop-place.invariant.0) c.in-Ok.ensures.given) c.loop-place.invariant.1,
+      c.in-Ok.ensures.added ∙ ap (λ (before : List Way). before ++ row_way c.in-Ok.row ∷ []) c.loop-place.invariant.0
+          ∙ sym (map_push (λ (one : Row). row_way one) c.loop-place.rows c.in-Ok.row),
+      loop-goes ROW.now (λ (done : List Row) (d : Data).
+          row_of c.args.systems.now c.args.definitions.now c.args.messages.now c.args.filters.now (row_ways done) d) c.args.values.now c.loop-place.place _
+          c.loop-place.rows
+          c.index-values-place.result c.in-Ok.row c.index-values-place.is c.loop-place-test.true (rw (← c.loop-place.invariant.0) c.in-Ok.ensures.given)
+          c.loop-place.invariant.1,
     )
 
 pub returns : goal.returns
 returns c =
-    loop-ends ROW.now (λ (done : List Row) (d : Data). row_of c.args.systems.now c.args.definitions.now c.args.messages.now c.args.filters.now (row_ways done) d) c.args.values.now c.loop-place.place _ c.loop-place.rows c.loop-place-test.false c.loop-place.invariant.1
+    loop-ends ROW.now (λ (done : List Row) (d : Data).
+    row_of c.args.systems.now c.args.definitions.now c.args.messages.now c.args.filters.now (row_ways done) d) c.args.values.now c.loop-place.place _
+    c.loop-place.rows c.loop-place-test.false c.loop-place.invariant.1

@@ -9,4 +9,5 @@ segments_at-requires-clause-few c =
 
 pub idoc_types_at-requires-clause-types : goal.idoc_types_at-requires-clause-types
 idoc_types_at-requires-clause-types c =
-    rw c.in_ok-segments.ensures.named (type_names-few c.in_ok-releases.releases (table_view c.args.table.now) c.in_ok-segments.segments (rw c.in_ok-releases.ensures.named at c.in_ok-segments.ensures.given))
+    rw c.in_ok-segments.ensures.named (type_names-few c.in_ok-releases.releases (table_view c.args.table.now) c.in_ok-segments.segments
+    (rw c.in_ok-releases.ensures.named at c.in_ok-segments.ensures.given))

@@ -20,8 +20,10 @@ type_place_of-requires-clause-segments c = rw c.as_slice.ensures c.loop-place.in
 
 pub returns-in-Err : goal.returns-in-Err
 returns-in-Err c =
-    loop-fails SEGMENT.now (λ (done : List TypePlace) (d : Data). type_place_of c.args.types.now done d) c.args.values.now c.loop-place.place _ c.in-Err.error c.within.result
-    c.loop-place.entries c.index-values-place.result c.index-values-place.is c.loop-place-test.true (rw c.as_slice.ensures at c.in-Err.ensures.given) c.within.ensures c.loop-place.invariant.1
+    loop-fails SEGMENT.now (λ (done : List TypePlace) (d : Data). type_place_of c.args.types.now done d) c.args.values.now c.loop-place.place _ c.in-Err.error
+    c.within.result
+    c.loop-place.entries c.index-values-place.result c.index-values-place.is c.loop-place-test.true (rw c.as_slice.ensures at c.in-Err.ensures.given)
+    c.within.ensures c.loop-place.invariant.1
 
 pub loop-place-preserved : goal.loop-place-preserved
 loop-place-preserved c =
@@ -35,10 +37,12 @@ loop-place-preserved c =
         counted = omega (arith, length-append c.loop-place.entries (entry ∷ []), so_far.counted);
         preorder = type_place_of-preorder c.args.types.now c.loop-place.entries (view c.index-values-place.result) entry so_far.preorder is;
       },
-      loop-goes SEGMENT.now (λ (done : List TypePlace) (d : Data). type_place_of c.args.types.now done d) c.args.values.now c.loop-place.place _ c.loop-place.entries
+      loop-goes SEGMENT.now (λ (done : List TypePlace) (d : Data). type_place_of c.args.types.now done d) c.args.values.now c.loop-place.place _
+          c.loop-place.entries
           c.index-values-place.result entry c.index-values-place.is c.loop-place-test.true is c.loop-place.invariant.1,
     )
 
 pub returns : goal.returns
 returns c =
-    loop-ends SEGMENT.now (λ (done : List TypePlace) (d : Data). type_place_of c.args.types.now done d) c.args.values.now c.loop-place.place _ c.loop-place.entries c.loop-place-test.false c.loop-place.invariant.1
+    loop-ends SEGMENT.now (λ (done : List TypePlace) (d : Data). type_place_of c.args.types.now done d) c.args.values.now c.loop-place.place _
+    c.loop-place.entries c.loop-place-test.false c.loop-place.invariant.1

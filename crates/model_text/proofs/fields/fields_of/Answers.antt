@@ -10,7 +10,8 @@ use Rattle.model_text.proofs.fields.fields_of.Goals as goal
 pub returns-in-Err-clause-given : goal.returns-in-Err-clause-given
 returns-in-Err-clause-given c =
     loop-fails ADDS.now (λ (done : List Field) (d : Data). field_of done d) c.args.values.now c.loop-place.place _ c.in-Err.error c.within.result
-    c.loop-place.fields c.index-values-place.result c.index-values-place.is c.loop-place-test.true (rw c.as_slice-in-loop-place.ensures at c.in-Err.ensures.given) c.within.ensures c.loop-place.invariant.1
+    c.loop-place.fields c.index-values-place.result c.index-values-place.is c.loop-place-test.true
+    (rw c.as_slice-in-loop-place.ensures at c.in-Err.ensures.given) c.within.ensures c.loop-place.invariant.1
 
 pub loop-place-preserved : goal.loop-place-preserved
 loop-place-preserved c =
@@ -24,9 +25,11 @@ loop-place-preserved c =
         narrow = c.in-Ok.ensures.fits;
       },
       loop-goes ADDS.now (λ (done : List Field) (d : Data). field_of done d) c.args.values.now c.loop-place.place _ c.loop-place.fields
-          c.index-values-place.result field c.index-values-place.is c.loop-place-test.true (rw c.as_slice-in-loop-place.ensures at c.in-Ok.ensures.given) c.loop-place.invariant.1,
+          c.index-values-place.result field c.index-values-place.is c.loop-place-test.true (rw c.as_slice-in-loop-place.ensures at c.in-Ok.ensures.given)
+          c.loop-place.invariant.1,
     )
 
 pub returns-clause-given : goal.returns-clause-given
 returns-clause-given c =
-    loop-ends ADDS.now (λ (done : List Field) (d : Data). field_of done d) c.args.values.now c.loop-place.place _ c.loop-place.fields c.loop-place-test.false c.loop-place.invariant.1
+    loop-ends ADDS.now (λ (done : List Field) (d : Data). field_of done d) c.args.values.now c.loop-place.place _ c.loop-place.fields c.loop-place-test.false
+    c.loop-place.invariant.1

@@ -27,12 +27,14 @@ pub returns-clause-said : goal.returns-clause-said
 returns-clause-said c =
     let text = c.in-Ok.ensures.cases in
     rw c.fault_of.ensures (Reads-fails c.args.bytes.now (table_view c.in-Ok-table_from_str.table) c.in-Err-model_of.error
-    (answer_to-text c.args.bytes.now (Some (table_view c.in-Ok-table_from_str.table)) text.1 (ap parse_document (sym text.0) ∙ c.in-Ok-table_from_str.ensures.ok))
+    (answer_to-text c.args.bytes.now (Some (table_view c.in-Ok-table_from_str.table)) text.1
+    (ap parse_document (sym text.0) ∙ c.in-Ok-table_from_str.ensures.ok))
     c.in-Err-model_of.ensures)
 
 pub returns-in-Ok-model_of-clause-kept : goal.returns-in-Ok-model_of-clause-kept
 returns-in-Ok-model_of-clause-kept c =
-    IfOk-indexed IsModel c.in-Ok-model_of.lists c.indexed.result c.indexed.ensures (model_of-keeps (table_view c.in-Ok-table_from_str.table) c.in-Ok-model_of.lists c.in-Ok-model_of.ensures)
+    IfOk-indexed IsModel c.in-Ok-model_of.lists c.indexed.result c.indexed.ensures
+    (model_of-keeps (table_view c.in-Ok-table_from_str.table) c.in-Ok-model_of.lists c.in-Ok-model_of.ensures)
 
 pub returns-in-Ok-model_of-clause-entries : goal.returns-in-Ok-model_of-clause-entries
 returns-in-Ok-model_of-clause-entries c =

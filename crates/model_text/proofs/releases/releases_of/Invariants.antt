@@ -10,4 +10,5 @@ use Rattle.model_text.proofs.releases.releases_of.Given as goal
 abbrev pub invariant-loop-place : goal.invariant-loop-place
 invariant-loop-place l =
     let read = λ (done : List (List ℕ)) (d : Data). new_name_of LONGEST_RELEASE [] done d in
-    (l.names ≡ l.releases) × (each RELEASES.now read l.place l.releases (items_view (drop l.place l.values)) ≡ each RELEASES.now read 0 [] (items_view l.values))
+    (l.names ≡ l.releases) × (each RELEASES.now read l.place l.releases (items_view (drop l.place l.values))
+    ≡ each RELEASES.now read 0 [] (items_view l.values))

@@ -10,8 +10,10 @@ use Rattle.model_text.proofs.segments.versions_of.Goals as goal
 
 pub returns-in-Err-clause-given : goal.returns-in-Err-clause-given
 returns-in-Err-clause-given c =
-    loop-fails VERSION.now (λ (done : List Version) (d : Data). version_of c.args.releases.now (c.args.names.now ++ version_names done) done d) c.args.values.now c.loop-place.place _ c.in-Err.error c.within.result
-    c.loop-place.versions c.index-values-place.result c.index-values-place.is c.loop-place-test.true (rw (← c.loop-place.invariant.0.named, ← c.as_slice.ensures) c.in-Err.ensures.given) c.within.ensures c.loop-place.invariant.1
+    loop-fails VERSION.now (λ (done : List Version) (d : Data). version_of c.args.releases.now (c.args.names.now ++ version_names done) done d)
+    c.args.values.now c.loop-place.place _ c.in-Err.error c.within.result
+    c.loop-place.versions c.index-values-place.result c.index-values-place.is c.loop-place-test.true
+    (rw (← c.loop-place.invariant.0.named, ← c.as_slice.ensures) c.in-Err.ensures.given) c.within.ensures c.loop-place.invariant.1
 
 pub loop-place-preserved : goal.loop-place-preserved
 loop-place-preserved c =
@@ -25,10 +27,13 @@ loop-place-preserved c =
         fields_named = c.in-Ok.ensures.fields ∙ ap field_names (sym last);
         narrow = rw last c.in-Ok.ensures.narrow;
       },
-      loop-goes VERSION.now (λ (done : List Version) (d : Data). version_of c.args.releases.now (c.args.names.now ++ version_names done) done d) c.args.values.now c.loop-place.place _ c.loop-place.versions
-          c.index-values-place.result version c.index-values-place.is c.loop-place-test.true (rw (← so_far.named, ← c.as_slice.ensures) c.in-Ok.ensures.given) c.loop-place.invariant.1,
+      loop-goes VERSION.now (λ (done : List Version) (d : Data). version_of c.args.releases.now (c.args.names.now ++ version_names done) done d)
+          c.args.values.now c.loop-place.place _ c.loop-place.versions
+          c.index-values-place.result version c.index-values-place.is c.loop-place-test.true (rw (← so_far.named, ← c.as_slice.ensures) c.in-Ok.ensures.given)
+          c.loop-place.invariant.1,
     )
 
 pub returns-clause-given : goal.returns-clause-given
 returns-clause-given c =
-    loop-ends VERSION.now (λ (done : List Version) (d : Data). version_of c.args.releases.now (c.args.names.now ++ version_names done) done d) c.args.values.now c.loop-place.place _ c.loop-place.versions c.loop-place-test.false c.loop-place.invariant.1
+    loop-ends VERSION.now (λ (done : List Version) (d : Data). version_of c.args.releases.now (c.args.names.now ++ version_names done) done d) c.args.values.now
+    c.loop-place.place _ c.loop-place.versions c.loop-place-test.false c.loop-place.invariant.1

@@ -9,15 +9,18 @@ messages_at-requires-clause-are_kinds c =
 
 pub reduced_at-requires-clause-few : goal.reduced_at-requires-clause-few
 reduced_at-requires-clause-few c =
-    rw c.as_slice-2.ensures (messages_at-keeps c.args.on.now.definitions c.args.on.now.types c.in_ok-kinds.kinds (table_view c.args.table.now) c.in_ok-messages.messages
+    rw c.as_slice-2.ensures (messages_at-keeps c.args.on.now.definitions c.args.on.now.types c.in_ok-kinds.kinds
+    (table_view c.args.table.now) c.in_ok-messages.messages
     (rw (c.as_slice-types.ensures, c.as_slice.ensures) at c.in_ok-messages.ensures.given)).few
 
 pub reduced_at-requires-clause-apart : goal.reduced_at-requires-clause-apart
 reduced_at-requires-clause-apart c =
-    rw c.as_slice-2.ensures (messages_at-keeps c.args.on.now.definitions c.args.on.now.types c.in_ok-kinds.kinds (table_view c.args.table.now) c.in_ok-messages.messages
+    rw c.as_slice-2.ensures (messages_at-keeps c.args.on.now.definitions c.args.on.now.types c.in_ok-kinds.kinds
+    (table_view c.args.table.now) c.in_ok-messages.messages
     (rw (c.as_slice-types.ensures, c.as_slice.ensures) at c.in_ok-messages.ensures.given)).apart
 
 pub filters_at-requires-clause-few : goal.filters_at-requires-clause-few
 filters_at-requires-clause-few c =
-    rw c.as_slice-2.ensures (messages_at-keeps c.args.on.now.definitions c.args.on.now.types c.in_ok-kinds.kinds (table_view c.args.table.now) c.in_ok-messages.messages
+    rw c.as_slice-2.ensures (messages_at-keeps c.args.on.now.definitions c.args.on.now.types c.in_ok-kinds.kinds
+    (table_view c.args.table.now) c.in_ok-messages.messages
     (rw (c.as_slice-types.ensures, c.as_slice.ensures) at c.in_ok-messages.ensures.given)).few

@@ -18,4 +18,5 @@ loop-place-preserved c =
 
 pub returns : goal.returns
 returns c =
-    loop-ends FUNCTIONS.now (λ (done : List (List ℕ)) (d : Data). function_of d) c.args.values.now c.loop-place.place _ c.loop-place.functions c.loop-place-test.false c.loop-place.invariant
+    loop-ends FUNCTIONS.now (λ (done : List (List ℕ)) (d : Data). function_of d) c.args.values.now c.loop-place.place _ c.loop-place.functions
+    c.loop-place-test.false c.loop-place.invariant

@@ -11,4 +11,5 @@ use Rattle.model_text.proofs.systems.systems_of.Given as goal
 abbrev pub invariant-loop-place : goal.invariant-loop-place
 invariant-loop-place l =
     let read = λ (done : List (System)) (d : Data). system_of (system_names done) d in
-    (l.names ≡ system_names l.systems) × (each SYSTEM.now read l.place l.systems (items_view (drop l.place l.values)) ≡ each SYSTEM.now read 0 [] (items_view l.values))
+    (l.names ≡ system_names l.systems) × (each SYSTEM.now read l.place l.systems (items_view (drop l.place l.values))
+    ≡ each SYSTEM.now read 0 [] (items_view l.values))

@@ -21,9 +21,11 @@ returns c =
               | inl same ↦
                   let leaf : 2 ^ c.args.height + p ≡ c.len.result / 2 + c.args.place = omega (arith, half, same.1) in
                   kept ∙ ap (λ i. bit (slice_set c.args.nodes.now (c.len.result / 2 + c.args.place) c.ready_at-ready.result) i) leaf
-                  ∙ ap (λ o. bit_of o) (set-here c.args.nodes.now (c.len.result / 2 + c.args.place) c.at_mut.result.now c.ready_at-ready.result c.at_mut.ensures.value)
+                  ∙ ap (λ o. bit_of o) (set-here c.args.nodes.now (c.len.result / 2 + c.args.place) c.at_mut.result.now c.ready_at-ready.result
+                  c.at_mut.ensures.value)
                   ∙ c.ready_at-ready.ensures ∙ ap (λ i. is_ready (slice_get c.args.units.now i) (slice_get c.args.heads.now i)) same.1
-              | inr other ↦ kept ∙ ap (λ o. bit_of o) (set-there c.args.nodes.now (c.len.result / 2 + c.args.place) (2 ^ c.args.height + p) c.ready_at-ready.result (λ i. other.1 (omega (arith, i, half)))) ∙ b.ready p (ap (λ t. not t) other.0) small
+              | inr other ↦ kept ∙ ap (λ o. bit_of o) (set-there c.args.nodes.now (c.len.result / 2 + c.args.place)
+                  (2 ^ c.args.height + p) c.ready_at-ready.result (λ i. other.1 (omega (arith, i, half)))) ∙ b.ready p (ap (λ t. not t) other.0) small
             ];
       };
     }

@@ -8,14 +8,17 @@ use Rattle.multi_queue.proofs.counting.enter.Goals as goal
 pub returns-in-Ok-clause-counted : goal.returns-in-Ok-clause-counted
 returns-in-Ok-clause-counted c =
     let x : Entry = c.at_mut.result.now in
-    same-counted c.join_from.new.units c.join_from.new.lanes c.join_from.new.heads c.args.place x (record x { live = true }) c.at_mut.ensures.value refl c.in-Ok.ensures.counted
+    same-counted c.join_from.new.units c.join_from.new.lanes c.join_from.new.heads c.args.place x (record x { live = true }) c.at_mut.ensures.value refl
+    c.in-Ok.ensures.counted
 
 -- the unit with its queues, which is live then
-as-entered : (p : ℕ) (before units : List Entry) (u x : Entry) (qs : List ℕ) → Leaves p before units → slice_get before p ≡ Some u → slice_get units p ≡ Some x → x.queues ≡ qs
+as-entered : (p : ℕ) (before units : List Entry) (u x : Entry) (qs : List ℕ) → Leaves p before units → slice_get before p ≡ Some u →
+    slice_get units p ≡ Some x → x.queues ≡ qs
     → slice_set units p (record x { live = true }) ≡ slice_set before p (record u { queues = qs; live = true })
 as-entered p before units u x qs leaves got now is =
     let one = leaves.leaves u got in
-    let there : slice_get units p ≡ Some (record u { queues = one.0 }) = ap (λ (l : List Entry). slice_get l p) one.1 ∙ set-here before p u (record u { queues = one.0 }) got in
+    let there : slice_get units p ≡ Some (record u { queues = one.0 }) = ap (λ (l : List Entry). slice_get l p) one.1
+    ∙ set-here before p u (record u { queues = one.0 }) got in
     let same : record u { queues = one.0 } ≡ x = cc (there, now) in
     let queues : one.0 ≡ qs = ap (λ (y : Entry). y.queues) same ∙ is in
     ap (λ (y : Entry). slice_set units p (record y { live = true })) (sym same)
@@ -31,15 +34,18 @@ returns-in-Ok-clause-ok c = record {
 }
 
 -- a unit that is in no queue, as before
-as-before : (p : ℕ) (before units : List Entry) (u : Entry) → Leaves p before units → slice_get before p ≡ Some u → u.queues ≡ [] → ((x : Entry) → slice_get units p ≡ Some x → x.queues ≡ [])
+as-before : (p : ℕ) (before units : List Entry) (u : Entry) → Leaves p before units → slice_get before p ≡ Some u → u.queues ≡ [] →
+    ((x : Entry) → slice_get units p ≡ Some x → x.queues ≡ [])
     → units ≡ before
 as-before p before units u leaves got none empty =
     let one = leaves.leaves u got in
-    let there : slice_get units p ≡ Some (record u { queues = one.0 }) = ap (λ (l : List Entry). slice_get l p) one.1 ∙ set-here before p u (record u { queues = one.0 }) got in
+    let there : slice_get units p ≡ Some (record u { queues = one.0 }) = ap (λ (l : List Entry). slice_get l p) one.1
+    ∙ set-here before p u (record u { queues = one.0 }) got in
     one.1 ∙ ap (λ (l : List ℕ). slice_set before p (record u { queues = l })) (empty (record u { queues = one.0 }) there ∙ sym none) ∙ set-get before p u got
 
 pub returns-in-Err-clause-err : goal.returns-in-Err-clause-err
 returns-in-Err-clause-err c =
     let at = slice_get_some c.args.units.now c.args.place (omega (arith, c.requires.last.last)) in
-    as-before c.args.place c.args.units.now c.join_from.new.units at.0 c.in-Err.ensures.others at.1 (left-none c.args.place c.args.units.now at.0 at.1 c.requires.none)
+    as-before c.args.place c.args.units.now c.join_from.new.units at.0 c.in-Err.ensures.others at.1
+    (left-none c.args.place c.args.units.now at.0 at.1 c.requires.none)
     (λ x now. left-none c.args.place c.join_from.new.units x now c.in-Err.ensures.err)

@@ -1,7 +1,8 @@
 use Rattle.std.proofs.Common.{◌+◌, length, take, get_or, arith, ap, ◌∙◌, List, ℕ}
 use Rattle.std.proofs.lemmas.List.{length-take-le}
 use Rattle.multi_queue.specs.Counted.{has}
-use Rattle.multi_queue.proofs.CountedLemmas.{leaves-none, leaves-both, leaves-last, lanes-same, lanes-more, left-none, differ-take, has-at, slice_get_some, joined-in, take_more}
+use Rattle.multi_queue.proofs.CountedLemmas.{leaves-none, leaves-both, leaves-last, lanes-same, lanes-more, left-none, differ-take, has-at, slice_get_some}
+use Rattle.multi_queue.proofs.CountedLemmas.{joined-in, take_more}
 use Rattle.multi_queue.proofs.counting.join_all.Goals as goal
 
 pub loop-queue-init : goal.loop-queue-init
@@ -16,7 +17,12 @@ loop-queue-init g c = record {
 
 pub join_one-requires-clause-known : goal.join_one-requires-clause-known
 join_one-requires-clause-known g c =
-    omega (arith, c.requires.queues.known (get_or c.args.queues.now c.loop-queue.queue-index 0) (has-at c.args.queues.now c.loop-queue.queue-index (omega arith)), c.loop-queue.invariant.lanes.count)
+    omega (
+      arith,
+      c.requires.queues.known (get_or c.args.queues.now c.loop-queue.queue-index 0)
+          (has-at c.args.queues.now c.loop-queue.queue-index (omega arith)),
+      c.loop-queue.invariant.lanes.count,
+    )
 
 pub join_one-requires-clause-joining : goal.join_one-requires-clause-joining
 join_one-requires-clause-joining g c =
@@ -35,7 +41,8 @@ join_one-requires-clause-joining g c =
 pub returns-in-Err-clause-others : goal.returns-in-Err-clause-others
 returns-in-Err-clause-others g c =
     leaves-both c.args.place c.args.units.now c.join_one.new.units c.part_all.new.units
-    (leaves-both c.args.place c.args.units.now c.loop-queue.units c.join_one.new.units c.loop-queue.invariant.others c.join_one.ensures.others) c.part_all.ensures.others
+    (leaves-both c.args.place c.args.units.now c.loop-queue.units c.join_one.new.units c.loop-queue.invariant.others c.join_one.ensures.others)
+    c.part_all.ensures.others
 
 pub returns-in-Err-clause-lanes : goal.returns-in-Err-clause-lanes
 returns-in-Err-clause-lanes g c =

@@ -11,20 +11,25 @@ returns-in-Ok-clause-counted c =
     let same : it.unit ≡ c.at_mut.result.now = cc (it.stands, c.at_mut.ensures.value) in
     let apart = subst (λ (v : Entry). has c.args.queue v.queues ≡ false) same it.apart in
     let few = subst (λ (v : Entry). length v.queues < 8) same it.few in
-    subst (λ (l : List ℕ). IsCounted (Some c.args.queue) (slice_set c.args.units.now c.args.place (record c.at_mut.result.now { queues = l })) (slice_set c.args.lanes.now c.args.queue (record c.at_mut-2.result.now { line = c.push-2.new.self })) c.args.heads.now) (sym c.in_default.ensures.ok)
+    subst (λ (l : List ℕ). IsCounted (Some c.args.queue) (slice_set c.args.units.now c.args.place (record c.at_mut.result.now { queues = l }))
+    (slice_set c.args.lanes.now c.args.queue (record c.at_mut-2.result.now { line = c.push-2.new.self })) c.args.heads.now) (sym c.in_default.ensures.ok)
     (changed c.args.queue c.args.place c.args.units.now c.args.lanes.now c.args.heads.now c.at_mut.result.now _ c.at_mut-2.result.now _ c.at_mut-2.ensures.value
-    (joining c.args.queue c.args.place c.args.units.now c.args.lanes.now c.args.heads.now c.at_mut.result.now c.at_mut-2.result.now _ c.at_mut-2.ensures.value c.requires.known c.at_mut.ensures.value it.last apart few c.in-Ok.ensures.ok c.requires.counted)
+    (joining c.args.queue c.args.place c.args.units.now c.args.lanes.now c.args.heads.now c.at_mut.result.now c.at_mut-2.result.now _ c.at_mut-2.ensures.value
+    c.requires.known c.at_mut.ensures.value it.last apart few c.in-Ok.ensures.ok c.requires.counted)
     c.requires.counted)
 
 pub returns-in-Err-clause-err : goal.returns-in-Err-clause-err
-returns-in-Err-clause-err c = subst (λ (l : List ℕ). slice_set c.args.units.now c.args.place (record c.at_mut.result.now { queues = l }) ≡ c.args.units.now) (sym c.in-Err.ensures.err)
+returns-in-Err-clause-err c = subst (λ (l : List ℕ). slice_set c.args.units.now c.args.place (record c.at_mut.result.now { queues = l }) ≡ c.args.units.now)
+    (sym c.in-Err.ensures.err)
     (set-get c.args.units.now c.args.place c.at_mut.result.now c.at_mut.ensures.value)
 
 pub returns-in-Err-clause-counted : goal.returns-in-Err-clause-counted
-returns-in-Err-clause-counted c = subst (λ (l : List Entry). IsCounted (Some c.args.queue) l c.args.lanes.now c.args.heads.now) (sym (returns-in-Err-clause-err c)) c.requires.counted
+returns-in-Err-clause-counted c = subst (λ (l : List Entry). IsCounted (Some c.args.queue) l c.args.lanes.now c.args.heads.now)
+    (sym (returns-in-Err-clause-err c)) c.requires.counted
 
 pub returns-in-Err-clause-others : goal.returns-in-Err-clause-others
-returns-in-Err-clause-others c = subst (λ (l : List Entry). Leaves c.args.place c.args.units.now l) (sym (returns-in-Err-clause-err c)) (leaves-none c.args.place c.args.units.now)
+returns-in-Err-clause-others c = subst (λ (l : List Entry). Leaves c.args.place c.args.units.now l) (sym (returns-in-Err-clause-err c))
+    (leaves-none c.args.place c.args.units.now)
 
 pub returns-in-Err-clause-lanes : goal.returns-in-Err-clause-lanes
 returns-in-Err-clause-lanes c = lanes-same c.args.lanes.now
@@ -32,22 +37,29 @@ returns-in-Err-clause-lanes c = lanes-same c.args.lanes.now
 pub returns-in-Err-push-clause-err : goal.returns-in-Err-push-clause-err
 returns-in-Err-push-clause-err c =
     let u = c.at_mut.result.now in
-    let mid : slice_get (slice_set c.args.units.now c.args.place (record u { queues = c.push.new.self })) c.args.place ≡ Some (record u { queues = c.push.new.self }) =
+    let mid : slice_get (slice_set c.args.units.now c.args.place (record u { queues = c.push.new.self })) c.args.place
+    ≡ Some (record u { queues = c.push.new.self }) =
     set-here c.args.units.now c.args.place u (record u { queues = c.push.new.self }) c.at_mut.ensures.value in
     let same : record u { queues = c.push.new.self } ≡ c.at_mut-in-Err-push.result.now = cc (mid, c.at_mut-in-Err-push.ensures.value) in
-    let row : c.cut.new.self ≡ u.queues = c.cut.ensures ∙ ap (λ (v : Entry). take (length v.queues - 1) v.queues) (sym same) ∙ ap (λ (l : List ℕ). take (length l - 1) l) c.in_default.ensures.ok ∙ take-snoc u.queues c.args.queue in
-    let back : record c.at_mut-in-Err-push.result.now { queues = c.cut.new.self } ≡ u = ap (λ (v : Entry). record v { queues = c.cut.new.self }) (sym same) ∙ ap (λ (l : List ℕ). record u { queues = l }) row in
+    let row : c.cut.new.self ≡ u.queues = c.cut.ensures ∙ ap (λ (v : Entry). take (length v.queues - 1) v.queues) (sym same)
+    ∙ ap (λ (l : List ℕ). take (length l - 1) l) c.in_default.ensures.ok ∙ take-snoc u.queues c.args.queue in
+    let back : record c.at_mut-in-Err-push.result.now { queues = c.cut.new.self } ≡ u = ap (λ (v : Entry). record v { queues = c.cut.new.self }) (sym same)
+    ∙ ap (λ (l : List ℕ). record u { queues = l }) row in
     ap (λ (v : Entry). slice_set (slice_set c.args.units.now c.args.place (record u { queues = c.push.new.self })) c.args.place v) back
     ∙ set-twice c.args.units.now c.args.place (record u { queues = c.push.new.self }) u ∙ set-get c.args.units.now c.args.place u c.at_mut.ensures.value
 
 pub returns-in-Err-push-clause-counted : goal.returns-in-Err-push-clause-counted
 returns-in-Err-push-clause-counted c =
-    subst (λ (l : List Entry). IsCounted (Some c.args.queue) l (slice_set c.args.lanes.now c.args.queue (record c.at_mut-2.result.now { line = c.push-2.new.self })) c.args.heads.now) (sym (returns-in-Err-push-clause-err c))
-    (subst (λ (l : List Lane). IsCounted (Some c.args.queue) c.args.units.now l c.args.heads.now) (sym (ap (λ (l : List ℕ). slice_set c.args.lanes.now c.args.queue (record c.at_mut-2.result.now { line = l })) c.in-Err-push.ensures.err
+    subst (λ (l : List Entry). IsCounted (Some c.args.queue) l
+    (slice_set c.args.lanes.now c.args.queue (record c.at_mut-2.result.now { line = c.push-2.new.self })) c.args.heads.now)
+    (sym (returns-in-Err-push-clause-err c))
+    (subst (λ (l : List Lane). IsCounted (Some c.args.queue) c.args.units.now l c.args.heads.now)
+    (sym (ap (λ (l : List ℕ). slice_set c.args.lanes.now c.args.queue (record c.at_mut-2.result.now { line = l })) c.in-Err-push.ensures.err
     ∙ set-get_lane c.args.lanes.now c.args.queue c.at_mut-2.result.now c.at_mut-2.ensures.value)) c.requires.counted)
 
 pub returns-in-Err-push-clause-others : goal.returns-in-Err-push-clause-others
-returns-in-Err-push-clause-others c = subst (λ (l : List Entry). Leaves c.args.place c.args.units.now l) (sym (returns-in-Err-push-clause-err c)) (leaves-none c.args.place c.args.units.now)
+returns-in-Err-push-clause-others c = subst (λ (l : List Entry). Leaves c.args.place c.args.units.now l) (sym (returns-in-Err-push-clause-err c))
+    (leaves-none c.args.place c.args.units.now)
 
 pub returns-in-Err-push-clause-lanes : goal.returns-in-Err-push-clause-lanes
 returns-in-Err-push-clause-lanes c = lanes-line c.args.queue c.args.lanes.now c.at_mut-2.result.now c.push-2.new.self c.at_mut-2.ensures.value

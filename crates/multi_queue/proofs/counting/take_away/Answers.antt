@@ -35,13 +35,16 @@ as-gone p before units u x leaves got now none =
 pub returns-clause-counted : goal.returns-clause-counted
 returns-clause-counted g c =
     let x : Entry = c.at_mut-unit.result.now in
-    same-counted c.leave_all.new.units c.leave_all.new.lanes c.leave_all.new.heads c.args.place x (record x { live = false; claim = None }) c.at_mut-unit.ensures.value refl c.leave_all.ensures.counted
+    same-counted c.leave_all.new.units c.leave_all.new.lanes c.leave_all.new.heads c.args.place x
+    (record x { live = false; claim = None }) c.at_mut-unit.ensures.value refl c.leave_all.ensures.counted
 
 pub returns-clause-board : goal.returns-clause-board
 returns-clause-board g c =
     let x : Entry = c.at_mut-unit.result.now in
-    let busy = still-claimed c.args.place c.args.units.now c.leave_all.new.units x c.requires.within c.leave_all.ensures.others c.at_mut-unit.ensures.value c.requires.claimed.claimed in
-    board-idle c.args.height c.args.place x (record x { live = false; claim = None }) c.leave_all.new.units c.leave_all.new.heads c.leave_all.new.nodes c.at_mut-unit.ensures.value
+    let busy = still-claimed c.args.place c.args.units.now c.leave_all.new.units x c.requires.within c.leave_all.ensures.others c.at_mut-unit.ensures.value
+    c.requires.claimed.claimed in
+    board-idle c.args.height c.args.place x (record x { live = false; claim = None }) c.leave_all.new.units c.leave_all.new.heads c.leave_all.new.nodes
+    c.at_mut-unit.ensures.value
     (λ o. claimed-busy x o busy) (λ o. dead-idle (record x { live = false; claim = None }) o refl) c.leave_all.ensures.board
 
 pub returns-clause-units : goal.returns-clause-units

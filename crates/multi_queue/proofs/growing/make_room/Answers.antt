@@ -10,9 +10,12 @@ use Rattle.multi_queue.proofs.growing.make_room.Goals as goal
 pub returns-in-Ok-clause-placed : goal.returns-in-Ok-clause-placed
 returns-in-Ok-clause-placed c =
     let behind = c.in_default-push_entry.ensures.behind in
-    let others = subst (λ (n : ℕ). (number : ℕ × ℕ) → get numbers_cmp c.insert.new.self number ≡ cond (is_eq (numbers_cmp c.number_of.result number)) (Some n) (get numbers_cmp c.args.places.now number))
+    let others = subst (λ (n : ℕ). (number : ℕ × ℕ) → get numbers_cmp c.insert.new.self number ≡ cond (is_eq (numbers_cmp c.number_of.result number)) (Some n)
+    (get numbers_cmp c.args.places.now number))
     c.len-place.ensures c.in-Ok.ensures.updates.0 in
-    let named = subst (λ (n : ℕ × ℕ). (number : ℕ × ℕ) → get numbers_cmp c.insert.new.self number ≡ cond (is_eq (numbers_cmp n number)) (Some (length c.args.units.now)) (get numbers_cmp c.args.places.now number))
+    let named = subst (λ (n : ℕ × ℕ). (number : ℕ × ℕ) →
+    get numbers_cmp c.insert.new.self number ≡ cond (is_eq (numbers_cmp n number)) (Some (length c.args.units.now))
+    (get numbers_cmp c.args.places.now number))
     c.number_of.ensures others in
     subst (λ (l : List Entry). IsPlaced l (get numbers_cmp c.insert.new.self)) (sym behind.units_are)
     (placed-behind c.args.tid c.args.units.now (get numbers_cmp c.args.places.now) (get numbers_cmp c.insert.new.self) c.requires.placed c.requires.new named)

@@ -9,7 +9,8 @@ use Rattle.multi_queue.proofs.listing.lines.Goals as goal
 pub loop-queue-init : goal.loop-queue-init
 loop-queue-init c =
     let gives = line_at c.args.units.now c.args.lanes.now c.args.heads.now in
-    let rest : c.into_iter-queue-iterator.result ≡ values c.args.names.now = c.into_iter-queue-iterator.ensures.into_iter_gives ∙ c.values-queue-items.ensures.rest in
+    let rest : c.into_iter-queue-iterator.result ≡ values c.args.names.now = c.into_iter-queue-iterator.ensures.into_iter_gives
+    ∙ c.values-queue-items.ensures.rest in
     record {
       lines = ap (λ (l : List QueueCount). l ++ filter_map gives c.into_iter-queue-iterator.result) c.new-lines.ensures ∙ ap (filter_map gives) rest;
       known = subst (AllByRecursion (λ q. q < length c.args.lanes.now)) (sym rest)

@@ -13,13 +13,17 @@ pub returns-in-Ok-clause-named : goal.returns-in-Ok-clause-named
 returns-in-Ok-clause-named c =
     let w : Lane = record { key = c.args.key.now; stopped = false; line = [] } in
     let e : c.push.new.self ≡ c.args.lanes.now ++ w ∷ [] = c.in_default.ensures.ok ∙ ap (λ (x : Lane). c.args.lanes.now ++ x ∷ []) c.new_lane.ensures in
-    let others = subst (λ (n : ℕ). (name : ℕ × List ℕ) → get names_cmp c.insert.new.self name ≡ cond (is_eq (names_cmp c.name_of.result name)) (Some n) (get names_cmp c.args.names.now name))
+    let others = subst (λ (n : ℕ). (name : ℕ × List ℕ) → get names_cmp c.insert.new.self name ≡ cond (is_eq (names_cmp c.name_of.result name)) (Some n)
+    (get names_cmp c.args.names.now name))
     c.len-number.ensures c.in-Ok.ensures.updates.0 in
-    let named = subst (λ (n : ℕ × List ℕ). (name : ℕ × List ℕ) → get names_cmp c.insert.new.self name ≡ cond (is_eq (names_cmp n name)) (Some (length c.args.lanes.now)) (get names_cmp c.args.names.now name))
+    let named = subst (λ (n : ℕ × List ℕ). (name : ℕ × List ℕ) →
+    get names_cmp c.insert.new.self name ≡ cond (is_eq (names_cmp n name)) (Some (length c.args.lanes.now)) (get names_cmp c.args.names.now name))
     c.name_of.ensures.name others in
-    let here = subst (λ (n : ℕ × List ℕ). get names_cmp c.insert.new.self n ≡ Some c.len-number.result) c.name_of.ensures.name c.in-Ok.ensures.updates.1 ∙ ap (λ (n : ℕ). Some n) c.len-number.ensures in
+    let here = subst (λ (n : ℕ × List ℕ). get names_cmp c.insert.new.self n ≡ Some c.len-number.result) c.name_of.ensures.name c.in-Ok.ensures.updates.1
+    ∙ ap (λ (n : ℕ). Some n) c.len-number.ensures in
     subst (λ (l : List Lane). IsNamed l (get names_cmp c.insert.new.self)) (sym e)
-    (named-new c.args.lanes.now (get names_cmp c.args.names.now) (get names_cmp c.insert.new.self) w c.requires.named c.requires.new c.name_of.ensures.proper named here)
+    (named-new c.args.lanes.now (get names_cmp c.args.names.now) (get names_cmp c.insert.new.self) w c.requires.named c.requires.new c.name_of.ensures.proper
+    named here)
 
 pub returns-in-Ok-clause-number : goal.returns-in-Ok-clause-number
 returns-in-Ok-clause-number c =

@@ -9,5 +9,6 @@ use Rattle.multi_queue.proofs.numbering.number_in.Goals as goal
 
 pub returns-in-Some-clause-number : goal.returns-in-Some-clause-number
 returns-in-Some-clause-number c =
-    let there = lane-there c.args.lanes.now (get names_cmp c.args.names.now) c.args.key.now c.in-Some.queue c.requires.named c.in-Some.ensures.proper (sym c.in-Some.ensures.number) in
+    let there = lane-there c.args.lanes.now (get names_cmp c.args.names.now) c.args.key.now c.in-Some.queue c.requires.named c.in-Some.ensures.proper
+    (sym c.in-Some.ensures.number) in
     ap (option_map (λ (lane : Lane). lane.key)) there.1 ∙ ap (λ (key : QueueKey). Some key) there.2

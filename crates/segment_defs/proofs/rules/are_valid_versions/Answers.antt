@@ -7,4 +7,6 @@ use Rattle.segment_defs.proofs.rules.are_valid_versions.Goals as goal
 pub returns : goal.returns
 returns c =
     let versions = c.args.versions.now in
-    all-decided IsVersion versions c.all.result (cases_from_all _ _ c.all.result IsVersion (λ version. IsVersion version → ⊥) c.all.ensures.ran (YieldsList-from_slice versions cc) (λ x q k. search (rules, tests)) (λ x q k. search (rules, tests)))
+    all-decided IsVersion versions c.all.result
+    (cases_from_all _ _ c.all.result IsVersion (λ version. IsVersion version → ⊥) c.all.ensures.ran (YieldsList-from_slice versions cc)
+    (λ x q k. search (rules, tests)) (λ x q k. search (rules, tests)))

@@ -10,5 +10,13 @@ returns-then-earlier-newer c =
     let same : (a b : Field) → Decides (field.eq-value.it a b) (a ≡ b) = λ a b. search rules in
     let fields = c.as_slice.result.now in
     let earlier = c.as_slice-then-earlier-newer.result.now in
-    let starts = starts_is same fields earlier c.starts_with.result c.starts_with.ensures.value in
-    (λ true. record { later = c.if-earlier-newer.true; added = drop (length c.args.earlier.now.fields) c.args.newer.now.fields; fields = rw (c.as_slice.ensures, c.as_slice-then-earlier-newer.ensures) at (starts.0 true) }, λ is. starts.1 is.added (rw (c.as_slice.ensures, c.as_slice-then-earlier-newer.ensures) is.fields))
+    let starts = starts_is same fields earlier c.starts_with.result c.starts_with.ensures.value in (
+      λ true. record {
+        later = c.if-earlier-newer.true;
+        added = drop (length c.args.earlier.now.fields) c.args.newer.now.fields;
+        fields = rw
+            (c.as_slice.ensures, c.as_slice-then-earlier-newer.ensures) at (starts.0 true);
+      },
+      λ is.
+          starts.1 is.added (rw (c.as_slice.ensures, c.as_slice-then-earlier-newer.ensures) is.fields),
+    )

@@ -10,4 +10,5 @@ pub returns : goal.returns
 returns c =
     let name = c.args.name.now in
     let test : Field → Bool = λ field. not (is_text name field.name) in
-    differs-decided is_text (λ field. field.name) name c.args.fields.now c.all.result (all_from_yields_List test _ _ c.all.result c.all.ensures.ran (YieldsList-from_slice c.args.fields.now cc) (λ x b q k. search (rules, tests)))
+    differs-decided is_text (λ field. field.name) name c.args.fields.now c.all.result
+    (all_from_yields_List test _ _ c.all.result c.all.ensures.ran (YieldsList-from_slice c.args.fields.now cc) (λ x b q k. search (rules, tests)))

@@ -12,7 +12,9 @@ returns c =
     let versions = c.args.versions.now in
     let IsNew : List ℕ → Type 0 = λ name. AllByRecursion (λ other. is_text name other ≡ false) (flat_map names_of c.args.types.now) in
     let IsApart : Version → Type 0 = λ version. IsNew version.name in
-    let all = all-decided IsApart versions c.all.result (cases_from_all _ _ c.all.result IsApart (λ version. IsApart version → ⊥) c.all.ensures.ran (YieldsList-from_slice versions cc) (λ x q k. search (rules, tests)) (λ x q k. search (rules, tests))) in (
+    let all = all-decided IsApart versions c.all.result
+    (cases_from_all _ _ c.all.result IsApart (λ version. IsApart version → ⊥) c.all.ensures.ran (YieldsList-from_slice versions cc)
+    (λ x q k. search (rules, tests)) (λ x q k. search (rules, tests))) in (
       λ true. AllByRecursion-map IsNew (λ version. version.name) versions (all.0 true),
       λ whole. all.1 (AllByRecursion-from_map IsNew (λ version. version.name) versions whole),
     )

@@ -9,4 +9,5 @@ pub returns : goal.returns
 returns c =
     let entries = c.args.entries.now in
     let IsOne : TypePlace → Type 0 = IsEntry c.args.definitions.now in
-    all-decided IsOne entries c.all.result (cases_from_all _ _ c.all.result IsOne (λ entry. IsOne entry → ⊥) c.all.ensures.ran (YieldsList-from_slice entries cc) (λ x q k. search (rules, tests)) (λ x q k. search (rules, tests)))
+    all-decided IsOne entries c.all.result (cases_from_all _ _ c.all.result IsOne (λ entry. IsOne entry → ⊥) c.all.ensures.ran
+    (YieldsList-from_slice entries cc) (λ x q k. search (rules, tests)) (λ x q k. search (rules, tests)))

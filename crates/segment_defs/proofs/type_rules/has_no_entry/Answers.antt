@@ -9,4 +9,5 @@ pub returns : goal.returns
 returns c =
     let segment = c.args.segment in
     let test : TypePlace → Bool = λ entry. not (nat_eq segment entry.segment) in
-    differs-decided nat_eq (λ entry. entry.segment) segment c.args.entries.now c.all.result (all_from_yields_List test _ _ c.all.result c.all.ensures.ran (YieldsList-from_slice c.args.entries.now cc) (λ x b q k. search (rules, tests)))
+    differs-decided nat_eq (λ entry. entry.segment) segment c.args.entries.now c.all.result
+    (all_from_yields_List test _ _ c.all.result c.all.ensures.ran (YieldsList-from_slice c.args.entries.now cc) (λ x b q k. search (rules, tests)))

@@ -12,6 +12,8 @@ returns c =
     let types = c.args.types.now in
     let Differs : List ℕ → Type 0 = λ other. is_text c.args.name.now other ≡ false in
     let Differ : SegmentType → Type 0 = λ segment. AllByRecursion Differs (names_of segment) in
-    let all = all-decided Differ types c.all.result (cases_from_all _ _ c.all.result Differ (λ segment. Differ segment → ⊥) c.all.ensures.ran (YieldsList-from_slice types cc) (λ x q k. search (rules, tests)) (λ x q k. search (rules, tests))) in
+    let all = all-decided Differ types c.all.result
+    (cases_from_all _ _ c.all.result Differ (λ segment. Differ segment → ⊥) c.all.ensures.ran (YieldsList-from_slice types cc)
+    (λ x q k. search (rules, tests)) (λ x q k. search (rules, tests))) in
     let joined = AllByRecursion-flat_map Differs names_of types in
     (λ true. joined.0 (all.0 true), λ whole. all.1 (joined.1 whole))

@@ -10,4 +10,5 @@ pub returns : goal.returns
 returns c =
     let name = c.args.name.now in
     let test : Version → Bool = λ version. not (is_text name version.name) in
-    differs-decided is_text (λ version. version.name) name c.args.versions.now c.all.result (all_from_yields_List test _ _ c.all.result c.all.ensures.ran (YieldsList-from_slice c.args.versions.now cc) (λ x b q k. search (rules, tests)))
+    differs-decided is_text (λ version. version.name) name c.args.versions.now c.all.result
+    (all_from_yields_List test _ _ c.all.result c.all.ensures.ran (YieldsList-from_slice c.args.versions.now cc) (λ x b q k. search (rules, tests)))

@@ -32,15 +32,21 @@ loop-above-preserved c =
     elim c.if-levels-gt0.branch [
       | then-levels-gt0 w ↦
           let why : (0 < c.loop-above.levels) ⊎ (c.in-Some.at ≡ c.args.place) = elim w.then-levels-gt0.either [ inl some ↦ inl some | inr same ↦ inr same.1 ] in
-          subst (λ levels. IsWalk entries c.args.place levels c.map-above.result whole) (sym w.levels-is) (walk-counts entries c.args.place c.loop-above.levels c.in-Some.at whole c.loop-above.above c.in-Some.is c.loop-above.invariant entry c.index-entries-at.is c.map-above.result (parent c) why)
+          subst (λ levels. IsWalk entries c.args.place levels c.map-above.result whole) (sym w.levels-is)
+          (walk-counts entries c.args.place c.loop-above.levels c.in-Some.at whole c.loop-above.above c.in-Some.is c.loop-above.invariant entry
+          c.index-entries-at.is c.map-above.result (parent c) why)
       | else-levels-gt0+else-at-place w ↦
-          subst (λ levels. IsWalk entries c.args.place levels c.map-above.result whole) (sym w.levels-is) (walk-passes entries c.args.place c.loop-above.levels c.in-Some.at whole c.loop-above.above c.in-Some.is c.loop-above.invariant entry c.index-entries-at.is c.map-above.result (parent c) w.if-levels-gt0.false w.if-at-place.false)
+          subst (λ levels. IsWalk entries c.args.place levels c.map-above.result whole) (sym w.levels-is)
+          (walk-passes entries c.args.place c.loop-above.levels c.in-Some.at whole c.loop-above.above c.in-Some.is c.loop-above.invariant entry
+          c.index-entries-at.is c.map-above.result (parent c) w.if-levels-gt0.false w.if-at-place.false)
     ]
 
 pub loop-above-smaller : goal.loop-above-smaller
 loop-above-smaller c =
-    walk-smaller c.args.entries.now c.args.place c.loop-above.levels c.in-Some.at _ c.loop-above.above c.in-Some.is c.loop-above.invariant c.index-entries-at.result c.index-entries-at.is c.map-above.result (parent (goal.at.loop-above-smaller c).After-map-above)
+    walk-smaller c.args.entries.now c.args.place c.loop-above.levels c.in-Some.at _ c.loop-above.above c.in-Some.is c.loop-above.invariant
+    c.index-entries-at.result c.index-entries-at.is c.map-above.result (parent (goal.at.loop-above-smaller c).After-map-above)
 
 pub returns : goal.returns
 returns c =
-    walk-ends c.args.entries.now c.args.place c.loop-above.levels (path_behind 0 [] c.args.entries.now) c.loop-above.above c.in_default.is c.loop-above.invariant
+    walk-ends c.args.entries.now c.args.place c.loop-above.levels (path_behind 0 [] c.args.entries.now) c.loop-above.above c.in_default.is
+    c.loop-above.invariant

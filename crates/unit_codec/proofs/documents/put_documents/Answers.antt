@@ -9,5 +9,6 @@ pub returns : goal.returns
 unfolding documents
 returns c =
     let values = c.args.values.now in
-    listed-put w32 is_some_count document any values c.as_slice.result.now _ c.args.into.now.items c.put_four_bytes.new.into.items c.put_listed.new.into.items c.put_listed.result
+    listed-put w32 is_some_count document any values c.as_slice.result.now _ c.args.into.now.items c.put_four_bytes.new.into.items c.put_listed.new.into.items
+    c.put_listed.result
     c.len.ensures c.as_slice.ensures (le-leb 1 (length values) c.requires.0.0) (AllFollow-any [] values) c.in_ok-put_four_bytes.ensures c.put_listed.ensures

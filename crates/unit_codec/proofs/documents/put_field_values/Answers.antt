@@ -9,5 +9,7 @@ pub returns : goal.returns
 unfolding field_values
 returns c =
     let values = c.args.values.now in
-    listed-put w32 is_some_count field_value any values c.as_slice.result.now _ c.args.into.now.items c.put_four_bytes.new.into.items c.put_listed.new.into.items c.put_listed.result
-    c.len.ensures c.as_slice.ensures (le-leb 1 (length values) c.requires.counted.0) (AllFollow-any [] values) c.in_ok-put_four_bytes.ensures c.put_listed.ensures
+    listed-put w32 is_some_count field_value any values c.as_slice.result.now _ c.args.into.now.items c.put_four_bytes.new.into.items
+    c.put_listed.new.into.items c.put_listed.result
+    c.len.ensures c.as_slice.ensures (le-leb 1 (length values) c.requires.counted.0) (AllFollow-any [] values) c.in_ok-put_four_bytes.ensures
+    c.put_listed.ensures

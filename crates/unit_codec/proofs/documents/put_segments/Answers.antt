@@ -9,5 +9,6 @@ pub returns : goal.returns
 unfolding segments
 returns c =
     let values = c.args.values.now in
-    listed-put w32 is_few segment any values c.as_slice.result.now _ c.args.into.now.items c.put_four_bytes.new.into.items c.put_listed.new.into.items c.put_listed.result
+    listed-put w32 is_few segment any values c.as_slice.result.now _ c.args.into.now.items c.put_four_bytes.new.into.items c.put_listed.new.into.items
+    c.put_listed.result
     c.len.ensures c.as_slice.ensures (le-leb (length values) 10000 c.requires) (AllFollow-any [] values) c.in_ok-put_four_bytes.ensures c.put_listed.ensures

@@ -9,5 +9,7 @@ pub returns : goal.returns
 unfolding queues
 returns c =
     let values = c.args.values.now in
-    listed-put w8 is_few_queues queue is_other values c.as_slice.result.now _ c.args.into.now.items c.put_byte.new.into.items c.put_listed.new.into.items c.put_listed.result
-    c.len.ensures c.as_slice.ensures (le-leb (length values) 8 c.requires.0) (AllFollow-different values c.requires.1) c.in_ok-put_byte.ensures c.put_listed.ensures
+    listed-put w8 is_few_queues queue is_other values c.as_slice.result.now _ c.args.into.now.items c.put_byte.new.into.items c.put_listed.new.into.items
+    c.put_listed.result
+    c.len.ensures c.as_slice.ensures (le-leb (length values) 8 c.requires.0) (AllFollow-different values c.requires.1) c.in_ok-put_byte.ensures
+    c.put_listed.ensures

@@ -12,9 +12,11 @@ fall-requires-clause-up g c =
     let world = c.args.kept.now.world in
     let rules = g.R.Rules.meaning c.args.kept.now.world.rules in
     let due = c.requires.due in
-    ap (λ k. is_up k.world c.args.system) (was-full rules g.V.Volumes.faults c.args.kept.now c.record.new.kept due.event (at c.args.system c.args.next) c.record.result
+    ap (λ k. is_up k.world c.args.system) (was-full rules g.V.Volumes.faults c.args.kept.now c.record.new.kept due.event
+    (at c.args.system c.args.next) c.record.result
     c.in-Err-Full.field-0 c.in-Err-Full.size c.in-Err-Full.is c.in-Err-Full.field-0-is (c.record.ensures.ends due.event due.appends)).same
-    ∙ event-up rules (g.met.R.Rules.lawful c.args.kept.now.world.rules) world c.requires.landscape.safe c.requires.landscape.writable due.event c.args.system c.args.next
+    ∙ event-up rules (g.met.R.Rules.lawful c.args.kept.now.world.rules) world c.requires.landscape.safe c.requires.landscape.writable due.event c.args.system
+    c.args.next
     c.args.claim due.appends
 
 pub returns-in-Err-Full-clause-landscape : goal.returns-in-Err-Full-clause-landscape
@@ -22,9 +24,11 @@ returns-in-Err-Full-clause-landscape g c =
     let world = c.args.kept.now.world in
     let rules = g.R.Rules.meaning c.args.kept.now.world.rules in
     let due = c.requires.due in
-    let up = ap (λ k. is_up k.world c.args.system) (was-full rules g.V.Volumes.faults c.args.kept.now c.record.new.kept due.event (at c.args.system c.args.next) c.record.result
+    let up = ap (λ k. is_up k.world c.args.system)
+    (was-full rules g.V.Volumes.faults c.args.kept.now c.record.new.kept due.event (at c.args.system c.args.next) c.record.result
     c.in-Err-Full.field-0 c.in-Err-Full.size c.in-Err-Full.is c.in-Err-Full.field-0-is (c.record.ensures.ends due.event due.appends)).same
-    ∙ event-up rules (g.met.R.Rules.lawful c.args.kept.now.world.rules) world c.requires.landscape.safe c.requires.landscape.writable due.event c.args.system c.args.next
+    ∙ event-up rules (g.met.R.Rules.lawful c.args.kept.now.world.rules) world c.requires.landscape.safe c.requires.landscape.writable due.event c.args.system
+    c.args.next
     c.args.claim due.appends in
     landscape-step g.R.Rules.meaning g.met.R.Rules.lawful c.record.new.kept.world c.fall.new.self.world (Fall c.args.system None) c.record.ensures.landscape
     (c.fall.ensures.world ∙ sym (falls-up (g.R.Rules.meaning c.record.new.kept.world.rules) c.record.new.kept.world c.args.system up))

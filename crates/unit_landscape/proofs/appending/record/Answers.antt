@@ -34,5 +34,6 @@ returns-clause-landscape g c =
     landscape-ends g.R.Rules.meaning g.met.R.Rules.lawful g.A.Application.stands g.V.Volumes.told g.V.Volumes.volume g.V.Volumes.faults c.args.kept.now
     c.requires.landscape c.append.new.self c.args.system c.args.next c.args.claim due.event due.appends c.append.result
     (ends-as g.R.Rules.meaning g.met.R.Rules.lawful g.A.Application.stands g.V.Volumes.told g.V.Volumes.volume g.V.Volumes.faults c.args.kept.now
-    c.requires.landscape c.append.new.self c.args.system c.args.next c.args.claim due.event due.appends c.append.result c.world.ensures.kept c.append.ensures.did
+    c.requires.landscape c.append.new.self c.args.system c.args.next c.args.claim due.event due.appends c.append.result c.world.ensures.kept
+    c.append.ensures.did
     c.append.ensures.journals c.append.ensures.unchanged c.append.ensures.overruns c.append.ensures.full c.append.ensures.faults)

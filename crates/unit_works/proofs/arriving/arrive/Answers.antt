@@ -1,6 +1,7 @@
 use Rattle.std.proofs.lemmas.Result.{IfOk-weaker}
 use Rattle.unit_landscape.specs.Calls.{Arrived}
-use Rattle.unit_works.proofs.ArrivingLemmas.{again-arrived, arrives-committed, arrives-may, begins-none, claims-arrived, finished-arrived, has-arrived, went-arrived}
+use Rattle.unit_works.proofs.ArrivingLemmas.{again-arrived, arrives-committed, arrives-may, begins-none, claims-arrived, finished-arrived, has-arrived}
+use Rattle.unit_works.proofs.ArrivingLemmas.{went-arrived}
 use Rattle.unit_works.proofs.WorkedLemmas.{meaning, is_lawful, ok-of}
 use Rattle.unit_works.proofs.arriving.arrive.Goals as goal
 

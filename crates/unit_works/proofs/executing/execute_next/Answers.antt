@@ -20,10 +20,13 @@ returns-in_err-finished g c =
 
 pub returns : goal.returns
 returns g c =
-    let is = subst (λ found. IfSome found (IsExecuted (meaning c.args.landscape.now.world.rules) c.args.landscape.now.world c.claim_to_execute.new.landscape.world
+    let is = subst (λ found. IfSome found (IsExecuted (meaning c.args.landscape.now.world.rules) c.args.landscape.now.world
+    c.claim_to_execute.new.landscape.world
     c.args.system))
     c.in-Some.is c.in_ok-claim.ensures.claim in
-    executed g.V.Volumes.faults c.args.landscape.now c.claim_to_execute.new.landscape c.finish.new.landscape c.args.system c.in-Some.claim c.in_ok-finished.finished
-    c.in_ok-claim.ensures.went c.claim_to_execute.ensures.finished is c.in_ok-finished.ensures.went c.in_ok-finished.ensures.finished c.in_ok-finished.ensures.claims
+    executed g.V.Volumes.faults c.args.landscape.now c.claim_to_execute.new.landscape c.finish.new.landscape c.args.system c.in-Some.claim
+    c.in_ok-finished.finished
+    c.in_ok-claim.ensures.went c.claim_to_execute.ensures.finished is c.in_ok-finished.ensures.went c.in_ok-finished.ensures.finished
+    c.in_ok-finished.ensures.claims
     c.in_ok-finished.ensures.grew
     c.ended_by.result c.ended_by.ensures

@@ -40,5 +40,6 @@ returns c = record {
   gone = λ gone. subst (AllNodes (λ segment. removes c.args.profile.now segment.type ≡ false)) (sym (same c))
       (converted-gone c.args.model.now c.args.profile.now (forest_of c.args.forest.items) gone);
   of_message = λ is. subst (IsOfMessage c.args.model.now c.args.profile.now.message) (sym (same c))
-      (converted-IsOfMessage c.args.model.now c.args.profile.now c.args.profile.now.message (forest_of c.args.forest.items) c.as_lists-lists.ensures.kept c.requires.profile is);
+      (converted-IsOfMessage c.args.model.now c.args.profile.now c.args.profile.now.message (forest_of c.args.forest.items) c.as_lists-lists.ensures.kept
+      c.requires.profile is);
 }

@@ -25,4 +25,5 @@ loop-place-preserved c =
     let here : slice_get fields place ≡ Some field = field-at fields place field c.loop-place-test.true c.index-fields-place.is in
     let text_is = c.converted_text-text.ensures
     ∙ ap (converted_text c.args.rows.now c.args.segment place) (c.text.ensures ∙ sym (text_in-at fields c.args.sdata.now place field here)) in
-    joined-more fields texts place field _ _ c.converted_text-text.result.now c.loop-place-test.true c.index-fields-place.is c.loop-place.invariant c.in_ok-put_text.ensures.ok text_is
+    joined-more fields texts place field _ _ c.converted_text-text.result.now c.loop-place-test.true c.index-fields-place.is c.loop-place.invariant
+    c.in_ok-put_text.ensures.ok text_is

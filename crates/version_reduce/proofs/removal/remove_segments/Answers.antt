@@ -15,7 +15,8 @@ same c = c.in_ok-left.ensures ∙ map_nodes-same (removed c.args.profile.now (fo
 pub returns : goal.returns
 returns c = record {
   map = same c;
-  gone = subst (AllNodes (λ segment. removes c.args.profile.now segment.type ≡ false)) (sym (same c)) (AllNodes-without (λ segment. removes c.args.profile.now segment.type) (forest_of c.args.forest.items));
+  gone = subst (AllNodes (λ segment. removes c.args.profile.now segment.type ≡ false)) (sym (same c))
+      (AllNodes-without (λ segment. removes c.args.profile.now segment.type) (forest_of c.args.forest.items));
   of_message = λ is. subst (IsOfMessage c.args.model.now c.args.profile.now.message) (sym (same c))
       (removed-IsOfMessage c.args.model.now c.args.profile.now (forest_of c.args.forest.items) c.as_lists-rules.ensures.kept c.requires.profile is);
 }

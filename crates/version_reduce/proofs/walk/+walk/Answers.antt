@@ -23,7 +23,8 @@ loop-node-preserved-in-Continue-branch-4 g t c =
     let next = c.in-Some.ensures.steps in
     let head_is : root_of (out-Node node) ≡ (tree_of node).root = ap (λ t. t.root) (sym (tree_of-out node)) in
     let came : ComesOf goes change (tree_of node).root (Some c.in-Some-2.head)
-    = subst (λ s. ComesOf goes change s (Some c.in-Some-2.head)) head_is (subst (ComesOf goes change (root_of (out-Node node))) c.in-Some-2.is c.in_ok-head.ensures) in
+    = subst (λ s. ComesOf goes change s (Some c.in-Some-2.head)) head_is
+    (subst (ComesOf goes change (root_of (out-Node node))) c.in-Some-2.is c.in_ok-head.ensures) in
     let under = c.joined-node.ensures.below ∙ c.in_ok-children.ensures ∙ ap (walked goes change) (sym (below-out node)) in
     walk-keeps goes change _ _ _ _ _ _ node c.loop-node.invariant next.0 next.1 c.joined-node.result c.push.new.self.items
     c.in_ok-push.ensures.items came.0 (c.joined-node.ensures.head ∙ came.1) under
@@ -35,7 +36,8 @@ loop-node-preserved g t c =
     let node = c.in-Some.node in
     let next = c.in-Some.ensures.steps in
     let head_is : root_of (out-Node node) ≡ (tree_of node).root = ap (λ t. t.root) (sym (tree_of-out node)) in
-    let came : ComesOf goes change (root_of (out-Node node)) None = subst (ComesOf goes change (root_of (out-Node node))) c.in_default.is c.in_ok-head.ensures in
+    let came : ComesOf goes change (root_of (out-Node node)) None = subst (ComesOf goes change (root_of (out-Node node))) c.in_default.is
+    c.in_ok-head.ensures in
     walk-passes goes change _ _ _ _ _ _ node c.loop-node.invariant next.0 next.1 (ap goes (sym head_is) ∙ came)
 
 pub returns : goal.returns

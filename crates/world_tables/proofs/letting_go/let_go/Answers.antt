@@ -7,7 +7,8 @@ use Rattle.world_tables.proofs.letting_go.let_go.Goals as goal
 
 pub returns-then-not-is_up : goal.returns-then-not-is_up
 returns-then-not-is_up g c = λ claims after are is.
-    in_step-claimed_down g.A.Application.stands (g.R.Rules.meaning c.args.world.now.rules) claims after c.args.held None c.args.world.now.systems c.args.tables.now
+    in_step-claimed_down g.A.Application.stands (g.R.Rules.meaning c.args.world.now.rules) claims after c.args.held None c.args.world.now.systems
+    c.args.tables.now
     (sym c.is_up.ensures ∙ c.if-not-is_up.true) are is
 
 pub release-requires-clause-within : goal.release-requires-clause-within
@@ -32,17 +33,21 @@ release-requires-in-In-clause-held g c =
 
 pub returns-in-Out : goal.returns-in-Out
 returns-in-Out g c = λ claims after are is.
-    in_step-by_kind g.A.Application.stands (g.R.Rules.meaning c.args.world.now.rules) claims after c.args.held None Out c.args.world.now.systems c.args.tables.now
-    c.release.new.tables c.in-Out.is (stands_up c.args.world.now.systems c.args.held.system (sym c.is_up.ensures ∙ c.if-not-is_up.false)).least c.release.ensures are is
+    in_step-by_kind g.A.Application.stands (g.R.Rules.meaning c.args.world.now.rules) claims after c.args.held None Out c.args.world.now.systems
+    c.args.tables.now
+    c.release.new.tables c.in-Out.is (stands_up c.args.world.now.systems c.args.held.system (sym c.is_up.ensures ∙ c.if-not-is_up.false)).least
+    c.release.ensures are is
 
 pub returns-in-In : goal.returns-in-In
 returns-in-In g c = λ claims after are is.
-    in_step-by_kind g.A.Application.stands (g.R.Rules.meaning c.args.world.now.rules) claims after c.args.held None In c.args.world.now.systems c.args.tables.now
+    in_step-by_kind g.A.Application.stands (g.R.Rules.meaning c.args.world.now.rules) claims after c.args.held None In c.args.world.now.systems
+    c.args.tables.now
     c.release-in-In.new.tables c.in-In.is (stands_up c.args.world.now.systems c.args.held.system (sym c.is_up.ensures ∙ c.if-not-is_up.false)).least
     c.release-in-In.ensures are is
 
 pub returns-in-Direct : goal.returns-in-Direct
 returns-in-Direct g c = λ claims after are is.
-    in_step-by_kind g.A.Application.stands (g.R.Rules.meaning c.args.world.now.rules) claims after c.args.held None Direct c.args.world.now.systems c.args.tables.now
+    in_step-by_kind g.A.Application.stands (g.R.Rules.meaning c.args.world.now.rules) claims after c.args.held None Direct c.args.world.now.systems
+    c.args.tables.now
     c.args.tables.now c.in-Direct.is (stands_up c.args.world.now.systems c.args.held.system (sym c.is_up.ensures ∙ c.if-not-is_up.false)).least
     (ChangedAt-same (λ old now. now ≡ tables_claimed Direct c.args.held.tid None old) (c.args.held.system - 1) c.args.tables.now (λ x. refl)) are is

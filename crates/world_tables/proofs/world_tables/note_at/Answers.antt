@@ -7,7 +7,8 @@ use Rattle.world_tables.proofs.world_tables.note_at.Goals as goal
 pub returns-clause-noted : goal.returns-clause-noted
 returns-clause-noted g c =
     on_ok c.note.result c.note.ensures.noted
-    (ChangedAt-row (Noted g.A.Application.stands (λ application log. g.A.Application.goes_with application log c.args.next.now c.args.extra) c.args.next.now c.args.more.now) c.args.system c.get.result c.args.tables.now c.at_mut.result.now c.note.new.self
+    (ChangedAt-row (Noted g.A.Application.stands (λ application log. g.A.Application.goes_with application log c.args.next.now c.args.extra) c.args.next.now
+    c.args.more.now) c.args.system c.get.result c.args.tables.now c.at_mut.result.now c.note.new.self
     c.get.ensures.number c.at_mut.ensures.value)
 
 pub returns-clause-units : goal.returns-clause-units

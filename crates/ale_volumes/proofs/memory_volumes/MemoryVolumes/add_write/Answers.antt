@@ -19,7 +19,9 @@ invariant_of-self-2 c =
     pushed
     ∙ ap (λ (l : List Step). l ++ Write c.args.n c.args.at c.in_ok-copy.copy c.args.failed ∷ []) c.reserve.ensures.items
     ∙ ap (λ (b : List ℕ). inside.steps.items ++ Write c.args.n c.args.at b c.args.failed ∷ []) c.in_ok-copy.ensures in
-    let volumes = subst (λ (k : ℕ). c.write_in.new.volumes ≡ set inside.held k (contents_after (slice_index_or inside.held k []) c.args.at c.args.bytes.now c.args.failed)) same c.in_ok-write_in.ensures.ok in
-    let kept = kept-write inside.start inside.steps.items inside.held inside.unsynced _ c.self.invariant c.args.n c.args.at c.args.bytes.now c.args.failed (vec_capacity c.push.new.self) c.requires (omega (arith, enough, long, c.push.ensures.capacity)) in
+    let volumes = subst (λ (k : ℕ). c.write_in.new.volumes
+    ≡ set inside.held k (contents_after (slice_index_or inside.held k []) c.args.at c.args.bytes.now c.args.failed)) same c.in_ok-write_in.ensures.ok in
+    let kept = kept-write inside.start inside.steps.items inside.held inside.unsynced _ c.self.invariant c.args.n c.args.at c.args.bytes.now c.args.failed
+    (vec_capacity c.push.new.self) c.requires (omega (arith, enough, long, c.push.ensures.capacity)) in
     subst (λ (k : ℕ). IsKept inside.start c.push.new.self.items c.write_in.new.volumes (set inside.unsynced k true) (vec_capacity c.push.new.self)) (sym same)
     (kept-renamed inside.start _ c.push.new.self.items _ c.write_in.new.volumes _ _ added volumes kept)

@@ -19,7 +19,8 @@ returns c =
     let past : length since ≤ c.loop-step.step-index = search rules in
     let all : take c.loop-step.step-index since ≡ since = take_all c.loop-step.step-index since past in
     let began : c.as_slice-start.result.now ≡ start = grind (arith, common_steps) in
-    let held : c.in_ok-held.held ≡ fold (contents_after_step n) start durable = c.in_ok-held.ensures ∙ ap (λ (l : List ℕ). fold (contents_after_step n) l durable) began in
+    let held : c.in_ok-held.held ≡ fold (contents_after_step n) start durable = c.in_ok-held.ensures
+    ∙ ap (λ (l : List ℕ). fold (contents_after_step n) l durable) began in
     let first : c.in_ok-volume.volume ≡ settled (fold (contents_after_step n) start durable) = search rules in
     let whole : durable ++ since ≡ take c.args.moment memory.steps = search rules in
     c.loop-step.invariant

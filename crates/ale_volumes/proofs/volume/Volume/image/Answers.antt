@@ -23,7 +23,8 @@ loop-i-preserved c =
     let more = laid_more c.index.result.now volume.writes survivors.bytes image i write within in
     record {
       size = ap length grown ∙ length-laid_over image write c.unwrap_or-count.result ∙ size;
-      chosen = ap (λ (l : List ℕ). laid c.index.result.now (drop (i + 1) volume.writes) (drop (i + 1) survivors.bytes) l) here ∙ sym more ∙ c.loop-i.invariant.chosen;
+      chosen = ap (λ (l : List ℕ). laid c.index.result.now (drop (i + 1) volume.writes) (drop (i + 1) survivors.bytes) l) here ∙ sym more
+          ∙ c.loop-i.invariant.chosen;
     }
 
 pub returns-clause-image : goal.returns-clause-image
@@ -31,6 +32,7 @@ returns-clause-image c =
     let volume = c.args.self.now in
     let i = c.loop-i.i in
     let past : length volume.writes ≤ i = search rules in
-    let end = ap (λ (l : List UnsyncedWrite). laid c.index.result.now l (drop i c.args.survivors.now.bytes) c.loop-i.image.items) (drop_all i volume.writes past) in
+    let end = ap (λ (l : List UnsyncedWrite). laid c.index.result.now l (drop i c.args.survivors.now.bytes) c.loop-i.image.items)
+    (drop_all i volume.writes past) in
     let same : c.from_vec.result ≡ surviving volume c.args.survivors.now = c.from_vec.ensures ∙ sym end ∙ c.loop-i.invariant.chosen in
     subst (IsImage c.args.self.now) (sym same) (surviving-image c.args.self.now c.args.survivors.now c.requires)

@@ -18,7 +18,8 @@ returns-in_err-write_synced-clause-any_moment g c = λ told log s.
     let old = c.args.vols.now in
     let mid = c.write_synced.new.vols in
     let block = c.deref.ensures.value ∙ c.in_ok-block.ensures in
-    weaker V.moment V.images_since old mid journal.volume _ _ (first_before V.volume old mid mid journal log c.args.body.now _ s block) (c.write_synced.ensures.any_moment told s.durable)
+    weaker V.moment V.images_since old mid journal.volume _ _ (first_before V.volume old mid mid journal log c.args.body.now _ s block)
+    (c.write_synced.ensures.any_moment told s.durable)
 
 -- the second leaves it with the body or without
 pub returns-in_err-write_synced-2-clause-any_moment : goal.returns-in_err-write_synced-2-clause-any_moment
@@ -31,10 +32,12 @@ returns-in_err-write_synced-2-clause-any_moment g c = λ told log s.
     let block = c.deref.ensures.value ∙ c.in_ok-block.ensures in
     let wrote = c.in_ok-write_synced.ensures.written told in
     let fits : journal.gate + 5 + length c.args.body.now < most_bytes = omega arith in
-    let first = weaker V.moment V.images_since old mid journal.volume _ _ (first_before V.volume old mid new journal log c.args.body.now _ s block) (c.write_synced.ensures.any_moment told s.durable) in
+    let first = weaker V.moment V.images_since old mid journal.volume _ _ (first_before V.volume old mid new journal log c.args.body.now _ s block)
+    (c.write_synced.ensures.any_moment told s.durable) in
     let durable = mid_durable V.volume old mid new journal log c.args.body.now _ s block wrote c.requires.body fits in
     joined V.moment V.images_since old mid new journal.volume _ first
-    (weaker V.moment V.images_since mid new journal.volume _ _ (second_torn V.volume old mid new journal log c.args.body.now _ s block wrote c.requires.body fits) (c.write_synced-2.ensures.any_moment told durable))
+    (weaker V.moment V.images_since mid new journal.volume _ _
+    (second_torn V.volume old mid new journal log c.args.body.now _ s block wrote c.requires.body fits) (c.write_synced-2.ensures.any_moment told durable))
 
 pub returns-in_err-write_synced-2-clause-no_memory : goal.returns-in_err-write_synced-2-clause-no_memory
 returns-in_err-write_synced-2-clause-no_memory g c = λ told log s no_memory.
@@ -42,7 +45,8 @@ returns-in_err-write_synced-2-clause-no_memory g c = λ told log s no_memory.
     let block = c.deref.ensures.value ∙ c.in_ok-block.ensures in
     let wrote = c.in_ok-write_synced.ensures.written told in
     let refused : IsErrOf c.write_synced-2.result OutOfMemory = search rules in
-    still_settled V.volume c.args.vols.now c.write_synced.new.vols c.write_synced-2.new.vols c.args.self.now log c.args.body.now _ s block wrote (c.write_synced-2.ensures.no_memory told refused)
+    still_settled V.volume c.args.vols.now c.write_synced.new.vols c.write_synced-2.new.vols c.args.self.now log c.args.body.now _ s block wrote
+    (c.write_synced-2.ensures.no_memory told refused)
 
 pub returns-clause-any_moment : goal.returns-clause-any_moment
 returns-clause-any_moment g c = λ told log s.
@@ -54,10 +58,12 @@ returns-clause-any_moment g c = λ told log s.
     let block = c.deref.ensures.value ∙ c.in_ok-block.ensures in
     let wrote = c.in_ok-write_synced.ensures.written told in
     let fits : journal.gate + 5 + length c.args.body.now < most_bytes = omega arith in
-    let first = weaker V.moment V.images_since old mid journal.volume _ _ (first_before V.volume old mid new journal log c.args.body.now _ s block) (c.write_synced.ensures.any_moment told s.durable) in
+    let first = weaker V.moment V.images_since old mid journal.volume _ _ (first_before V.volume old mid new journal log c.args.body.now _ s block)
+    (c.write_synced.ensures.any_moment told s.durable) in
     let durable = mid_durable V.volume old mid new journal log c.args.body.now _ s block wrote c.requires.body fits in
     joined V.moment V.images_since old mid new journal.volume _ first
-    (weaker V.moment V.images_since mid new journal.volume _ _ (second_torn V.volume old mid new journal log c.args.body.now _ s block wrote c.requires.body fits) (c.write_synced-2.ensures.any_moment told durable))
+    (weaker V.moment V.images_since mid new journal.volume _ _
+    (second_torn V.volume old mid new journal log c.args.body.now _ s block wrote c.requires.body fits) (c.write_synced-2.ensures.any_moment told durable))
 
 pub returns-clause-added : goal.returns-clause-added
 returns-clause-added g c = λ told log s.
@@ -66,7 +72,8 @@ returns-clause-added g c = λ told log s.
     let block = c.deref.ensures.value ∙ c.in_ok-block.ensures in
     let wrote = c.in_ok-write_synced.ensures.written told in
     let fits : journal.gate + 5 + length c.args.body.now < most_bytes = omega arith in
-    added V.volume c.args.vols.now c.write_synced.new.vols c.write_synced-2.new.vols journal log c.args.body.now _ s block wrote c.requires.body fits _ refl refl (c.in_ok-write_synced-2.ensures.written told)
+    added V.volume c.args.vols.now c.write_synced.new.vols c.write_synced-2.new.vols journal log c.args.body.now _ s block wrote c.requires.body fits _ refl
+    refl (c.in_ok-write_synced-2.ensures.written told)
 
 -- ---- what a read gives
 
@@ -81,7 +88,9 @@ returns-in_err-write_synced-clause-leaves g c = λ told.
     let p = err_from_is_err_and c.from_residual-in_err-write_synced.result c.from_residual-in_err-write_synced.ensures.1 in
     let n = c.args.self.now.volume in
     let block = c.deref.ensures.value ∙ c.in_ok-block.ensures in
-    rw p.1 (appended-first (V.volume c.args.vols.now n) (V.volume c.write_synced.new.vols n) c.args.self.now.gate c.args.body.now _ c.in_err-write_synced.field-0.0 p.0 block p.2 (c.write_synced.ensures.torn told) (λ is. c.write_synced.ensures.no_memory told (c.in_err-write_synced.was ∙ ap Err is)))
+    rw p.1 (appended-first (V.volume c.args.vols.now n) (V.volume c.write_synced.new.vols n) c.args.self.now.gate c.args.body.now _
+    c.in_err-write_synced.field-0.0 p.0 block p.2 (c.write_synced.ensures.torn told)
+    (λ is. c.write_synced.ensures.no_memory told (c.in_err-write_synced.was ∙ ap Err is)))
 
 pub returns-in_err-write_synced-2-clause-leaves : goal.returns-in_err-write_synced-2-clause-leaves
 returns-in_err-write_synced-2-clause-leaves g c = λ told.
@@ -90,8 +99,11 @@ returns-in_err-write_synced-2-clause-leaves g c = λ told.
     let n = c.args.self.now.volume in
     let old = (V.volume c.args.vols.now n).contents in
     let block = c.deref.ensures.value ∙ c.in_ok-block.ensures in
-    let wrote = ap (λ (v : Volume). v.contents) (c.in_ok-write_synced.ensures.written told) ∙ ap (λ (b : List ℕ). overwritten old (c.args.self.now.gate + 1) b) block in
-    rw p.1 (appended-second old (V.volume c.write_synced.new.vols n) (V.volume c.write_synced-2.new.vols n) c.args.self.now.gate c.args.body.now c.in_err-write_synced-2.field-0.0 p.0 wrote p.2 (c.write_synced-2.ensures.torn told) (λ is. c.write_synced-2.ensures.no_memory told (c.in_err-write_synced-2.was ∙ ap Err is)))
+    let wrote = ap (λ (v : Volume). v.contents) (c.in_ok-write_synced.ensures.written told)
+    ∙ ap (λ (b : List ℕ). overwritten old (c.args.self.now.gate + 1) b) block in
+    rw p.1 (appended-second old (V.volume c.write_synced.new.vols n) (V.volume c.write_synced-2.new.vols n) c.args.self.now.gate c.args.body.now
+    c.in_err-write_synced-2.field-0.0 p.0 wrote p.2 (c.write_synced-2.ensures.torn told)
+    (λ is. c.write_synced-2.ensures.no_memory told (c.in_err-write_synced-2.was ∙ ap Err is)))
 
 pub returns-clause-leaves : goal.returns-clause-leaves
 returns-clause-leaves g c = λ told.

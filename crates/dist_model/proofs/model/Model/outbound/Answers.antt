@@ -24,5 +24,6 @@ returns c =
     let (row, here) = slice_get-within model.rows c.args.row less in
     let found = profile-at model.rows model.outbound c.self.inside.index.profiles c.args.row row c.index-place.result.now c.self.invariant.1.profiles here
     (ap (slice_get c.self.inside.index.profiles) (sym number) ∙ c.index-place.ensures) in
-    rw (← c.self.view_is) (ap (option_and_then (λ (row : Row). option_and_then (slice_get model.outbound) (position (same_way (row_way row)) (outbound_ways model.outbound)))) here
+    rw (← c.self.view_is) (ap (option_and_then
+    (λ (row : Row). option_and_then (slice_get model.outbound) (position (same_way (row_way row)) (outbound_ways model.outbound)))) here
     ∙ ap (option_and_then (slice_get model.outbound)) found ∙ ap (slice_get model.outbound) (sym c.from-2.ensures) ∙ c.index.ensures)

@@ -5,5 +5,11 @@ use Rattle.document_tables.proofs.document_tables.DocumentTables.bring.Goals as 
 pub returns : goal.returns
 returns c log between =
     tables-brought log c.args.next.now c.args.text.now c.args.self.now
-    (record { readings = c.args.self.now.readings; has_begun = true; model = c.in_ok-model.model; outbound = c.args.self.now.outbound; inbound = c.renumber.new.inbound })
+    (record {
+      readings = c.args.self.now.readings;
+      has_begun = true;
+      model = c.in_ok-model.model;
+      outbound = c.args.self.now.outbound;
+      inbound = c.renumber.new.inbound;
+    })
     c.requires between refl refl c.in_ok-model.ensures c.in_ok-renumber.ensures

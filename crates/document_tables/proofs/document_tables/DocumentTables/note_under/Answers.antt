@@ -8,5 +8,11 @@ pub returns : goal.returns
 returns c log are goes =
     on_ok c.take.result (c.take.ensures (sent_by log) are.sent)
     (between-noted log c.args.next.now c.args.made c.args.self.now
-    (record { readings = c.args.self.now.readings; has_begun = c.args.self.now.has_begun; model = c.args.self.now.model; outbound = c.take.new.self; inbound = c.apply.new.inbound })
+    (record {
+      readings = c.args.self.now.readings;
+      has_begun = c.args.self.now.has_begun;
+      model = c.args.self.now.model;
+      outbound = c.take.new.self;
+      inbound = c.apply.new.inbound;
+    })
     c.in_ok-added.added are goes refl refl c.in_ok-added.ensures.added c.in_ok-added.ensures.applied)

@@ -8,7 +8,8 @@ use Rattle.idoc_file.proofs.lines_read.LinesRead.read_last.Goals as goal
 pub returns-then-is_empty-clause-read : goal.returns-then-is_empty-clause-read
 returns-then-is_empty-clause-read c = λ bytes within is.
     let unfinished = c.args.unfinished.now in
-    IsReading-all c.args.self.now unfinished bytes is (nil_from_length unfinished (eqb-true (length unfinished) 0 (sym c.is_empty.ensures ∙ c.if-is_empty.true)))
+    IsReading-all c.args.self.now unfinished bytes is
+    (nil_from_length unfinished (eqb-true (length unfinished) 0 (sym c.is_empty.ensures ∙ c.if-is_empty.true)))
 
 pub returns-clause-read : goal.returns-clause-read
 returns-clause-read c =

@@ -13,4 +13,5 @@ returns-in-Err-clause-read c =
     let good = AreRead-good before lines (sym c.is_some.ensures ∙ c.if-is_some.false) are in
     let number : c.saturating_add-self.result ≡ length lines + 1 = omega (arith, good.1, c.saturating_add-self.ensures) in
     subst (λ (after : LinesRead). AreRead after (lines ++ line ∷ [])) (sym c.refuse.ensures.kept)
-    (IsFirstBad-here lines line before.documents c.saturating_add-self.result c.in-Err.fault good.0 number (c.read_line.ensures.fault c.in-Err.fault c.in-Err.is bad)))
+    (IsFirstBad-here lines line before.documents c.saturating_add-self.result c.in-Err.fault good.0 number
+    (c.read_line.ensures.fault c.in-Err.fault c.in-Err.is bad)))

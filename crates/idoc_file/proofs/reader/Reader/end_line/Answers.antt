@@ -14,8 +14,10 @@ returns-then-is_empty-clause-reading c =
     let unfinished = c.args.self.now.unfinished.items in
     let after = c.read_line.new.self in
     let end = c.args.end.now in
-    let none : unfinished ≡ [] = sym c.as_slice.ensures.value ∙ nil_from_length c.as_slice.result.now (eqb-true (length c.as_slice.result.now) 0 (sym c.is_empty.ensures ∙ c.if-is_empty.true)) in
-    let whole : c.without_return.result.now ≡ without_return (unfinished ++ end) = c.without_return.ensures ∙ ap (λ (u : List ℕ). without_return (u ++ end)) (sym none) in
+    let none : unfinished ≡ [] = sym c.as_slice.ensures.value
+    ∙ nil_from_length c.as_slice.result.now (eqb-true (length c.as_slice.result.now) 0 (sym c.is_empty.ensures ∙ c.if-is_empty.true)) in
+    let whole : c.without_return.result.now ≡ without_return (unfinished ++ end) = c.without_return.ensures
+    ∙ ap (λ (u : List ℕ). without_return (u ++ end)) (sym none) in
     on_ok c.read_line.result c.read_line.ensures.read (λ reads bytes few no_end is.
     let low = IsReading-few read unfinished bytes is in
     let more = bytes ++ (end ++ 10 ∷ []) in

@@ -22,7 +22,8 @@ loop-end-preserved c =
           let short : length (bytes ++ taken) < 4294967295 = omega (arith, length-append bytes taken, ap length so_far.1, length-append taken rest) in (
             more,
             whole,
-            IsReading-same after.read after.read after.unfinished.items after.unfinished.items ((bytes ++ taken) ++ (end ++ 10 ∷ [])) (bytes ++ more) refl refl (append_assoc bytes taken (end ++ 10 ∷ []))
+            IsReading-same after.read after.read after.unfinished.items after.unfinished.items ((bytes ++ taken) ++ (end ++ 10 ∷ [])) (bytes ++ more) refl refl
+                (append_assoc bytes taken (end ++ 10 ∷ []))
                 (c.in_ok-end_line.ensures.reading (bytes ++ taken) short found.1 so_far.2),
           );
       fed = c.in_ok-end_line.ensures.fed ∙ c.loop-end.invariant.fed;

@@ -14,9 +14,11 @@ kept c =
     let after = c.split_at_mut-rest.result.1.now in
     let place = c.split_at_mut-place.result.0.now in
     let behind = c.split_at_mut-place.result.1.now in
-    let joined = with_text-parts c.span-span.result c.args.value.now c.self.inside.bytes front after place behind c.split_at_mut-rest.ensures.front c.split_at_mut-rest.ensures.back c.split_at_mut-place.ensures.front_len c.split_at_mut-place.ensures.back in
+    let joined = with_text-parts c.span-span.result c.args.value.now c.self.inside.bytes front after place behind c.split_at_mut-rest.ensures.front
+    c.split_at_mut-rest.ensures.back c.split_at_mut-place.ensures.front_len c.split_at_mut-place.ensures.back in
     let same : front ++ (c.put_padded.new.into ++ behind) ≡ with_text (span_of c.args.field) c.args.value.now c.self.inside.bytes =
-    ap (λ into. front ++ (into ++ behind)) c.put_padded.ensures ∙ joined ∙ ap (λ place. with_text place c.args.value.now c.self.inside.bytes) c.span-span.ensures.place in
+    ap (λ into. front ++ (into ++ behind)) c.put_padded.ensures ∙ joined
+    ∙ ap (λ place. with_text place c.args.value.now c.self.inside.bytes) c.span-span.ensures.place in
     subst IsControl (sym same) (IsControl-written c.args.field c.args.value.now c.self.inside.bytes c.self.invariant c.requires.fits c.requires.allowed)
 
 pub invariant_of-self : goal.invariant_of-self

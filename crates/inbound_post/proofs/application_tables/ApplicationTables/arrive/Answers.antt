@@ -14,10 +14,17 @@ returns c application are =
     let doc = c.args.doc.now in
     let number = c.in_ok-number.number.0 in
     let next = c.in_ok-number.ensures ∙ ap suc c.len.ensures in
-    let is = arrived-tables sender doc c.args.becomes.now application tables number c.receive.new.statuses c.receive.new.objects are next c.in_ok-receive.ensures.statuses c.in_ok-receive.ensures.objects in
+    let is = arrived-tables sender doc c.args.becomes.now application tables number c.receive.new.statuses c.receive.new.objects are next
+    c.in_ok-receive.ensures.statuses c.in_ok-receive.ensures.objects in
     on_ok c.push.result c.push.ensures.ok (λ pushed.
     let with : c.push.new.self ≡ tables.documents ++ record { sender = sender; document = doc } ∷ [] =
     pushed ∙ ap (λ (d : RawUnitDoc). tables.documents ++ record { sender = sender; document = d } ∷ []) c.in_ok-clone.ensures.cases in
-    let after : ApplicationTables = record { documents = c.push.new.self; statuses = c.receive.new.statuses; objects = c.receive.new.objects; pointers = tables.pointers } in
-    let made : AreTablesOf (arrived sender doc c.args.becomes.now application) after = record { documents = with ∙ is.documents; statuses = is.statuses; objects = is.objects; pointers = is.pointers } in
+    let after : ApplicationTables = record {
+      documents = c.push.new.self;
+      statuses = c.receive.new.statuses;
+      objects = c.receive.new.objects;
+      pointers = tables.pointers;
+    } in
+    let made : AreTablesOf (arrived sender doc c.args.becomes.now application) after = record
+    { documents = with ∙ is.documents; statuses = is.statuses; objects = is.objects; pointers = is.pointers } in
     made)

@@ -35,7 +35,8 @@ returns-in-Some-2 c application are =
     let known = sym c.get.ensures ∙ ap option_copied c.in-Some.is in
     let made = c.in-Some-2.posting in
     let more : List Status = plain 62 ∷ status_of (outcome_of made tables.objects) ∷ [] in
-    on_ok c.pass.result (on_ok_both (c.pass.new.objects ≡ applied made tables.objects) (AddsAll c.args.doc.0 more tables.statuses c.pass.new.statuses) c.pass.result c.pass.ensures.objects c.pass.ensures.statuses) (λ both.
+    on_ok c.pass.result (on_ok_both (c.pass.new.objects ≡ applied made tables.objects) (AddsAll c.args.doc.0 more tables.statuses c.pass.new.statuses)
+    c.pass.result c.pass.ensures.objects c.pass.ensures.statuses) (λ both.
     let after : ApplicationTables = record tables { statuses = c.pass.new.statuses; objects = c.pass.new.objects } in
     subst (λ (n : ℕ). AreTablesOf (passed_again model application n) after) (sym at)
     (passed-tables model application tables place c.in-Some.document.now made c.pass.new.statuses c.pass.new.objects are known

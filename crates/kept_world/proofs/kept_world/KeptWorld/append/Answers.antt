@@ -33,7 +33,8 @@ invariant_of-self g c =
     let overruns = c.self.inside.overruns in
     record {
       in_step = c.note.ensures.in_step;
-      on_volumes = on_volumes-after g.V.Volumes.told g.V.Volumes.volume c.write.new.vols c.write.new.both.world c.note.new.both.world c.write.new.journals c.args.system
+      on_volumes = on_volumes-after g.V.Volumes.told g.V.Volumes.volume c.write.new.vols c.write.new.both.world c.note.new.both.world c.write.new.journals
+          c.args.system
           c.args.claim c.note.result up c.note.ensures.world c.note.ensures.fallen c.in-Ok.ensures.written.on_volumes;
       overruns = overruns-after c.write.new.both.world c.note.new.both.world c.args.system c.args.claim overruns c.note.result up c.note.ensures.world
           c.note.ensures.fallen (subst (λ w. AreOverrunsOf w.systems overruns) (sym c.in-Ok.ensures.written.world)

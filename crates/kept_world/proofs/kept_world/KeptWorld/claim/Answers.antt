@@ -12,7 +12,8 @@ returns-clause-answer g c = λ one.
     let rules = g.R.Rules.meaning world.rules in
     let same : world ≡ c.args.self.now.world = ap (λ k. k.world) c.self.view_is in
     let here : HaveOneSender c.args.way (units_of c.args.way (committed_by rules world c.args.system) (log_of world c.args.system)) =
-    subst (λ (w : World g.row.R.Denot). HaveOneSender c.args.way (units_of c.args.way (committed_by (g.R.Rules.meaning w.rules) w c.args.system) (log_of w c.args.system)))
+    subst (λ (w : World g.row.R.Denot). HaveOneSender c.args.way
+    (units_of c.args.way (committed_by (g.R.Rules.meaning w.rules) w c.args.system) (log_of w c.args.system)))
     (sym same) one in
     subst (λ (w : World g.row.R.Denot). IsAnsweredBy (g.R.Rules.meaning w.rules) w c.args.system c.args.way c.args.tid c.claim.result) same
     (let up : is_up world c.args.system ≡ true = ap (λ w. is_up w c.args.system) same ∙ c.requires.up in

@@ -28,6 +28,7 @@ returns-in-Err-clause-from_sync g c = λ tells.
 
 pub returns-in-Err-clause-faults : goal.returns-in-Err-clause-faults
 returns-in-Err-clause-faults g c =
-    subst (λ k. CountsFault (c.in-Err.why ≡ Volume) (g.V.Volumes.faults k.vols) (g.V.Volumes.faults c.open_next.new.vols) (length k.world.systems)) c.self.view_is
+    subst (λ k. CountsFault (c.in-Err.why ≡ Volume) (g.V.Volumes.faults k.vols) (g.V.Volumes.faults c.open_next.new.vols) (length k.world.systems))
+    c.self.view_is
     (faults-told c.in-Err.why (g.V.Volumes.faults c.self.inside.vols) (g.V.Volumes.faults c.open_next.new.vols) (length (c.self.inside.both.world).systems)
     c.in-Err.ensures.faults)

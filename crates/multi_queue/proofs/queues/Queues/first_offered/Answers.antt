@@ -32,6 +32,7 @@ returns-in-None-clause-first c =
 
 pub returns-in-None-clause-none : goal.returns-in-None-clause-none
 returns-in-None-clause-none c = (
-  λ no tid. none_ready-offered tid c.args.self.now (subst (λ (queues : QueuesOf). find (is_ready queues) queues.units ≡ None) c.self.view_is (no-offer c.self.invariant c.in-None.ensures)),
+  λ no tid. none_ready-offered tid c.args.self.now
+      (subst (λ (queues : QueuesOf). find (is_ready queues) queues.units ≡ None) c.self.view_is (no-offer c.self.invariant c.in-None.ensures)),
   λ none. refl,
 )

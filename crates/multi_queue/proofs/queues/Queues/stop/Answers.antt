@@ -10,17 +10,20 @@ use Rattle.multi_queue.proofs.LaneLemmas.{seen-stop, stop-keeps, grow-keeps, see
 use Rattle.multi_queue.proofs.queues.Queues.stop.Goals as goal
 
 pub invariant_of-self : goal.invariant_of-self
-invariant_of-self c = grow-keeps c.self.invariant c.number_in.new.lanes (get names_cmp c.number_in.new.names) c.in_err-queue.ensures.grows c.in_err-queue.ensures.named
+invariant_of-self c = grow-keeps c.self.invariant c.number_in.new.lanes (get names_cmp c.number_in.new.names) c.in_err-queue.ensures.grows
+    c.in_err-queue.ensures.named
 
 pub returns-in_err-queue-clause-err : goal.returns-in_err-queue-clause-err
-returns-in_err-queue-clause-err c = on-err c.from_residual.result (seen-grow c.self.invariant c.number_in.new.lanes c.in_err-queue.ensures.grows ∙ c.self.view_is)
+returns-in_err-queue-clause-err c = on-err c.from_residual.result (seen-grow c.self.invariant c.number_in.new.lanes c.in_err-queue.ensures.grows
+    ∙ c.self.view_is)
   where
     on-err : {T E P : Type 0} (r : Result T E) → P → OnErr r P
     on-err (Ok x) holds = tt
     on-err (Err e) holds = holds
 
 pub write_stop-requires-clause-counted : goal.write_stop-requires-clause-counted
-write_stop-requires-clause-counted c = (grow-keeps c.self.invariant c.number_in.new.lanes (get names_cmp c.number_in.new.names) c.in_ok-queue.ensures.grows c.in_ok-queue.ensures.named).counted
+write_stop-requires-clause-counted c = (grow-keeps c.self.invariant c.number_in.new.lanes (get names_cmp c.number_in.new.names) c.in_ok-queue.ensures.grows
+    c.in_ok-queue.ensures.named).counted
 
 pub write_stop-requires-clause-known : goal.write_stop-requires-clause-known
 write_stop-requires-clause-known c =
@@ -30,12 +33,15 @@ write_stop-requires-clause-known c =
 pub invariant_of-self-2 : goal.invariant_of-self-2
 invariant_of-self-2 c =
     let at = lane-of_key c.number_in.new.lanes c.in_ok-queue.queue c.args.key c.in_ok-queue.ensures.number in
-    stop-keeps (grow-keeps c.self.invariant c.number_in.new.lanes (get names_cmp c.number_in.new.names) c.in_ok-queue.ensures.grows c.in_ok-queue.ensures.named) c.in_ok-queue.queue _ at.0
+    stop-keeps (grow-keeps c.self.invariant c.number_in.new.lanes (get names_cmp c.number_in.new.names) c.in_ok-queue.ensures.grows c.in_ok-queue.ensures.named)
+    c.in_ok-queue.queue _ at.0
     c.write_stop.new.lanes c.write_stop.new.heads c.write_stop.new.nodes at.1 c.write_stop.ensures.lane c.write_stop.ensures.counted c.write_stop.ensures.board
 
 pub returns-clause-ok : goal.returns-clause-ok
 returns-clause-ok c =
     let at = lane-of_key c.number_in.new.lanes c.in_ok-queue.queue c.args.key c.in_ok-queue.ensures.number in
-    let stops = seen-stop c.self.inside.units c.number_in.new.lanes c.write_stop.new.lanes (get names_cmp c.number_in.new.names) c.in_ok-queue.queue at.0 c.in_ok-queue.ensures.named at.1 c.write_stop.ensures.lane in
-    subst (λ (queues : QueuesOf). Stops c.args.key queues (seen c.self.inside.units c.write_stop.new.lanes)) (seen-grow c.self.invariant c.number_in.new.lanes c.in_ok-queue.ensures.grows ∙ c.self.view_is)
+    let stops = seen-stop c.self.inside.units c.number_in.new.lanes c.write_stop.new.lanes (get names_cmp c.number_in.new.names) c.in_ok-queue.queue at.0
+    c.in_ok-queue.ensures.named at.1 c.write_stop.ensures.lane in
+    subst (λ (queues : QueuesOf). Stops c.args.key queues (seen c.self.inside.units c.write_stop.new.lanes))
+    (seen-grow c.self.invariant c.number_in.new.lanes c.in_ok-queue.ensures.grows ∙ c.self.view_is)
     (subst (λ (key : QueueKey). Stops key (seen c.self.inside.units c.number_in.new.lanes) (seen c.self.inside.units c.write_stop.new.lanes)) at.2 stops)

@@ -18,12 +18,15 @@ invariant_of-self c =
     let at = c.in-Some.ensures in
     let v : Entry = record at.unit { claim = c.args.claim } in
     let new = c.set_claim.ensures.unit at.unit at.stands in
-    subst (λ (l : List Entry). IsQueues l c.self.inside.lanes c.self.inside.heads c.set_claim.new.nodes c.self.inside.height (get numbers_cmp c.self.inside.places) (get names_cmp c.self.inside.names)) (sym new)
-    (flag-keeps c.self.inside.units c.self.inside.lanes c.self.inside.heads c.self.inside.nodes c.set_claim.new.nodes c.self.inside.height (get numbers_cmp c.self.inside.places)
+    subst (λ (l : List Entry). IsQueues l c.self.inside.lanes c.self.inside.heads c.set_claim.new.nodes c.self.inside.height
+    (get numbers_cmp c.self.inside.places) (get names_cmp c.self.inside.names)) (sym new)
+    (flag-keeps c.self.inside.units c.self.inside.lanes c.self.inside.heads c.self.inside.nodes c.set_claim.new.nodes c.self.inside.height
+    (get numbers_cmp c.self.inside.places)
     (get names_cmp c.self.inside.names) c.in-Some.place at.unit v at.stands (record { tid = refl; queues = refl; live = refl })
     (λ busy. (
       at.live,
-      ready-heads c.self.invariant c.in-Some.place at.unit at.stands (sym (offered-at c.self.invariant c.args.tid c.in-Some.place at.unit at.names at.stands at.live)
+      ready-heads c.self.invariant c.in-Some.place at.unit at.stands
+          (sym (offered-at c.self.invariant c.args.tid c.in-Some.place at.unit at.names at.stands at.live)
           ∙ ap (λ (queues : QueuesOf). is_offered c.args.tid queues) c.self.view_is ∙ c.requires.offered busy),
     )) c.self.invariant
     (subst (λ (l : List Entry). IsBoardBut None c.self.inside.height l c.self.inside.heads c.set_claim.new.nodes) new c.set_claim.ensures.board))
@@ -34,9 +37,11 @@ returns-in-Some c =
     let v : Entry = record at.unit { claim = c.args.claim } in
     let change = λ (unit : QueuedUnit). record unit { claim = c.args.claim } in
     ap (λ (l : List Entry). seen l c.self.inside.lanes) (c.set_claim.ensures.unit at.unit at.stands)
-    ∙ seen-flag change c.self.inside.units c.self.inside.lanes (get numbers_cmp c.self.inside.places) c.in-Some.place at.unit v c.self.invariant.placed at.stands at.live
+    ∙ seen-flag change c.self.inside.units c.self.inside.lanes (get numbers_cmp c.self.inside.places) c.in-Some.place at.unit v c.self.invariant.placed
+    at.stands at.live
     (record { tid = refl; queues = refl; live = refl }) refl
-    ∙ ap (λ (t : TidOf). changed change t (seen c.self.inside.units c.self.inside.lanes)) (tid-at c.args.tid c.self.inside.units (get numbers_cmp c.self.inside.places) c.in-Some.place c.self.invariant.placed at)
+    ∙ ap (λ (t : TidOf). changed change t (seen c.self.inside.units c.self.inside.lanes))
+    (tid-at c.args.tid c.self.inside.units (get numbers_cmp c.self.inside.places) c.in-Some.place c.self.invariant.placed at)
     ∙ ap (λ (queues : QueuesOf). changed change c.args.tid queues) c.self.view_is
 
 pub returns-in-None : goal.returns-in-None

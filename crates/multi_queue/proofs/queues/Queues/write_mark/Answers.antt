@@ -16,8 +16,10 @@ invariant_of-self c =
     let at = c.in-Some.ensures in
     let v : Entry = record at.unit { mark = c.args.mark } in
     let new = c.set_mark.ensures.unit at.unit at.stands in
-    subst (λ (l : List Entry). IsQueues l c.self.inside.lanes c.self.inside.heads c.set_mark.new.nodes c.self.inside.height (get numbers_cmp c.self.inside.places) (get names_cmp c.self.inside.names)) (sym new)
-    (flag-keeps c.self.inside.units c.self.inside.lanes c.self.inside.heads c.self.inside.nodes c.set_mark.new.nodes c.self.inside.height (get numbers_cmp c.self.inside.places)
+    subst (λ (l : List Entry). IsQueues l c.self.inside.lanes c.self.inside.heads c.set_mark.new.nodes c.self.inside.height
+    (get numbers_cmp c.self.inside.places) (get names_cmp c.self.inside.names)) (sym new)
+    (flag-keeps c.self.inside.units c.self.inside.lanes c.self.inside.heads c.self.inside.nodes c.set_mark.new.nodes c.self.inside.height
+    (get numbers_cmp c.self.inside.places)
     (get names_cmp c.self.inside.names) c.in-Some.place at.unit v at.stands (record { tid = refl; queues = refl; live = refl })
     (λ busy. c.self.invariant.claims c.in-Some.place at.unit at.stands busy) c.self.invariant
     (subst (λ (l : List Entry). IsBoardBut None c.self.inside.height l c.self.inside.heads c.set_mark.new.nodes) new c.set_mark.ensures.board))
@@ -28,9 +30,11 @@ returns-in-Some c =
     let v : Entry = record at.unit { mark = c.args.mark } in
     let change = λ (unit : QueuedUnit). record unit { mark = c.args.mark } in
     ap (λ (l : List Entry). seen l c.self.inside.lanes) (c.set_mark.ensures.unit at.unit at.stands)
-    ∙ seen-flag change c.self.inside.units c.self.inside.lanes (get numbers_cmp c.self.inside.places) c.in-Some.place at.unit v c.self.invariant.placed at.stands at.live
+    ∙ seen-flag change c.self.inside.units c.self.inside.lanes (get numbers_cmp c.self.inside.places) c.in-Some.place at.unit v c.self.invariant.placed
+    at.stands at.live
     (record { tid = refl; queues = refl; live = refl }) refl
-    ∙ ap (λ (t : TidOf). changed change t (seen c.self.inside.units c.self.inside.lanes)) (tid-at c.args.tid c.self.inside.units (get numbers_cmp c.self.inside.places) c.in-Some.place c.self.invariant.placed at)
+    ∙ ap (λ (t : TidOf). changed change t (seen c.self.inside.units c.self.inside.lanes))
+    (tid-at c.args.tid c.self.inside.units (get numbers_cmp c.self.inside.places) c.in-Some.place c.self.invariant.placed at)
     ∙ ap (λ (queues : QueuesOf). changed change c.args.tid queues) c.self.view_is
 
 pub returns-in-None : goal.returns-in-None

@@ -7,4 +7,5 @@ use Rattle.name_tables.proofs.names.Names.add.Goals as goal
 pub returns-clause-new : goal.returns-clause-new
 returns-clause-new c =
     let name = c.in_ok-from_slice.field-0 in
-    rw (← c.in_ok-from_slice.ensures.items) (c.in_ok-new.ensures.added ∙ ap not (list_any-map (λ key. key.items) (is_text name.items) c.self.inside.set.keys ∙ ap (list_any (is_text name.items)) c.self.view_is))
+    rw (← c.in_ok-from_slice.ensures.items) (c.in_ok-new.ensures.added
+    ∙ ap not (list_any-map (λ key. key.items) (is_text name.items) c.self.inside.set.keys ∙ ap (list_any (is_text name.items)) c.self.view_is))

@@ -17,7 +17,8 @@ returns c tracked are =
     let between = c.add_made.new.statuses in
     let later = c.pass.new.statuses in
     let made = subst (λ (ds : List OutDocument). Gets (made_for ds) tables.statuses between) c.as_slice.ensures c.in_ok-add_made.ensures in
-    let passed = subst (λ (cs : List (List DocNum)). Gets (passed_in cs added next) between later) c.as_slice-2.ensures (c.in_ok-pass.ensures added (sym c.as_slice-3.ensures)) in
+    let passed = subst (λ (cs : List (List DocNum)). Gets (passed_in cs added next) between later) c.as_slice-2.ensures
+    (c.in_ok-pass.ensures added (sym c.as_slice-3.ensures)) in
     let is = taken-tables tracked tables next added c.take.new.self between later are c.in_ok-take.ensures.taken made passed in
     on_ok c.append.result c.append.ensures.ok (λ appended.
     let after : OutboundTables = record { outbox = c.take.new.self; documents = c.append.new.self; carried = c.push_carried.new.carried; statuses = later } in

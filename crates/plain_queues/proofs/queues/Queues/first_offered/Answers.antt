@@ -8,7 +8,8 @@ use Rattle.plain_queues.proofs.queues.Queues.first_offered.Goals as goal
 
 pub returns-in-Some-clause-offered : goal.returns-in-Some-clause-offered
 returns-in-Some-clause-offered c =
-    ready-offered c.args.self.now c.in-Some.unit.now (subst (λ (queues : QueuesOf). NoneTwice (tids_of queues.units)) c.self.view_is c.self.invariant) (sym c.in-Some.ensures)
+    ready-offered c.args.self.now c.in-Some.unit.now (subst (λ (queues : QueuesOf). NoneTwice (tids_of queues.units)) c.self.view_is c.self.invariant)
+    (sym c.in-Some.ensures)
 
 pub returns-in-Some-clause-none : goal.returns-in-Some-clause-none
 returns-in-Some-clause-none c = (

@@ -9,7 +9,8 @@ is_width : (c : After-from-in-Some) → c.from.result + c.from-in-Some.result �
 is_width c =
     let fields = c.args.self.now.fields in
     let last = c.in-Some.last.now in
-    let here : slice_get fields (length fields - 1) ≡ Some last = ap (λ fs. slice_get fs (length fs - 1)) (sym c.as_slice.ensures) ∙ sym c.in-Some.ensures.value in
+    let here : slice_get fields (length fields - 1) ≡ Some last = ap (λ fs. slice_get fs (length fs - 1)) (sym c.as_slice.ensures)
+    ∙ sym c.in-Some.ensures.value in
     let long : suc (length fields - 1) ≡ length fields = omega (arith, ap length c.as_slice.ensures, c.in-Some.ensures.item.3.0) in
     omega (arith, laid_out-end 0 fields (length fields - 1) last c.requires.laid_out long here, c.from.ensures, c.from-in-Some.ensures)
 

@@ -29,7 +29,8 @@ returns-clause-any_moment g c = λ told log s.
     let journal = c.args.self.now in
     let leaves = c.append.ensures.any_moment told (bodies_of log) s.settled in
     appended V.volume V.moment V.images_since old new journal log (entry_with c.args.moment c.args.what.now) s c.in_ok-body.ensures.has_spelling
-    (subst (λ (body : List ℕ). LeavesOnly V.moment V.images_since old new (bodies journal).volume (bodies_settled.IsBeforeOrAfter (bodies_of log) body)) (c.deref.ensures.value ∙ c.in_ok-body.ensures.spelled) leaves)
+    (subst (λ (body : List ℕ). LeavesOnly V.moment V.images_since old new (bodies journal).volume (bodies_settled.IsBeforeOrAfter (bodies_of log) body))
+    (c.deref.ensures.value ∙ c.in_ok-body.ensures.spelled) leaves)
 
 pub returns-clause-full : goal.returns-clause-full
 returns-clause-full g c = λ place roomy.

@@ -34,7 +34,8 @@ returns-clause-ends g c =
     subst (OperatedAs rules g.V.Volumes.faults c.args.self.now c.record.new.kept c.args.system c.args.next) (sym c.operated.ensures)
     (operated-as rules g.V.Volumes.faults c.args.self.now c.record.new.kept c.args.system c.args.next c.record.result c.requires.up c.requires.may
     (asked-record rules world c.args.system c.args.next c.requires.up c.requires.may c.requires.kind c.requires.silent)
-    (subst (λ k. EndsAs (g.R.Rules.meaning k.world.rules) g.V.Volumes.faults k c.record.new.kept c.args.system c.args.next None c.record.result) c.self.view_is c.record.ensures.ends
+    (subst (λ k. EndsAs (g.R.Rules.meaning k.world.rules) g.V.Volumes.faults k c.record.new.kept c.args.system c.args.next None c.record.result) c.self.view_is
+    c.record.ensures.ends
     (event.Operator (Append c.args.system c.args.next))
     (asked-appends rules world c.args.system c.args.next c.requires.up c.requires.may c.requires.kind c.requires.silent)))
 

@@ -14,7 +14,8 @@ use Rattle.unit_landscape.proofs.landscape.UnitLandscape.confirm.Goals as goal
 pub unreachable-requires : goal.unreachable-requires
 unreachable-requires g c =
     let is = subst (λ k. IsLandscape g.R.Rules.meaning k.world) c.self.view_is c.self.invariant in
-    let named = done-named (g.R.Rules.meaning c.args.self.now.world.rules) (g.met.R.Rules.lawful c.args.self.now.world.rules) c.args.self.now.world is.safe c.args.tid c.requires.done in
+    let named = done-named (g.R.Rules.meaning c.args.self.now.world.rules) (g.met.R.Rules.lawful c.args.self.now.world.rules) c.args.self.now.world is.safe
+    c.args.tid c.requires.done in
     none-some named.0.receiver (sym c.in_default.is ∙ c.receiver_of.ensures ∙ ap (option_map (λ (unit : AleUnit). unit.receiver)) named.1)
 
 pub returns-then-not-is_known-clause-event : goal.returns-then-not-is_known-clause-event
@@ -25,7 +26,8 @@ returns-then-not-is_known-clause-event g c =
     receiver-found (committed_unit rules c.args.self.now.world c.args.tid) c.in-Some.receiver (sym c.receiver_of.ensures ∙ c.in-Some.is) in
     let up : is_up c.args.self.now.world c.in-Some.receiver ≡ true =
     sym (c.if-not-is_up.ensures ∙ ap (λ w. is_up w c.in-Some.receiver) c.world-2.ensures.world ∙ ap (λ k. is_up k.world c.in-Some.receiver) c.self.view_is) in
-    let forgotten = forgotten-by rules (g.met.R.Rules.lawful c.args.self.now.world.rules) c.args.self.now.world is.safe c.args.tid c.requires.done c.in-Some.receiver false its
+    let forgotten = forgotten-by rules (g.met.R.Rules.lawful c.args.self.now.world.rules) c.args.self.now.world is.safe c.args.tid c.requires.done
+    c.in-Some.receiver false its
     (c.if-not-is_known.ensures ∙ ap (λ k. is_known c.args.tid (log_of k.world c.in-Some.receiver)) c.self.view_is) in
     (ap (is_up c.args.self.now.world) (sym its) ∙ up, forgotten, refl)
 
@@ -43,6 +45,7 @@ forget-requires g c =
     receiver-found (committed_unit rules c.args.self.now.world c.args.tid) c.in-Some.receiver (sym c.receiver_of.ensures ∙ c.in-Some.is) in
     let up : is_up c.args.self.now.world c.in-Some.receiver ≡ true =
     sym (c.if-not-is_up.ensures ∙ ap (λ w. is_up w c.in-Some.receiver) c.world-2.ensures.world ∙ ap (λ k. is_up k.world c.in-Some.receiver) c.self.view_is) in
-    let forgotten = forgotten-by rules (g.met.R.Rules.lawful c.args.self.now.world.rules) c.args.self.now.world is.safe c.args.tid c.requires.done c.in-Some.receiver true its
+    let forgotten = forgotten-by rules (g.met.R.Rules.lawful c.args.self.now.world.rules) c.args.self.now.world is.safe c.args.tid c.requires.done
+    c.in-Some.receiver true its
     (c.if-not-is_known.ensures ∙ ap (λ k. is_known c.args.tid (log_of k.world c.in-Some.receiver)) c.self.view_is) in
     record { done = c.requires.done; its = its; up = up; known = forgotten }

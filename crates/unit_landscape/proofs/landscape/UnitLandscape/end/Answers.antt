@@ -24,7 +24,8 @@ append-requires-clause-due g c =
     (record {
       event = event.Reply (Forgotten c.args.tid);
       appends = does;
-      commits = event-none_more rules lawful c.args.self.now.world is.safe is.writable (event.Reply (Forgotten c.args.tid)) c.args.sender (log.Ended c.args.tid) None does refl;
+      commits = event-none_more rules lawful c.args.self.now.world is.safe is.writable (event.Reply (Forgotten c.args.tid)) c.args.sender
+          (log.Ended c.args.tid) None does refl;
       goes = λ its there. c.nothing.ensures its.application (log_of c.args.self.now.world c.args.sender) (log.Ended c.args.tid) refl;
     })
 
@@ -33,16 +34,20 @@ returns-clause-event g c =
     let rules = g.R.Rules.meaning c.args.self.now.world.rules in
     let is = subst (λ k. IsLandscape g.R.Rules.meaning k.world) c.self.view_is c.self.invariant in
     subst (λ r. IfOk r (ClosedAs rules g.V.Volumes.faults c.args.self.now c.append.new.kept c.args.tid)) (sym c.closed.ensures)
-    (closed-as rules (g.met.R.Rules.lawful c.args.self.now.world.rules) g.V.Volumes.faults c.args.self.now c.append.new.kept c.args.tid c.args.sender c.append.result is.safe c.requires
-    (subst (λ k. EndsSo (g.R.Rules.meaning k.world.rules) g.V.Volumes.faults k c.append.new.kept c.args.sender (log.Ended c.args.tid) None c.append.result) c.self.view_is c.append.ensures.ends)).0
+    (closed-as rules (g.met.R.Rules.lawful c.args.self.now.world.rules) g.V.Volumes.faults c.args.self.now c.append.new.kept c.args.tid c.args.sender
+    c.append.result is.safe c.requires
+    (subst (λ k. EndsSo (g.R.Rules.meaning k.world.rules) g.V.Volumes.faults k c.append.new.kept c.args.sender (log.Ended c.args.tid) None c.append.result)
+    c.self.view_is c.append.ensures.ends)).0
 
 pub returns-clause-short : goal.returns-clause-short
 returns-clause-short g c =
     let rules = g.R.Rules.meaning c.args.self.now.world.rules in
     let is = subst (λ k. IsLandscape g.R.Rules.meaning k.world) c.self.view_is c.self.invariant in
     subst (λ r. OnErr r (IsShort rules g.V.Volumes.faults c.args.self.now c.append.new.kept (event.Reply (Forgotten c.args.tid)))) (sym c.closed.ensures)
-    (closed-as rules (g.met.R.Rules.lawful c.args.self.now.world.rules) g.V.Volumes.faults c.args.self.now c.append.new.kept c.args.tid c.args.sender c.append.result is.safe c.requires
-    (subst (λ k. EndsSo (g.R.Rules.meaning k.world.rules) g.V.Volumes.faults k c.append.new.kept c.args.sender (log.Ended c.args.tid) None c.append.result) c.self.view_is c.append.ensures.ends)).1
+    (closed-as rules (g.met.R.Rules.lawful c.args.self.now.world.rules) g.V.Volumes.faults c.args.self.now c.append.new.kept c.args.tid c.args.sender
+    c.append.result is.safe c.requires
+    (subst (λ k. EndsSo (g.R.Rules.meaning k.world.rules) g.V.Volumes.faults k c.append.new.kept c.args.sender (log.Ended c.args.tid) None c.append.result)
+    c.self.view_is c.append.ensures.ends)).1
 
 pub returns-clause-disk : goal.returns-clause-disk
 returns-clause-disk g c =

@@ -15,7 +15,8 @@ returns-then-not-is_unconfirmed-clause-event g c =
     let is = subst (λ k. IsLandscape g.R.Rules.meaning k.world) c.self.view_is c.self.invariant in
     let done = forgotten-done rules lawful c.args.self.now.world is.safe c.args.tid c.requires.forgotten in
     let up : is_up c.args.self.now.world c.args.tid.system ≡ true =
-    sym (c.if-not-is_up.ensures ∙ ap (λ w. is_up w c.system-sender.result) c.world-2.ensures.world ∙ ap (λ k. is_up k.world c.system-sender.result) c.self.view_is
+    sym (c.if-not-is_up.ensures ∙ ap (λ w. is_up w c.system-sender.result) c.world-2.ensures.world
+    ∙ ap (λ k. is_up k.world c.system-sender.result) c.self.view_is
     ∙ ap (is_up c.args.self.now.world) c.system-sender.ensures) in
     let lasts : false ≡ not (is_listed c.args.tid (ended_in (log_of c.args.self.now.world c.args.tid.system))) =
     c.if-not-is_unconfirmed.ensures ∙ ap (λ k. is_unconfirmed c.args.tid (log_of k.world c.system-sender.result)) c.self.view_is
@@ -36,7 +37,8 @@ end-requires g c =
     record {
       forgotten = c.requires.forgotten;
       its = c.system-sender.ensures;
-      up = sym (c.if-not-is_up.ensures ∙ ap (λ w. is_up w c.system-sender.result) c.world-2.ensures.world ∙ ap (λ k. is_up k.world c.system-sender.result) c.self.view_is);
+      up = sym (c.if-not-is_up.ensures ∙ ap (λ w. is_up w c.system-sender.result) c.world-2.ensures.world
+          ∙ ap (λ k. is_up k.world c.system-sender.result) c.self.view_is);
       lasts = subst (λ s. is_listed c.args.tid (ended_in (log_of c.args.self.now.world s)) ≡ false) (sym c.system-sender.ensures)
           (not-true (is_listed c.args.tid (ended_in (log_of c.args.self.now.world c.args.tid.system))) (sym lasts));
     }

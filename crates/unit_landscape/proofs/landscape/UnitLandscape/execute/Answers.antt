@@ -25,11 +25,13 @@ append-appended-requires-clause-due g c =
     let rules = g.R.Rules.meaning c.args.self.now.world.rules in
     let is = subst (λ k. IsLandscape g.R.Rules.meaning k.world) c.self.view_is c.self.invariant in
     let does = c.in-Ok.ensures.appends in
-    subst (λ k. IsDue g.R.Rules.meaning g.A.Application.goes_with k c.args.held.system c.in-Ok.next [] (Some c.args.held.number) c.args.extra) (sym c.self.view_is)
+    subst (λ k. IsDue g.R.Rules.meaning g.A.Application.goes_with k c.args.held.system c.in-Ok.next [] (Some c.args.held.number) c.args.extra)
+    (sym c.self.view_is)
     (record {
       event = event.Finish c.args.held.number;
       appends = does;
-      commits = event-none_more rules (g.met.R.Rules.lawful c.args.self.now.world.rules) c.args.self.now.world is.safe is.writable (event.Finish c.args.held.number)
+      commits = event-none_more rules (g.met.R.Rules.lawful c.args.self.now.world.rules) c.args.self.now.world is.safe is.writable
+          (event.Finish c.args.held.number)
           c.args.held.system c.in-Ok.next (Some c.args.held.number) does c.in-Ok.ensures.plain;
       goes = c.requires.goes (at c.args.held.system c.in-Ok.next)
           (executed-record rules c.args.self.now.world c.args.claim c.args.held c.requires.holds c.in-Ok.next does);
@@ -41,7 +43,8 @@ returns-clause-ends g c =
     let faults = g.V.Volumes.faults in
     subst (FinishedAs rules faults c.args.self.now c.append-appended.new.kept c.args.claim) (sym c.finished.ensures)
     (executed-as rules faults c.args.self.now c.append-appended.new.kept c.args.claim c.args.held c.requires.holds c.in-Ok.next c.append-appended.result
-    (subst (λ k. EndsSo (g.R.Rules.meaning k.world.rules) faults k c.append-appended.new.kept c.args.held.system c.in-Ok.next (Some c.args.held.number) c.append-appended.result)
+    (subst (λ k. EndsSo (g.R.Rules.meaning k.world.rules) faults k c.append-appended.new.kept c.args.held.system c.in-Ok.next
+    (Some c.args.held.number) c.append-appended.result)
     c.self.view_is c.append-appended.ensures.ends)
     (record { tid = c.args.held.tid }) c.requires.holds.its c.requires.offers c.in-Ok.ensures.appends)
 
@@ -55,4 +58,5 @@ returns-clause-disk g c =
     disk-some told volume moment images c.args.self.now c.append-appended.new.kept _ (at c.args.held.system c.in-Ok.next)
     (ap (λ b. record_of rules c.args.self.now.world (cond b (event.Finish c.args.claim.number) (event.Fail c.args.claim.number))) c.requires.offers
     ∙ executed-record rules c.args.self.now.world c.args.claim c.args.held c.requires.holds c.in-Ok.next c.in-Ok.ensures.appends)
-    (subst (λ k. WritesOnly told volume moment images k c.append-appended.new.kept (at c.args.held.system c.in-Ok.next)) c.self.view_is c.append-appended.ensures.disk)
+    (subst (λ k. WritesOnly told volume moment images k c.append-appended.new.kept (at c.args.held.system c.in-Ok.next)) c.self.view_is
+    c.append-appended.ensures.disk)

@@ -19,7 +19,8 @@ append-appended-requires-clause-due g c =
     let is = subst (λ k. IsLandscape g.R.Rules.meaning k.world) c.self.view_is c.self.invariant in
     let next = log.Fail c.args.held.tid in
     let does = failing rules lawful c.args.self.now.world is.safe c.args.claim c.args.held c.requires.holds c.requires.offers in
-    subst (λ k. IsDue g.R.Rules.meaning g.A.Application.goes_with k c.args.held.system (log.Fail c.args.held.tid) [] (Some c.args.held.number) c.nothing.result) (sym c.self.view_is)
+    subst (λ k. IsDue g.R.Rules.meaning g.A.Application.goes_with k c.args.held.system (log.Fail c.args.held.tid) [] (Some c.args.held.number) c.nothing.result)
+    (sym c.self.view_is)
     (record {
       event = event.Fail c.args.held.number;
       appends = does;
@@ -35,8 +36,10 @@ returns-clause-ends g c =
     let faults = g.V.Volumes.faults in
     let is = subst (λ k. IsLandscape g.R.Rules.meaning k.world) c.self.view_is c.self.invariant in
     subst (FinishedAs rules faults c.args.self.now c.append-appended.new.kept c.args.claim) (sym c.finished.ensures)
-    (failed-as rules faults c.args.self.now c.append-appended.new.kept c.args.claim c.args.held c.requires.holds (log.Fail c.args.held.tid) c.append-appended.result
-    (subst (λ k. EndsSo (g.R.Rules.meaning k.world.rules) faults k c.append-appended.new.kept c.args.held.system (log.Fail c.args.held.tid) (Some c.args.held.number)
+    (failed-as rules faults c.args.self.now c.append-appended.new.kept c.args.claim c.args.held c.requires.holds
+    (log.Fail c.args.held.tid) c.append-appended.result
+    (subst (λ k. EndsSo (g.R.Rules.meaning k.world.rules) faults k c.append-appended.new.kept c.args.held.system (log.Fail c.args.held.tid)
+    (Some c.args.held.number)
     c.append-appended.result) c.self.view_is c.append-appended.ensures.ends)
     c.requires.offers (failing rules lawful c.args.self.now.world is.safe c.args.claim c.args.held c.requires.holds c.requires.offers))
 
@@ -53,4 +56,5 @@ returns-clause-disk g c =
     (ap (λ b. record_of rules c.args.self.now.world (cond b (event.Finish c.args.claim.number) (event.Fail c.args.claim.number))) c.requires.offers
     ∙ failed-record rules c.args.self.now.world c.args.claim c.args.held c.requires.holds (log.Fail c.args.held.tid)
     (failing rules lawful c.args.self.now.world is.safe c.args.claim c.args.held c.requires.holds c.requires.offers))
-    (subst (λ k. WritesOnly told volume moment images k c.append-appended.new.kept (at c.args.held.system (log.Fail c.args.held.tid))) c.self.view_is c.append-appended.ensures.disk)
+    (subst (λ k. WritesOnly told volume moment images k c.append-appended.new.kept (at c.args.held.system (log.Fail c.args.held.tid))) c.self.view_is
+    c.append-appended.ensures.disk)

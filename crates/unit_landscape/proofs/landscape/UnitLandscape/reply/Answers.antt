@@ -18,4 +18,5 @@ reply_record-next-requires-clause-offered g c = λ is.
 
 pub invariant_of-self : goal.invariant_of-self
 invariant_of-self g c =
-    landscape-released g.R.Rules.meaning g.met.R.Rules.lawful c.self.inside.kept.world c.release.new.self.world c.in-Some.held.number c.self.invariant c.release.ensures.world
+    landscape-released g.R.Rules.meaning g.met.R.Rules.lawful c.self.inside.kept.world c.release.new.self.world c.in-Some.held.number c.self.invariant
+    c.release.ensures.world

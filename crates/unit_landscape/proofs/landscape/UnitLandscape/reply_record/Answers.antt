@@ -8,7 +8,8 @@ use Rattle.unit_landscape.proofs.landscape.UnitLandscape.reply_record.Goals as g
 
 pub was_received-received-requires : goal.was_received-received-requires
 was_received-received-requires g c =
-    may-arrive (g.R.Rules.meaning c.args.self.now.world.rules) (g.met.R.Rules.lawful c.args.self.now.world.rules) c.args.self.now.world c.world.ensures.safe.safe c.args.claim.now
+    may-arrive (g.R.Rules.meaning c.args.self.now.world.rules) (g.met.R.Rules.lawful c.args.self.now.world.rules) c.args.self.now.world
+    c.world.ensures.safe.safe c.args.claim.now
     c.args.held c.requires.holds
 
 pub returns-in-Done-clause-appends : goal.returns-in-Done-clause-appends
@@ -18,7 +19,8 @@ returns-in-Done-clause-appends g c =
     (reply_event rules c.args.self.now.world c.args.claim.now given)) (sym c.in-Done.is)
     (subst (λ next. Appends rules c.args.self.now.world c.args.held.system next (Some c.args.held.number)
     (reply_event rules c.args.self.now.world c.args.claim.now (reply.Done c.in-Done.receipt))) (sym c.record_of_receipt.ensures)
-    (receipt-appends rules (g.met.R.Rules.lawful c.args.self.now.world.rules) c.args.self.now.world c.world.ensures.safe.safe c.args.claim.now c.args.held c.requires.holds
+    (receipt-appends rules (g.met.R.Rules.lawful c.args.self.now.world.rules) c.args.self.now.world c.world.ensures.safe.safe c.args.claim.now c.args.held
+    c.requires.holds
     c.in-Done.receipt (c.eq.result && c.was_received-received.result)
     (ap (λ b. b && c.was_received-received.result) c.eq.ensures
     ∙ ap (λ b. is_tid c.in-Done.receipt.tid c.args.held.tid && b) c.was_received-received.ensures)))
@@ -30,7 +32,8 @@ returns-in-SysFail-clause-appends g c =
     (reply_event rules c.args.self.now.world c.args.claim.now given)) (sym c.in-SysFail.is)
     (subst (λ next. Appends rules c.args.self.now.world c.args.held.system next (Some c.args.held.number)
     (reply_event rules c.args.self.now.world c.args.claim.now reply.SysFail)) (sym c.record_of_refusal.ensures)
-    (refusal-appends rules (g.met.R.Rules.lawful c.args.self.now.world.rules) c.args.self.now.world c.world.ensures.safe.safe c.args.claim.now c.args.held c.requires.holds
+    (refusal-appends rules (g.met.R.Rules.lawful c.args.self.now.world.rules) c.args.self.now.world c.world.ensures.safe.safe c.args.claim.now c.args.held
+    c.requires.holds
     c.is_refused.result c.is_refused.ensures))
 
 pub returns-in-Lost-clause-appends : goal.returns-in-Lost-clause-appends
@@ -41,6 +44,7 @@ returns-in-Lost-clause-appends g c =
           (reply_event rules c.args.self.now.world c.args.claim.now given)) (sym is)
           (subst (λ next. Appends rules c.args.self.now.world c.args.held.system next (Some c.args.held.number)
           (reply_event rules c.args.self.now.world c.args.claim.now reply.Lost)) (sym c.record_of_refusal-in-Lost.ensures)
-          (lost-appends rules (g.met.R.Rules.lawful c.args.self.now.world.rules) c.args.self.now.world c.world.ensures.safe.safe c.args.claim.now c.args.held c.requires.holds))
+          (lost-appends rules (g.met.R.Rules.lawful c.args.self.now.world.rules) c.args.self.now.world c.world.ensures.safe.safe c.args.claim.now c.args.held
+          c.requires.holds))
       | inr busy ↦ absurd (c.requires.other busy)
     ]

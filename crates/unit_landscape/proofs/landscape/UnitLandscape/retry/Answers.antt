@@ -28,7 +28,8 @@ returns-then-not-is_outstanding-clause-ends g c =
     let up : is_up world c.args.system ≡ true =
     ap (λ (w : World g.row.R.Denot). is_up w c.args.system) (sym c.world.ensures.world) ∙ sym c.is_up.ensures ∙ c.if-not-is_up.false in
     subst (λ (k : KeptOf g.row.R.Denot g.row.A.Denot g.row.V.Denot). (is_up k.world c.args.system ≡ true)
-    × (may_follow (g.R.Rules.meaning k.world.rules) c.args.system (log_of k.world c.args.system) (log.Retry c.args.way c.args.tid) ≡ false) × (k ≡ k)) c.self.view_is (
+    × (may_follow (g.R.Rules.meaning k.world.rules) c.args.system (log_of k.world c.args.system) (log.Retry c.args.way c.args.tid) ≡ false) × (k ≡ k))
+    c.self.view_is (
       up,
       retry-may rules (g.met.R.Rules.lawful c.self.inside.kept.world.rules) world c.self.invariant.safe c.args.system c.args.way c.args.tid up
           ∙ sym c.is_outstanding.ensures ∙ c.if-not-is_outstanding.true,

@@ -65,7 +65,8 @@ record-appended-requires-clause-due g c =
       commits = event-none_more rules lawful (claimed_by kept unit).world is.safe is.writable (event.Finish number) c.args.unit.receiver
           (log.Direct c.args.unit) (Some number) does refl;
       goes = λ its there.
-          subst (λ k. g.A.Application.goes_with its.application (log_of k.world c.args.unit.receiver) (log.Direct c.args.unit) c.args.extra) (sym c.self.view_is)
+          subst (λ k. g.A.Application.goes_with its.application (log_of k.world c.args.unit.receiver) (log.Direct c.args.unit) c.args.extra)
+          (sym c.self.view_is)
           (c.requires.goes its (ap (λ k. slice_get k.tables (c.args.unit.receiver - 1)) (sym c.self.view_is) ∙ there));
     }))
 

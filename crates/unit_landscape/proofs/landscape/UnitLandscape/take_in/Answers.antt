@@ -33,8 +33,10 @@ append-requires-clause-due g c =
       event = event.Arrive c.args.unit.now.tid;
       appends = does;
       commits = event-none_more rules (g.met.R.Rules.lawful c.self.inside.kept.world.rules) world c.self.invariant.safe c.self.invariant.writable
-          (event.Arrive c.args.unit.now.tid) c.args.unit.now.receiver c.in_ok-next.next None does (subst (λ next. is_commit next ≡ false) (sym c.in_ok-next.ensures) refl);
-      goes = λ its at. c.nothing.ensures its.application (log_of c.self.inside.kept.world c.args.unit.now.receiver) c.in_ok-next.next (subst (λ next. concerns_application next ≡ false) (sym c.in_ok-next.ensures) refl);
+          (event.Arrive c.args.unit.now.tid) c.args.unit.now.receiver c.in_ok-next.next None does
+          (subst (λ next. is_commit next ≡ false) (sym c.in_ok-next.ensures) refl);
+      goes = λ its at. c.nothing.ensures its.application (log_of c.self.inside.kept.world c.args.unit.now.receiver) c.in_ok-next.next
+          (subst (λ next. concerns_application next ≡ false) (sym c.in_ok-next.ensures) refl);
     }
 
 pub returns-clause-event : goal.returns-clause-event

@@ -8,12 +8,14 @@ use Rattle.world_tables.proofs.world_tables.WorldTables.note.Goals as goal
 
 pub returns-in-Some-claim-clause-noted : goal.returns-in-Some-claim-clause-noted
 returns-in-Some-claim-clause-noted g c next is =
-    subst (λ (n : Record). ChangedAt (Noted g.A.Application.stands (λ application log. g.A.Application.goes_with application log n c.args.extra) n c.args.more.now)
+    subst (λ (n : Record). ChangedAt (Noted g.A.Application.stands (λ application log. g.A.Application.goes_with application log n c.args.extra) n
+    c.args.more.now)
     (c.args.system - 1) c.args.self.now.tables c.note_at.new.tables)
     (same_Some c.in-Some.next.now next (c.in-Some.ensures ∙ ap last_of c.log.ensures ∙ is)) c.in_ok-note_at.ensures.noted
 
 pub returns-in_default-claim-clause-noted : goal.returns-in_default-claim-clause-noted
 returns-in_default-claim-clause-noted g c next is =
-    subst (λ (n : Record). ChangedAt (Noted g.A.Application.stands (λ application log. g.A.Application.goes_with application log n c.args.extra) n c.args.more.now)
+    subst (λ (n : Record). ChangedAt (Noted g.A.Application.stands (λ application log. g.A.Application.goes_with application log n c.args.extra) n
+    c.args.more.now)
     (c.args.system - 1) c.args.self.now.tables c.note_at.new.tables)
     (same_Some c.in-Some.next.now next (c.in-Some.ensures ∙ ap last_of c.log.ensures ∙ is)) c.in_ok-note_at.ensures.noted
