@@ -18,11 +18,11 @@ use std::alloc::Global;
 #[derive(Drop)]
 pub(crate) struct Condition {
     /// The segment type.
-    pub segment: TypeNo,
+    pub(crate) segment: TypeNo,
     /// The field, by its place from 0 among those of the newest definition.
-    pub field: u16,
+    pub(crate) field: u16,
     /// The values, each once.
-    pub values: Names,
+    pub(crate) values: Names,
 }
 
 /// The conditions of a group of a model.

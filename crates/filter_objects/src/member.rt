@@ -10,9 +10,9 @@ use std::alloc::Global;
 #[derive(Debug, Drop)]
 pub(crate) struct Member {
     /// It is in the set.
-    pub kept: bool,
+    pub(crate) kept: bool,
     /// Those below it.
-    pub below: Vec<Member>,
+    pub(crate) below: Vec<Member>,
 }
 
 /// A copy of some members.

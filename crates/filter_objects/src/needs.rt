@@ -12,9 +12,9 @@ use std::alloc::Global;
 #[derive(Drop)]
 pub(crate) struct Needs {
     /// Those at the root level.
-    pub roots: Items<TypePlace>,
+    pub(crate) roots: Items<TypePlace>,
     /// Those below each segment type, by its number.
-    pub below: Items<Items<TypePlace>>,
+    pub(crate) below: Items<Items<TypePlace>>,
 }
 
 impl Needs {

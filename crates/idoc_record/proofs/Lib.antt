@@ -6,4 +6,5 @@ pub mod FieldsLemmas
 pub mod ControlLemmas
 -- the two texts of a data line
 pub mod DataLemmas
+-- a record that was written is read again
 pub mod WrittenLemmas

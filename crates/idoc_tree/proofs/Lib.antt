@@ -24,6 +24,7 @@ pub mod LackLemmas
 pub mod BuildsLemmas
 -- nodes side by side, as the code looks at them
 pub mod SiblingLemmas
+-- the last of some nodes has the open ones
 pub mod LastNodeLemmas
 -- the data records of a forest spell it again
 pub mod LineLemmas

@@ -4,6 +4,7 @@
 pub mod ReadingLemmas
 -- one more record of a log
 pub mod ApplicationLemmas
--- the tables of an application, and the records of its log
+-- the tables of an application
 pub mod TablesLemmas
+-- one more record of its log, and what it makes of them
 pub mod RecordLemmas

@@ -177,23 +177,7 @@ past_after models past next =
 unfoldable pub past_of : List Lists → List Record → Past
 past_of models log = fold (past_after models) no_past log
 
--- the inbound documents of a log
-abbrev pub inbound_documents : List Lists → List Record → List Arrived
-inbound_documents models log = (past_of models log).application.documents
-
--- the change pointers that no gathering of a log has taken up
-abbrev pub noted_in : List Lists → List Record → List Pointer
-noted_in models log = (past_of models log).application.pointers
-
--- the objects of a log
-abbrev pub data_of : List Lists → List Record → ObjectsOf
-data_of models log = (past_of models log).application.objects
-
 -- the statuses of the inbound document of a number, from 1; none where there is no such document
 abbrev pub statuses_at : List Arrived → ℕ → List Status
 statuses_at documents zero = []
 statuses_at documents (suc place) = option_map_or (λ document. document.statuses) (slice_get documents place) []
-
--- the statuses of the inbound document of a number in a log
-abbrev pub inbound_statuses : List Lists → List Record → ℕ → List Status
-inbound_statuses models log doc = statuses_at (inbound_documents models log) doc

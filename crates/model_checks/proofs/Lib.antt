@@ -4,4 +4,5 @@ pub mod TableLemmas
 pub mod CheckedLemmas
 -- what passed
 pub mod ProfiledLemmas
+-- where all is checked, each profile leaves what is mandatory
 pub mod WholeLemmas

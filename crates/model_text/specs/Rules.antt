@@ -1,5 +1,5 @@
--- The rules that the parts of a model keep while it is read, with the names of its things: for the functions that read it.
--- Those of the whole are `IsModel` of the models' crate.
+-- The rules that the parts of a model keep while it is read, with the names of its things: for the private functions that
+-- read it. Those of the whole are `IsModel` of the models' crate.
 use Rattle.std.specs.Prelude.{◌≡◌, ◌++◌, length}
 use Rattle.std.specs.List.{AllByRecursion}
 use Rattle.segment_defs.specs.Definitions.{AreDefinitions}

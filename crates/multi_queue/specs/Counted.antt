@@ -1,3 +1,5 @@
+-- Queues as lists of places, with a count for each unit of the queues that are not stopped and that it heads. Private functions
+-- cite this, and `IsQueues` by `IsCounted` and `IsBoardBut`.
 use Rattle.std.specs.Option.{is_none}
 use Rattle.std.specs.Prelude.{◌≡◌, ◌<◌, ◌≤◌, ◌+◌, ℕ, Bool, true, false, not, ◌&&◌, ◌||◌, eqb, cond, slice_set, Option, Some, None, List, [], ◌∷◌, ◌++◌, length}
 use Rattle.std.specs.Prelude.{slice_get, is_some, find, take, ◌-◌}

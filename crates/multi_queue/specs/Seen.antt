@@ -72,6 +72,8 @@ numbers_cmp a b = ordering_then (nat_cmp a.0 b.0) (nat_cmp a.1 b.1)
 abbrev pub names_cmp : ℕ × List ℕ → ℕ × List ℕ → Ordering
 names_cmp a b = ordering_then (nat_cmp a.0 b.0) (slice_cmp nat_cmp a.1 b.1)
 
+-- ---- what only private functions cite
+
 -- the live unit of an id is at this place
 pub record IsAt (tid : TidOf) (units : List Entry) (places : ℕ × ℕ → Option ℕ) (p : ℕ) : Type 0 where
   pub unit : Entry

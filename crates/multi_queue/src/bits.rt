@@ -6,7 +6,7 @@ ghost use Rattle.multi_queue.specs.Bits.{IsTreeBut, bit};
 use ale_base::Items;
 
 /// The first true leaf.
-pub fn first(nodes: &Items<bool>, height: u32) -> Option<usize>
+pub(crate) fn first(nodes: &Items<bool>, height: u32) -> Option<usize>
     requires tree { IsTreeBut 0 height nodes.now }
     requires fits { 2 * 2 ^ height < 2 ^ 64 }
     ensures { MatchOption result ((i : ℕ) → 2 ^ height ≤ i → bit nodes.now i ≡ false)
@@ -25,7 +25,7 @@ pub fn first(nodes: &Items<bool>, height: u32) -> Option<usize>
     Some(at)
 }
 /// The nodes above one that was written.
-pub fn settle(nodes: &mut Items<bool>, from: usize, height: u32)
+pub(crate) fn settle(nodes: &mut Items<bool>, from: usize, height: u32)
     requires tree { IsTreeBut (from / 2) height nodes.old }
     requires fits { 2 * 2 ^ height < 2 ^ 64 }
     requires within { from < length nodes.old }

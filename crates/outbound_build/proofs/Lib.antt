@@ -1,5 +1,6 @@
--- names of queues, and the first segment of a type
+-- names of queues
 pub mod NameLemmas
+-- the first segment of a type in a forest
 pub mod FirstLemmas
 -- rows by their places
 pub mod RowLemmas
@@ -13,15 +14,19 @@ pub mod NumberLemmas
 pub mod CollectLemmas
 -- the control record
 pub mod ControlLemmas
--- whole logs: what one more record changes, and the loop over their records
+-- what one more record changes of a whole log
 pub mod LogLemmas
+-- the units of a whole log, computed record by record
 pub mod CommitLemmas
--- every unit of a log: its queues, what made it, its number
+-- every unit of a log names a queue once
 pub mod OnceLemmas
+-- parcels may be sent, whichever number they get
 pub mod ParcelLemmas
+-- every unit of a log: its number, and what made it
 pub mod UnitLemmas
 -- every document of a log: its number
 pub mod DocumentLemmas
 -- how many segments documents have
 pub mod SizeLemmas
+-- documents have no more segments than the masters of their log
 pub mod ShortLemmas

@@ -1,5 +1,6 @@
 -- What every unit of a log is: its number, by the system of the log, and what the rules of the log's models make of it. That a
--- unit has an id and goes to another system is SAP's transactional RFC; the limits are this project's own.
+-- unit has an id and goes to another system is SAP's transactional RFC; the limits are this project's own. Only proofs
+-- cite this, those of the crates above too.
 use Rattle.std.specs.Prelude.{◌≡◌, ℕ, suc, ◌≤◌, ⊤, true, List, [], ◌∷◌, length}
 use Rattle.std.specs.List.{AllByRecursion}
 use Rattle.dist_model.specs.declared.lists.Lists.{Lists}

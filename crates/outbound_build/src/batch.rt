@@ -29,9 +29,9 @@ use unit_core::{RawUnitDoc, Shared};
 #[derive(Debug, Drop)]
 pub(crate) struct Batch {
     /// The documents.
-    pub documents: Items<OutDocument>,
+    pub(crate) documents: Items<OutDocument>,
     /// The units.
-    pub parcels: Items<Parcel>,
+    pub(crate) parcels: Items<Parcel>,
 }
 
 /// What is sent of the masters of a Commit, where so many documents are before it.

@@ -19,13 +19,13 @@ use unit_core::{AleUnit, Record};
 #[derive(Debug, Drop)]
 pub(crate) struct Behind {
     /// How many models there were.
-    pub models: usize,
+    pub(crate) models: usize,
     /// The system that the Genesis of the first of them names. 0 where there is none.
-    pub system: u8,
+    pub(crate) system: u8,
     /// The documents that wait, and the counts.
-    pub outbox: Outbox,
+    pub(crate) outbox: Outbox,
     /// The units.
-    pub units: Items<AleUnit>,
+    pub(crate) units: Items<AleUnit>,
 }
 
 /// The units of a whole log whose models these are, in order. It goes through the log once: each record takes what `Outbox`

@@ -21,9 +21,9 @@ use unit_core::RawUnitDoc;
 #[derive(Debug, Drop)]
 pub(crate) struct MasterDoc {
     /// The message type.
-    pub message: MessageNo,
+    pub(crate) message: MessageNo,
     /// The document.
-    pub doc: Doc,
+    pub(crate) doc: Doc,
 }
 
 /// A document as a master. None where it is not read by the IDoc type of its message type.

@@ -8,13 +8,13 @@ use unit_core::RawUnitDoc;
 #[derive(Debug, Drop)]
 pub(crate) struct Parcel {
     /// The system that is to execute it.
-    pub receiver: SystemNo,
+    pub(crate) receiver: SystemNo,
     /// The function that executes it.
-    pub function: Fixed<30>,
+    pub(crate) function: Fixed<30>,
     /// Its queues.
-    pub queues: QueueLists,
+    pub(crate) queues: QueueLists,
     /// The numbers of its documents.
-    pub numbers: Items<DocNum>,
+    pub(crate) numbers: Items<DocNum>,
     /// The documents.
-    pub docs: Items<RawUnitDoc>,
+    pub(crate) docs: Items<RawUnitDoc>,
 }

@@ -79,7 +79,3 @@ nothing_tracked = record { past = no_past; statuses = λ doc. [] }
 -- what is known behind a log whose models these are, and the statuses of its outbound documents
 unfoldable pub tracked_of : List Lists → List Record → Tracked
 tracked_of models log = fold (tracked_after models) nothing_tracked log
-
--- the statuses of the outbound document of a number
-abbrev pub outbound_statuses : List Lists → List Record → ℕ → List Status
-outbound_statuses models log doc = (tracked_of models log).statuses doc

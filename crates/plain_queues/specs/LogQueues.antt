@@ -84,6 +84,8 @@ HaveOneSender Incoming all = ⊤
 abbrev pub added_all : Way → List AleUnit → QueuesOf → QueuesOf
 added_all way more queues = fold (λ (before : QueuesOf) unit. added unit.tid (keys_of way unit) before) queues more
 
+-- ---- what only proofs and private functions cite
+
 -- a unit is new to a log: it is not through, not claimed and not marked
 pub record IsNew (way : Way) (log : List Record) (claims : TidOf → Option ℕ) (unit : AleUnit) : Type 0 where
   pub outstanding : is_listed unit.tid (through way log) ≡ false

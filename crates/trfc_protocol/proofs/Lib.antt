@@ -12,10 +12,13 @@ pub mod SoundLemmas
 pub mod SafeLemmas
 -- what a step may do: a record joins, a claim goes, one more is made
 pub mod NextLemmas
--- the events, by the headings of the protocol's page
+-- the events, by the headings of the protocol's page: a unit is committed, claimed and shipped
 pub mod SendingLemmas
+-- it is claimed by its receiver, and executed
 pub mod ExecutingLemmas
+-- replies arrive, and messages are lost
 pub mod ReplyingLemmas
+-- confirmations
 pub mod ConfirmingLemmas
 -- the record of an event
 pub mod RecordLemmas

@@ -113,6 +113,8 @@ listed count kind rule = record {
   read = λ bytes. count.read bytes >>= λ n. listed_at kind rule n.0 [] n.1;
 }
 
+-- ---- what only private functions cite
+
 -- a call appended the spelling of a value, which has one
 pub record Puts {A : Type 0} (kind : Kind A) (x : A) (old new : List ℕ) : Type 0 where
   pub fits : kind.Fits x

@@ -24,6 +24,8 @@ abbrev pub found : {A : Type 0} → ℕ → Option A → List ℕ → Reading A
 found left (Some x) rest = Ok (x, rest)
 found left None rest = Err left
 
+-- ---- what only private functions cite
+
 -- What a call took from the front of the bytes, as this view sees it, and what is left behind it, are what reading gives.
 -- Memory may run out.
 abbrev pub Takes : {X Y : Type 0} → (X → Y) → Result X FieldFault → List ℕ → Reading Y → Type 0

@@ -109,6 +109,8 @@ HasSpelling what = a_record.Fits what
 abbrev pub record_spelling : Record → List ℕ
 record_spelling what = a_record.spell what
 
+-- ---- what only private functions cite
+
 -- a call appended the fields of a record, which have a spelling
 abbrev pub PutsFields : Record → List ℕ → List ℕ → Type 0
 PutsFields what old new = Puts (spelled_as what).kind (spelled_as what).values old new

@@ -1,8 +1,10 @@
 -- a walk over nodes, step by step
 pub mod WalkLemmas
--- the fields of a segment, and texts in them: those that are reduced, and those that are converted
+-- the fields of a segment, and texts in them
 pub mod TextLemmas
+-- fields that are reduced
 pub mod ReduceLemmas
+-- values that are converted
 pub mod ConvertLemmas
 -- segments that change and keep their types
 pub mod ChangeLemmas
