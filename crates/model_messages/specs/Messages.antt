@@ -22,6 +22,7 @@ use Rattle.model_keys.specs.Finding.{◌>>=◌, at, check, required}
 use Rattle.model_keys.specs.Each.{each}
 use Rattle.model_keys.specs.Keys.{any_list_or_none_at, entry_of, list_or_none_at, name_of, new_name_at, or_else}
 use Rattle.model_messages.specs.declared.keys.TheConstants.{IDOCTYPE, INSERT, KIND, MESSAGE, MESSAGE_KEYS, NAME, POINTERS, POSTING, REQUIRED, UPSERT}
+use Rattle.model_messages.specs.declared.messages.Unnamed.{Unnamed}
 use Rattle.model_messages.specs.Fields.{field_named}
 use Rattle.model_messages.specs.Things.{thing_at}
 
@@ -84,6 +85,20 @@ pointers_of definitions entries kind d = do
 -- none where the key is absent
 unfoldable pub pointers_at : Definitions → List TypePlace → Kind → Members → Result (List ℕ) Finding
 pointers_at definitions entries kind table = or_else [] (pointers_of definitions entries kind) (get_member POINTERS.now table)
+
+-- a message type of its name and the rest, for the private functions that read the parts of `message_of`
+abbrev pub named : List ℕ → Unnamed → Message
+named name of = record { name = name; idoctype = of.idoctype; kind = of.kind; posting = of.posting; required = of.required; pointers = of.pointers }
+
+-- the part of `message_of` behind the name
+unfoldable pub message_named : Definitions → List IdocType → List Kind → List ℕ → Members → Result Message Finding
+message_named definitions types kinds name table = do
+  type ← thing_at IDOCTYPE.now (idoc_type_names types) types table
+  kind ← kind_at type.1.segments kinds table
+  posting ← posting_at table
+  fields ← required_at definitions kind.1 table
+  pointers ← pointers_at definitions type.1.segments kind.1 table
+  Ok (record { name = name; idoctype = type.0; kind = kind.0; posting = posting; required = fields; pointers = pointers })
 
 -- a message type with a name that none of the others has
 unfoldable pub message_of : Definitions → List IdocType → List Kind → List (List ℕ) → Data → Result Message Finding

@@ -1,6 +1,6 @@
 //! The section of the message types.
 
-ghost use Rattle.std.specs.Prelude.{◌≡◌, ◌<◌, ◌≤◌, ◌∷◌, ◌++◌, [], IfOk, length};
+ghost use Rattle.std.specs.Prelude.{ℕ, ◌≡◌, ◌<◌, ◌≤◌, List, ◌∷◌, ◌++◌, [], IfOk, length};
 ghost use Rattle.toml.specs.View.{view, table_view, items_view};
 ghost use Rattle.segment_defs.specs.Definitions.{AreDefinitions};
 ghost use Rattle.dist_model.specs.declared.limits.TheConstants.{MOST_KINDS};
@@ -11,7 +11,7 @@ ghost use Rattle.model_keys.specs.Finding.{Gives};
 ghost use Rattle.model_keys.specs.Says.{SaysListOrNone};
 ghost use Rattle.model_messages.specs.declared.keys.TheConstants.{MESSAGE};
 ghost use Rattle.model_messages.specs.Says.{SaysMessage};
-ghost use Rattle.model_messages.specs.Messages.{kind_at, message_of, messages_at, messages_of, posting_at, posting_named, posting_of};
+ghost use Rattle.model_messages.specs.Messages.{kind_at, message_named, message_of, messages_at, messages_of, named, posting_at, posting_named, posting_of};
 
 use crate::keys::{IDOCTYPE, INSERT, KIND, MESSAGE, MESSAGE_KEYS, NAME, POSTING, UPSERT};
 use crate::own_fields::{pointers_at, required_at};
@@ -114,14 +114,60 @@ fn message_of(
 {
     let table = entry_of(alloc, value, &MESSAGE_KEYS)?;
     let name = new_name_at(alloc, LONGEST_NAME, NAME, names, table)?;
+    match unnamed_at(alloc, definitions, types, kinds, table) {
+        Err(error) => Err(error),
+        Ok(unnamed) => Ok(named(name, unnamed)),
+    }
+}
+
+/// A message type but for its name.
+#[derive(Drop)]
+struct Unnamed {
+    idoctype: u16,
+    kind: u16,
+    posting: PostingMode,
+    required: Items<u16>,
+    pointers: Items<u16>,
+}
+
+/// The message type of this name.
+fn named(name: Items<u8>, unnamed: Unnamed) -> Message
+    ensures { result ≡ named name unnamed }
+{
+    Message {
+        name,
+        idoctype: unnamed.idoctype,
+        kind: unnamed.kind,
+        posting: unnamed.posting,
+        required: unnamed.required,
+        pointers: unnamed.pointers,
+    }
+}
+
+/// What an entry says of a message type, whatever its name is.
+#[tactic(auto, unfolding(crate::specs::Messages::message_named))]
+fn unnamed_at(
+    alloc: Global,
+    definitions: &Definitions,
+    types: &Named<'_, IdocType>,
+    kinds: &Named<'_, Kind>,
+    table: &Table,
+) -> Result<Unnamed, ReadError>
+    requires definitions { AreDefinitions definitions.now }
+    requires types { types.now.names.now ≡ idoc_type_names types.now.things.now }
+    requires are_types { AreIdocTypes definitions.now types.now.things.now }
+    requires kinds { kinds.now.names.now ≡ kind_names kinds.now.things.now }
+    requires are_kinds { AreKinds definitions.now kinds.now.things.now }
+    ensures { (name : List ℕ) → Gives (named name) result
+        (message_named definitions.now types.now.things.now kinds.now.things.now name (table_view table.now)) }
+{
     let (idoctype, of_type) = thing_at(alloc, IDOCTYPE, types, table)?;
     let entries = of_type.segments.as_slice();
     let (kind, of_kind) = kind_at(alloc, definitions, entries, kinds, table)?;
     let posting = posting_at(alloc, table)?;
     let required = required_at(alloc, definitions, of_kind, table)?;
     let pointers = pointers_at(alloc, definitions, entries, of_kind, table)?;
-    Ok(Message {
-        name,
+    Ok(Unnamed {
         idoctype: idoctype as u16,
         kind: kind as u16,
         posting,

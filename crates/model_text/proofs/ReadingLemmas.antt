@@ -1,6 +1,6 @@
 -- The answer to the bytes of a text.
 use Rattle.std.specs.Prelude.{IfOk, MatchResult}
-use Rattle.std.proofs.Common.{◌≡◌, ℕ, cond, Option, None, Result, Ok, Err, List, ap, refl, sym, subst, ◌∙◌, inl, inr}
+use Rattle.std.proofs.Common.{◌≡◌, ℕ, cond, Option, None, Result, Ok, Err, List, ap, sym, subst, ◌∙◌, inl, inr}
 use Rattle.dist_model.specs.declared.lists.Lists.{Lists}
 use Rattle.model_text.specs.declared.fault.ModelFault.{ModelFault}
 use Rattle.std.specs.Str.{is_utf8, IsUtf8}
@@ -12,8 +12,7 @@ use Rattle.model_keys.specs.declared.finding.Cause.TheVariants as causes
 use Rattle.model_keys.specs.declared.finding.Cause.{Cause}
 use Rattle.model_keys.specs.declared.finding.ReadError.{ReadError}
 use Rattle.model_keys.specs.declared.finding.ReadError.TheVariants as errors
-use Rattle.model_keys.specs.declared.finding.Finding.{Finding}
-use Rattle.model_keys.specs.Finding.{◌>>=◌, Fails}
+use Rattle.model_keys.specs.Finding.{Fails}
 use Rattle.model_text.specs.declared.fault.ModelFault.TheVariants.{OutOfMemory, Toml}
 use Rattle.model_text.specs.Model.{model_of}
 use Rattle.model_text.specs.Text.{answer, answer_of_table, answer_to, fault_at, fault_of, Reads}
@@ -58,9 +57,3 @@ Reads-indexed bytes lists (Err fault) memory is = subst (λ (f : ModelFault). Re
 pub IfOk-indexed : (P : Lists → Type 0) (lists : Lists) (r : Result Lists ModelFault) → IsIndexed lists r → P lists → IfOk r P
 IfOk-indexed P lists (Ok model) same here = subst P (sym same) here
 IfOk-indexed P lists (Err fault) memory here = tt
-
--- what fails at a step fails at all that is read behind it
-pub fails_on : {A B : Type 0} (error : ReadError) (reading : Result A Finding) (next : A → Result B Finding) → Fails error reading →
-    Fails error (reading >>= next)
-fails_on errors.Memory reading next fails = tt
-fails_on (errors.Found finding) reading next fails = rw fails refl

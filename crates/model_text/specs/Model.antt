@@ -45,6 +45,13 @@ basics releases systems segments types = record {
   type_names = idoc_type_names types;
 }
 
+-- the part of `basics_of` behind releases and systems
+unfoldable pub basics_on : List (List ℕ) → List System → Members → Result Basics Finding
+basics_on releases systems table = do
+  segments ← segments_at releases table
+  types ← idoc_types_at (type_names segments) table
+  Ok (basics releases systems segments types)
+
 -- the sections on them
 unfoldable pub basics_of : Members → Result Basics Finding
 basics_of table = do
@@ -64,6 +71,13 @@ subjects kinds messages reduced filters = record {
   all_names = message_names messages ++ reduced_names reduced;
   filters = filters;
 }
+
+-- the part of `subjects_of` behind message types
+unfoldable pub subjects_on : Basics → List Kind → List Message → Members → Result Subjects Finding
+subjects_on on kinds messages table = do
+  reduced ← reduced_at on.definitions on.types messages table
+  filters ← filters_at on.definitions on.types messages table
+  Ok (subjects kinds messages reduced filters)
 
 -- the sections on them
 unfoldable pub subjects_of : Basics → Members → Result Subjects Finding
@@ -99,6 +113,13 @@ lists on of by = record {
   outbound = by.outbound;
   inbound = by.inbound;
 }
+
+-- the part of `model_of` behind what a model stands on
+unfoldable pub model_on : Basics → Members → Result Lists Finding
+model_on on table = do
+  of ← subjects_of on table
+  by ← traffic_of on of table
+  Ok (lists on of by)
 
 -- the model of a whole text, which is this table
 unfoldable pub model_of : Members → Result Lists Finding

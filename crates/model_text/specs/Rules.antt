@@ -9,7 +9,13 @@ use Rattle.dist_model.specs.Filter.{AreFilters}
 use Rattle.dist_model.specs.Model.{AreIdocTypes, AreReleases, AreSystems, idoc_type_names, IsReleased, system_names, type_names}
 use Rattle.model_profiles.specs.declared.basis.Basis.{Basis}
 use Rattle.model_text.specs.declared.basics.Basics.{Basics}
+use Rattle.model_text.specs.declared.basics.Structure.{Structure}
 use Rattle.model_text.specs.declared.subjects.Subjects.{Subjects}
+
+-- segment types and IDoc types with the names of each
+pub record IsNamed (structure : Structure) : Type 0 where
+  pub segments : structure.segments.names ≡ type_names structure.segments.things
+  pub types : structure.types.names ≡ idoc_type_names structure.types.things
 
 -- releases, systems, segment types and IDoc types that keep their rules
 pub record IsBasics (on : Basics) : Type 0 where

@@ -10,6 +10,7 @@ mod fault;
 mod fields;
 mod idoc_types;
 mod keys;
+mod listed;
 mod model;
 mod reading;
 mod releases;
