@@ -6,6 +6,8 @@ pub mod OnVolumesLemmas
 pub mod OverrunsLemmas
 -- the tables are in step with the logs: a record that is noted, a system that falls behind it
 pub mod BehindLemmas
+-- how the write of a record ends, by what the journal answered
+mod WritingLemmas
 -- what the tables answer, said by the logs and the claims
 pub mod AnswersLemmas
 -- the unit of an id stands at the place of its number

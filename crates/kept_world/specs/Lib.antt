@@ -8,3 +8,5 @@ pub mod Kept
 pub mod Appending
 -- what is answered by the logs and the claims
 pub mod Answers
+-- what private functions cite
+pub mod steps

@@ -15,6 +15,7 @@
 mod journals;
 mod moments;
 mod opening;
+mod volume;
 mod writing;
 
 pub use journals::SystemJournals;

@@ -1,17 +1,15 @@
 //! The opening of a system's journal, whatever a crash left on its volume.
 
-ghost use Rattle.std.specs.Prelude.{◌≡◌, ℕ, List, ◌+◌, ◌<◌, ◌^◌, length, IfOk, OnOk, OnErr, IsErrOf};
+ghost use Rattle.std.specs.Prelude.{◌≡◌, ◌<◌, IfOk, OnOk, OnErr, IsErrOf};
 ghost use Rattle.ale_volumes.specs.Clock.{LeavesOnly, KeepsOthers};
 ghost use Rattle.ale_volumes.specs.Faults.{CountsFault};
 ghost use Rattle.byte_journal.specs.Log.{ReadsAs};
 ghost use Rattle.byte_journal.specs.Settled.{IsLeftByOpening, LeavesOnlyFromSync};
-ghost use Rattle.system_journals.specs.OnDisk.{entries_of};
 
 use crate::SystemJournals;
+use crate::volume::{Opened, open_volume};
 use ale_base::{Items, OutOfMemory};
 use ale_volumes::Volumes;
-use std::alloc::Global;
-use unit_codec::Entry;
 use unit_core::Record;
 use unit_journal::{LogFault, UnitJournal};
 
@@ -49,14 +47,26 @@ impl SystemJournals {
         ensures faults { CountsFault (IsErrOf result LogFault.Volume) (V.faults vols.old) (V.faults vols.new) (count_of self.old) }
     {
         let place = self.journals.len();
-        let (journal, entries) = unit_journal::open(self.alloc, vols, place as u8)?;
-        let (moments, log) = parted(self.alloc, entries)?;
-        self.add(journal, moments)?;
+        let opened = open_volume(self.alloc, vols, place as u8)?;
+        Ok(self.add(opened)?)
+    }
+
+    /// One system more, of which what its volume gave is kept; its records are given. After an `Err` all is as before.
+    fn add(&mut self, opened: Opened) -> Result<Items<Record>, OutOfMemory>
+        ensures ok { IfOk result (λ log. (log ≡ opened.log) × (self.new ≡ with_system self.old opened.journal opened.moments)) }
+        ensures err { OnErr result (self.new ≡ self.old) }
+    {
+        let Opened {
+            journal,
+            moments,
+            log,
+        } = opened;
+        self.push(journal, moments)?;
         Ok(log)
     }
 
     /// One system more, of which this journal and these moments are kept. After an `Err` all is as before.
-    fn add(&mut self, journal: UnitJournal, moments: Items<Option<u64>>) -> Result<(), OutOfMemory>
+    fn push(&mut self, journal: UnitJournal, moments: Items<Option<u64>>) -> Result<(), OutOfMemory>
         ensures ok { OnOk result (self.new ≡ with_system self.old journal moments) }
         ensures err { OnErr result (self.new ≡ self.old) }
     {
@@ -69,21 +79,4 @@ impl SystemJournals {
             }
         }
     }
-}
-
-/// The moments of entries, and their records.
-fn parted(
-    alloc: Global,
-    entries: Items<Entry>,
-) -> Result<(Items<Option<u64>>, Items<Record>), OutOfMemory>
-    ensures { IfOk result (λ parted. (length parted.0 ≡ length parted.1) × (entries_of parted.0 parted.1 ≡ entries)) }
-{
-    let mut moments = Items::new(alloc);
-    let mut log = Items::new(alloc);
-    for entry in entries.into_vec() {
-        let Entry { moment, what } = entry;
-        moments.push(moment)?;
-        log.push(what)?;
-    }
-    Ok((moments, log))
 }

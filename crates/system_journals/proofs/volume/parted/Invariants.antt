@@ -1,6 +1,6 @@
 use Rattle.std.proofs.Common.{◌≡◌, length}
 use Rattle.system_journals.specs.OnDisk.{entries_of}
-use Rattle.system_journals.proofs.opening.parted.Given as goal
+use Rattle.system_journals.proofs.volume.parted.Given as goal
 
 -- the moments and the records so far are those of the entries so far
 abbrev pub invariant-loop-entry : goal.invariant-loop-entry

@@ -3,7 +3,7 @@ use Rattle.unit_core.specs.declared.records.Record.{Record}
 use Rattle.unit_codec.specs.declared.entry.Entry.{Entry}
 use Rattle.system_journals.specs.OnDisk.{entries_of}
 use Rattle.system_journals.proofs.PlaceLemmas.{entries_of-push}
-use Rattle.system_journals.proofs.opening.parted.Goals as goal
+use Rattle.system_journals.proofs.volume.parted.Goals as goal
 
 pub loop-entry-preserved : goal.loop-entry-preserved
 loop-entry-preserved c =

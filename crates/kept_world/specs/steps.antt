@@ -1,0 +1,2 @@
+-- What the write of a record on a volume gives, and how it ends.
+pub mod Writing
