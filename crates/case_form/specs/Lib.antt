@@ -4,3 +4,9 @@ pub mod Verdict
 pub mod Made
 -- the text that a run of all cases prints
 pub mod Report
+-- rules, and who tells which
+pub mod Rules
+-- words, numbers and texts
+pub mod Text
+-- the items of a file, and their blocks
+pub mod Items

@@ -1,0 +1,4 @@
+-- the parts of a text, and what they stand for
+pub mod TextLemmas
+-- the items of a file, line by line
+pub mod ItemLemmas
