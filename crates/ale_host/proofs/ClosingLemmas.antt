@@ -10,7 +10,7 @@ use Rattle.runs.specs.declared.run_end.RunEnd.{RunEnd}
 use Rattle.runs.specs.declared.run_end.RunEnd.TheVariants as end
 use Rattle.runs.specs.Turns.{Turn, text_of}
 use Rattle.runs.specs.Text.{shown}
-use Rattle.runs.specs.steps.Put.{IsPut, IsPart, IsCut, IsPutAt}
+use Rattle.runs.specs.Put.{IsPut, IsPart, IsCut, IsPutAt}
 use Rattle.runs.proofs.RunLemmas.{IsPut-then, text_of-push}
 use Rattle.ale_host.specs.EndsSo.{IsFront}
 use Rattle.ale_host.specs.Running.{EndsWith, IsSure}

@@ -3,7 +3,7 @@ use Rattle.std.specs.Prelude.{◌≡◌, ◌≢◌, ℕ, List, [], Option}
 use Rattle.dist_model.specs.declared.lists.Lists.{Lists}
 use Rattle.runs.specs.declared.run_end.RunEnd.{RunEnd}
 use Rattle.runs.specs.declared.run_end.RunEnd.TheVariants as end
-use Rattle.runs.specs.steps.Put.{IsPut, IsPart}
+use Rattle.runs.specs.Put.{IsPut, IsPart}
 use Rattle.ale_host.specs.Running.{EndsWith}
 
 -- the last line was not taken whole; where a text before it was not, none is put

@@ -5,7 +5,7 @@ ghost use Rattle.std.specs.Io.KnownBytes.{Appends};
 ghost use Rattle.ale_base.specs.Faults.{Rose};
 ghost use Rattle.ale_io.specs.Written.{AppendsFront};
 ghost use Rattle.idoc_file.specs.Reading.{Stands};
-ghost use Rattle.runs.specs.steps.Put.{IsPart, IsPut};
+ghost use Rattle.runs.specs.Put.{IsPart, IsPut};
 ghost use Rattle.ale_host.specs.declared.ending.Ending.{Ending};
 ghost use Rattle.ale_host.specs.Inputs.{EndsBehindDocuments, EndsBehindModel, EndsRun};
 ghost use Rattle.ale_host.specs.Ending.{Ends, EndsPass, EndsFile, IsPrintable, IsQuiet, status_of, text_of};

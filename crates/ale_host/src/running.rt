@@ -9,7 +9,7 @@ ghost use Rattle.report_text.specs.declared.faults.FaultLine.TheVariants as last
 ghost use Rattle.report_text.specs.FaultLine.{fault_line};
 ghost use Rattle.runs.specs.declared.run_end.RunEnd.TheVariants as run_end;
 ghost use Rattle.runs.specs.Turns.{first_down};
-ghost use Rattle.runs.specs.steps.Put.{IsPart, IsPut};
+ghost use Rattle.runs.specs.Put.{IsPart, IsPut};
 ghost use Rattle.ale_host.specs.Closing.{IsClosed};
 ghost use Rattle.ale_host.specs.EndsSo.{IsFront};
 ghost use Rattle.ale_host.specs.declared.running.Report.TheVariants as report_of;

@@ -1,6 +1,6 @@
 //! The trait of the desk that workers take works from.
 
-ghost use Rattle.std.specs.Prelude.{◌≡◌, ◌≤◌, ℕ, IfOk, IfSome, IfNone};
+ghost use Rattle.std.specs.Prelude.{◌≡◌, ◌≤◌, ℕ, IfOk, IfSome, IfNone, OnOk};
 
 use ale_base::{OutOfMemory, SystemNo, Tid};
 use std::alloc::Global;
@@ -28,6 +28,9 @@ pub trait Desk {
     // The desk has no work.
     ghost is_idle: { Self → Type 0 };
 
+    // The work was done between two states of the desk, where it was still to be done.
+    ghost has_done: { Self → Self.Work → Self → Type 0 };
+
     // How many works were finished.
     ghost finishes: { Self → ℕ };
 
@@ -51,6 +54,7 @@ pub trait Desk {
         requires origin { origin_of work ≡ origin self.old }
         requires ready { is_of ready work }
         ensures origin { origin self.new ≡ origin self.old }
+        ensures done { OnOk result (has_done self.old work self.new) }
         ensures finishes { finishes self.old ≤ finishes self.new };
 
     /// How many works were finished.

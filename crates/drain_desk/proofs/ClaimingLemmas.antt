@@ -32,7 +32,7 @@ use Rattle.landscape.specs.Standing.{StandAt}
 use Rattle.landscape.specs.Working.{IsPreparedFor}
 use Rattle.unit_works.specs.Events.{is_claim, is_run, is_work}
 use Rattle.unit_works.specs.Worked.{HaveOnlyClaimed, Worked}
-use Rattle.unit_works.specs.steps.Claiming.{IsExecuted, IsShipped}
+use Rattle.unit_works.specs.Claiming.{IsExecuted, IsShipped}
 use Rattle.unit_works.proofs.WentLemmas.{went-whole}
 use Rattle.unit_works.proofs.WorkedLemmas.{claim-works, execution-works, is_lawful, meaning, run-executes, still, wider}
 use Rattle.drain_desk.specs.declared.work.Task.TheVariants.{Execute, Ship}

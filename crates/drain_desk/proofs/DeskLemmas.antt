@@ -59,7 +59,7 @@ module _ {V : Type 0} (faults : V → ℕ → ℕ) (began now next : KeptOf Mode
   pub going-acted : (lines_next : Lines) (n m : ℕ) → AreGoingOn faults began now lines lines_now n → HasActed faults now next lines_now lines_next m
       → AreGoingOn faults began next lines lines_next (n + m)
   going-acted lines_next n m going acted =
-      going-on lines_next n m going acted.went acted.taken acted.count (acted.fewer _ going.runs) acted.acts acted.did acted.ships (acted.once going.runs)
+      going-on lines_next n m going acted.went acted.taken acted.count (acted.runs going.runs) acted.acts acted.did acted.ships (acted.once going.runs)
 
   -- memory was wanting
   pub going-short : (n : ℕ) → AreGoingOn faults began now lines lines_now n → Worked faults now next is_work false → Worked faults began next is_work false

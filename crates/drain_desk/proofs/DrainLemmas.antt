@@ -20,7 +20,7 @@ use Rattle.unit_works.specs.Drained.{is_round}
 use Rattle.unit_works.specs.Events.{is_work}
 use Rattle.unit_works.specs.Finished.{finished_in}
 use Rattle.unit_works.specs.Worked.{HaveOnlyClaimed, Lines, Worked}
-use Rattle.unit_works.specs.steps.Rounds.{RoundsAs}
+use Rattle.unit_works.specs.Rounds.{RoundsAs}
 use Rattle.unit_works.proofs.DrainedLemmas.{acted-on, none-left, only-same, taken-none, taken-on}
 use Rattle.unit_works.proofs.OnceLemmas.{once-on}
 use Rattle.unit_works.proofs.StateLemmas.{happens-step}
@@ -79,7 +79,7 @@ module _ {V : Type 0} (faults : V → ℕ → ℕ) (before after : KeptOf ModelR
               ∙ and_from (list_all is_round going.acts) (list_all is_round worked.acts) going.ships gone.ships;
           once = λ none tid.
               once-on faults going.acts worked.acts began before last lines lines_now lines_last behind gone.ships tid (going.once tid)
-              (gone.once revoked-none tid);
+              (gone.once (ap (list_all (λ (held : Held). not (is_kind held.kind Direct))) revoked-none) tid);
         },
         rounds.1,
       )

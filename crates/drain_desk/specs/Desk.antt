@@ -22,8 +22,8 @@ pub record SeenDesk (V : Type 0) : Type 0 where
   pub is_short : Bool
 
 module _ {V : Type 0} (faults : V → ℕ → ℕ) (began now : KeptOf ModelRules DocumentTables V) (lines lines_now : Lines) where
-  -- Units were shipped and executed since the workers began, and nothing else; so many runs and executions ended; each unit took one letter,
-  -- and more only where a system fell.
+  -- Units were shipped and executed since the workers began, and nothing else; so many runs and executions ended; each unit took one letter
+  -- at most, and more only where a system fell.
   pub record AreGoingOn (finished : ℕ) : Type 0 where
     pub went : Worked faults began now is_work true
     pub taken : HaveTaken lines lines_now

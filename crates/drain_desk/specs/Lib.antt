@@ -2,5 +2,7 @@
 pub mod Work
 -- what a desk keeps
 pub mod Desk
+-- a work is done
+pub mod Done
 -- what only private functions cite
 pub mod steps

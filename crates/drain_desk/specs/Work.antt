@@ -38,12 +38,12 @@ module _ (world : World ModelRules) where
   MayGo (Ship claim) = IsCommitted claim.tid (λ unit. is_stopped_outbound (log_of world claim.tid.system) unit ≡ false)
   MayGo (Execute claim) = IsCommitted claim.tid (λ unit. is_stopped_inbound (log_of world unit.receiver) unit ≡ false)
 
-  -- what becomes of the documents of the unit of a task is prepared from its unit and the model of its receiver
+  -- what is prepared of this, if it is there, is what becomes of the documents of the unit of an id
   abbrev pub IsBasis : TidOf → Option Basis → Type 0
   IsBasis tid basis = IfSome basis (λ (its : Basis). IsPreparedFor world tid (prepared (arc_value its.model) its.unit.receiver its.unit).postings)
 
--- With what the drain began is so of a work: its unit was committed, no queue of it is stopped in its direction, and what it is prepared from
--- is its unit and the model of its receiver.
+-- With what the drain began is so of a work: its unit was committed, no queue of it is stopped in its direction, and what is prepared of it,
+-- if anything, is what becomes of the documents of its unit.
 pub record IsWork {V : Type 0} (began : Began V) (task : Task) (basis : Option Basis) : Type 0 where
   pub may : MayGo began.landscape.value.world task
   pub base : IsBasis began.landscape.value.world (tid_of task) basis

@@ -1,9 +1,10 @@
 //! Works are done, one at a time.
 
-ghost use Rattle.std.specs.Prelude.{IfSome};
+ghost use Rattle.std.specs.Prelude.{IfSome, OnOk};
 ghost use Rattle.landscape.specs.Working.{IsPreparedFor};
 ghost use Rattle.unit_works.specs.Claims.{NoneRuns};
 ghost use Rattle.drain_desk.specs.declared.work.Task.TheVariants.{Execute, Ship};
+ghost use Rattle.drain_desk.specs.Done.{HasDone};
 ghost use Rattle.drain_desk.specs.Work.{MayGo, tid_of};
 ghost use Rattle.drain_desk.specs.steps.Acting.{ActedAs};
 
@@ -28,7 +29,8 @@ pub(crate) fn perform<V: Volumes>(
     requires may { MayGo landscape.old.world task }
     requires runs { NoneRuns landscape.old.world.claims }
     requires prepared { IfSome prepared (λ its. IsPreparedFor landscape.old.world (tid_of task) its.postings) }
-    ensures { ActedAs V.faults landscape.old landscape.new wires.old wires.new result }
+    ensures acted { ActedAs V.faults landscape.old landscape.new wires.old wires.new result }
+    ensures done { OnOk result (HasDone V.faults landscape.old landscape.new wires.old wires.new task) }
 {
     match task {
         Task::Ship(claim) => ship(alloc, landscape, wires, claim, prepared),
@@ -46,7 +48,8 @@ fn ship<V: Volumes>(
 ) -> Result<u64, OutOfMemory>
     requires may { MayGo landscape.old.world (Ship claim) }
     requires prepared { IfSome prepared (λ its. IsPreparedFor landscape.old.world claim.tid its.postings) }
-    ensures { ActedAs V.faults landscape.old landscape.new wires.old wires.new result }
+    ensures acted { ActedAs V.faults landscape.old landscape.new wires.old wires.new result }
+    ensures done { OnOk result (HasDone V.faults landscape.old landscape.new wires.old wires.new (Ship claim)) }
 {
     match ship_claimed(alloc, landscape, wires, claim, prepared)? {
         Some(finished) => Ok(finished),
@@ -65,7 +68,8 @@ fn execute<V: Volumes>(
     requires may { MayGo landscape.old.world (Execute claim) }
     requires runs { NoneRuns landscape.old.world.claims }
     requires prepared { IfSome prepared (λ its. IsPreparedFor landscape.old.world claim.tid its.postings) }
-    ensures { ActedAs V.faults landscape.old landscape.new wires.old wires.new result }
+    ensures acted { ActedAs V.faults landscape.old landscape.new wires.old wires.new result }
+    ensures done { OnOk result (HasDone V.faults landscape.old landscape.new wires.old wires.new (Execute claim)) }
 {
     let _ = wires;
     let _ = landscape.world();

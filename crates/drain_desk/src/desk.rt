@@ -97,6 +97,7 @@ impl<V: Volumes> Desk for DrainDesk<V> {
     ghost use Rattle.std.specs.Prelude.{◌≡◌, IfSome};
     ghost use Rattle.landscape.specs.Working.{IsPreparedFor};
     ghost use Rattle.unit_works.specs.Drained.{IsIdle};
+    ghost use Rattle.drain_desk.specs.Done.{HasDone};
     ghost use Rattle.drain_desk.specs.Work.{tid_of};
 
     type Work = Work<V>;
@@ -113,6 +114,8 @@ impl<V: Volumes> Desk for DrainDesk<V> {
         (λ its. IsPreparedFor work.origin.landscape.value.world (tid_of work.task) its.postings) };
 
     ghost is_idle = { λ desk. IsIdle desk.landscape.world };
+
+    ghost has_done = { λ desk work after. HasDone V.faults desk.landscape after.landscape desk.lines after.lines work.task };
 
     ghost finishes = { λ desk. desk.finished };
 

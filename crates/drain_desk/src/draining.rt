@@ -2,7 +2,7 @@
 
 ghost use Rattle.std.specs.Prelude.{◌≡◌, ◌≤◌, []};
 ghost use Rattle.unit_works.specs.Drained.{DrainedAs};
-ghost use Rattle.unit_works.specs.steps.Rounds.{RoundsAs};
+ghost use Rattle.unit_works.specs.Rounds.{RoundsAs};
 ghost use Rattle.drain_desk.specs.steps.Closing.{ClosedAs, IsAdded};
 
 use crate::desk::Parts;

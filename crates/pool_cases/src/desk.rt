@@ -93,6 +93,8 @@ impl Desk for FakeDesk {
 
     ghost is_idle = { λ desk. desk.works ≤ desk.taken };
 
+    ghost has_done = { λ desk work after. desk.finished ≤ after.finished };
+
     ghost finishes = { λ desk. desk.finished };
 
     fn take(&mut self) -> Result<Option<FakeWork>, OutOfMemory> {

@@ -24,7 +24,8 @@ use Rattle.runs.specs.Run.{AreAsked, Ends, Follow, Run}
 use Rattle.runs.specs.Turns.{Turn, at_moment, commands_of, moments_of, text_of, last_stage, first_down, first_faulted, length_at}
 use Rattle.runs.specs.Text.{shown}
 use Rattle.runs.specs.steps.Keeping.{KeepsFree}
-use Rattle.runs.specs.steps.Put.{IsPut, IsPart, IsCut, IsPutAt, IsReported, IsTurn, GivesOne, down_end_of, end_behind}
+use Rattle.runs.specs.Put.{IsPut, IsPart, IsCut, IsPutAt}
+use Rattle.runs.specs.steps.Put.{IsReported, IsTurn, GivesOne, down_end_of, end_behind}
 use Rattle.unit_landscape.specs.Kept.{IsLandscape}
 use Rattle.unit_works.proofs.WorkedLemmas.{meaning}
 use Rattle.runs.proofs.CompleteLemmas.{hold-first, keeps-free, offer-first, through-last}

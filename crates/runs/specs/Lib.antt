@@ -6,6 +6,8 @@ pub mod Text
 pub mod Turns
 -- a run in which nothing holds units up
 pub mod Complete
+-- what a run put into its sink
+pub mod Put
 -- a run of a script, and why it ends
 pub mod Run
 -- what only private functions cite

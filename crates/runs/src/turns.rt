@@ -4,7 +4,8 @@ ghost use Rattle.std.specs.Prelude.{◌≡◌, ◌≤◌, ℕ, List, None, IfOk}
 ghost use Rattle.runs.specs.Run.{AreAsked, Run};
 ghost use Rattle.runs.specs.Turns.{Turn, at_moment, first_down, first_faulted, length_at};
 ghost use Rattle.runs.specs.Text.{IsPrintable, shown};
-ghost use Rattle.runs.specs.steps.Put.{GivesOne, IsPutAt, IsReported, IsTurn, down_end_of, end_behind};
+ghost use Rattle.runs.specs.Put.{IsPutAt};
+ghost use Rattle.runs.specs.steps.Put.{GivesOne, IsReported, IsTurn, down_end_of, end_behind};
 
 use crate::lengths::{first_down, first_faulted};
 use crate::performing::{Performed, perform};

@@ -151,6 +151,7 @@ module _ {R A V : Type 0} (meaning : R → Meaning) (lawful : (r : R) → IsLawf
       rose = counts.rose refl;
       others = counts.others;
       overruns = overruns;
+      untold = ap (λ all. overrun_in all system) overruns ∙ kept.overruns.up system up;
     }
     ends-as (Err (Full size)) kept did journals unchanged overruns full counts =
         let journal = journal_there system up kept in

@@ -30,7 +30,8 @@ module _ {R A V : Type 0} (rules : Meaning) (faults : V → ℕ → ℕ) (before
     pub no_faults : NoFaults
     pub overruns : after.overruns ≡ before.overruns
 
-  -- a volume failed as it was to take a record that fits: the count of its faults rose, and its system fell, and may find the record
+  -- a volume failed as it was to take a record that fits: the count of its faults rose, and its system fell, and may find the record; no
+  -- length is kept of it
   pub record Failed (it : Writing) : Type 0 where
     pub world : after.world ≡ happens rules before.world (Fall it.system (Some it.next))
     pub journals : after.journals ≡ before.journals
@@ -38,6 +39,7 @@ module _ {R A V : Type 0} (rules : Meaning) (faults : V → ℕ → ℕ) (before
     pub rose : Rose (faults before.vols (it.system - 1)) (faults after.vols (it.system - 1))
     pub others : (place : ℕ) → place ≢ it.system - 1 → faults after.vols place ≡ faults before.vols place
     pub overruns : after.overruns ≡ before.overruns
+    pub untold : overrun_in after.overruns it.system ≡ None
 
   -- a record does not fit, and its system fell, with how long its volume would have been; no volume was called
   pub record Overflowed (it : Writing) : Type 0 where

@@ -1,14 +1,14 @@
 -- Claims that stand, and one that is made last.
 use Rattle.std.specs.Prelude.{Contains, filter}
 use Rattle.std.specs.List.{list_all}
-use Rattle.std.proofs.Common.{◌≡◌, ◌==◌, ◌&&◌, ℕ, not, Bool, true, false, Option, Some, None, List, [], ◌∷◌, ◌++◌, inl, inr, refl, sym, ap, ◌∙◌, arith}
+use Rattle.std.proofs.Common.{◌≡◌, ◌==◌, ◌&&◌, ℕ, not, Bool, true, false, Option, Some, None, List, [], ◌∷◌, ◌++◌, inl, inr, refl, sym, ap, subst, ◌∙◌, arith}
 use Rattle.std.proofs.lemmas.Bool.{and_parts, and_from, eqb-true, cond-true, cond-false, cases_Bool, eq-eqb, not-true}
 use Rattle.ale_base.specs.Tid.{TidOf, is_tid}
 use Rattle.ale_base.proofs.MemberLemmas.{Contains-here, Contains-there}
 use Rattle.ale_base.proofs.OptionLemmas.{none_or_some}
 use Rattle.unit_core.proofs.TidLemmas.{is_tid-true, is_tid-from}
 use Rattle.trfc_protocol.specs.declared.held.Held.{Held}
-use Rattle.trfc_protocol.specs.declared.held.HeldKind.TheVariants.{In, Out}
+use Rattle.trfc_protocol.specs.declared.held.HeldKind.TheVariants.{Direct, In, Out}
 use Rattle.trfc_protocol.specs.declared.world.World.{World}
 use Rattle.unit_core.specs.Filters.{received}
 use Rattle.unit_core.specs.Queues.{unit_named}
@@ -16,14 +16,14 @@ use Rattle.trfc_protocol.specs.Legal.{IsLawful, is_free_inbound, is_free_outboun
 use Rattle.trfc_protocol.specs.Offered.{is_stopped_inbound, is_stopped_outbound, may_move}
 use Rattle.trfc_protocol.specs.Meaning.{Meaning}
 use Rattle.trfc_protocol.specs.Safe.{Safe, is_due}
-use Rattle.trfc_protocol.specs.Worlds.{claim_of, committed_by, committed_unit, is_kind, is_up, log_of}
+use Rattle.trfc_protocol.specs.Worlds.{claim_of, committed_by, committed_unit, is_kind, is_up, log_of, without_claim}
 use Rattle.trfc_protocol.proofs.ClaimLemmas.{claim_of-Some, is_kind-true}
 use Rattle.trfc_protocol.proofs.SafeLemmas.{hold}
 use Rattle.unit_landscape.specs.declared.claims.OutClaim.{OutClaim}
 use Rattle.unit_landscape.specs.declared.claims.InClaim.{InClaim}
 use Rattle.unit_landscape.specs.Appending.{HoldsOut, HoldsIn}
 use Rattle.unit_landscape.specs.Calls.{is_on, is_out, stands_out, stands_in}
-use Rattle.unit_works.specs.Claims.{AreOrGone, NoneAdded}
+use Rattle.unit_works.specs.Claims.{AreOrGone, NoneRuns}
 use Rattle.unit_works.specs.Trips.{may_execute, may_ship}
 
 -- a claim to ship a unit that stands is there
@@ -109,37 +109,34 @@ stands-gone world claim gone = ap (λ claims. is_on claim.tid (claim_of claim.nu
 pub stands-gone_in : {R : Type 0} (world : World R) (claim : InClaim) → world.claims ≡ [] → stands_in world claim ≡ false
 stands-gone_in world claim gone = ap (λ claims. is_on claim.tid (claim_of claim.number claims) && not (is_out (claim_of claim.number claims))) gone
 
--- ---- no claim is added
+-- ---- claims that are left
 
--- where claims are those before, or are gone
-pub none-added-same : (before after : List Held) → after ≡ before → NoneAdded before after
-none-added-same before after same is each = ap (list_all is) same ∙ each
-
-pub none-added-gone : (before after : List Held) → after ≡ [] → NoneAdded before after
-none-added-gone before after gone is each = ap (list_all is) gone
-
-pub none-added : {R : Type 0} (before after : World R) → AreOrGone before after before.claims → NoneAdded before.claims after.claims
-none-added before after left is each = elim left [
-  | inl same ↦ none-added-same before.claims after.claims same is each
-  | inr gone ↦ none-added-gone before.claims after.claims gone.0 is each
+-- where the claim of a number goes, or all, no run is claimed that was not
+pub runs-without : {R : Type 0} (before after : World R) (number : ℕ) → AreOrGone before after (without_claim before number).claims
+    → NoneRuns before.claims → NoneRuns after.claims
+runs-without before after number left none = elim left [
+  | inl are ↦ ap (list_all not_run) are ∙ left_of before.claims none
+  | inr gone ↦ ap (list_all not_run) gone.0
 ]
-
--- where some of those before are left
-pub none-added-left : (keep : Held → Bool) (before after : List Held) → after ≡ filter keep before → NoneAdded before after
-none-added-left keep before after left is each = ap (list_all is) left ∙ left_of before each
   where
-    left_of : (claims : List Held) → list_all is claims ≡ true → list_all is (filter keep claims) ≡ true
+    not_run : Held → Bool
+    not_run held = not (is_kind held.kind Direct)
+
+    left_of : (claims : List Held) → list_all not_run claims ≡ true → list_all not_run (filter (λ (h : Held). not (h.number == number)) claims) ≡ true
     left_of [] all = refl
     left_of (h ∷ hs) all =
-        let parts = and_parts (is h) (list_all is hs) all in
-        elim (cases_Bool (keep h)) [
-          | inl kept ↦ rw kept (and_from (is h) (list_all is (filter keep hs)) parts.0 (left_of hs parts.1))
+        let parts = and_parts (not_run h) (list_all not_run hs) all in
+        elim (cases_Bool (not (h.number == number))) [
+          | inl kept ↦
+              rw kept (and_from (not_run h) (list_all not_run (filter (λ (g : Held). not (g.number == number)) hs)) parts.0 (left_of hs parts.1))
           | inr gone ↦ rw gone (left_of hs parts.1)
         ]
 
--- and on and on
-pub none-added-on : (before between after : List Held) → NoneAdded before between → NoneAdded between after → NoneAdded before after
-none-added-on before between after first second is each = second is (first is each)
+-- where the last claim goes, or all, the others are left
+pub left-last : {R : Type 0} (before after : World R) (others : List Held) (held : Held) (number : ℕ) → held.number ≡ number → claim_of number others ≡ None
+    → before.claims ≡ others ++ held ∷ [] → AreOrGone before after (without_claim before number).claims → AreOrGone before after others
+left-last before after others held number its fresh are left =
+    subst (AreOrGone before after) (ap (filter (λ (h : Held). not (h.number == number))) are ∙ without-last number others held its fresh) left
 
 -- ---- the unit of a claim that stands may go, unless one of its queues is stopped
 

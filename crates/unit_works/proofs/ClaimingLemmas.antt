@@ -26,8 +26,8 @@ use Rattle.unit_landscape.proofs.OfferedLemmas.{claim-after, run-after}
 use Rattle.unit_works.specs.Events.{is_claim, is_run}
 use Rattle.unit_works.specs.Finished.{finished_in}
 use Rattle.unit_works.specs.Went.{WentOn}
-use Rattle.unit_works.specs.steps.Claims.{out_held}
-use Rattle.unit_works.specs.steps.Claiming.{IsShipped, IsExecuted}
+use Rattle.unit_works.specs.Claiming.{out_held}
+use Rattle.unit_works.specs.Claiming.{IsShipped, IsExecuted}
 use Rattle.unit_works.proofs.ClaimLemmas.{next-fresh, found-last, stands-found_out}
 use Rattle.unit_works.proofs.LogLemmas.{grown-same}
 use Rattle.unit_works.proofs.WentLemmas.{went-same, went-happened}

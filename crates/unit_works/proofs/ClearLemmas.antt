@@ -272,14 +272,15 @@ module _ {V : Type 0} (faults : V → ℕ → ℕ) where
         (none : NoneLeft lines) (stay : (system : ℕ) → is_up now.world system ≡ true → is_up after.world system ≡ true) where
       acted-clear : (act : Act) → Acted faults now lines act after lines_after → Went now after lines_after act
       acted-clear (ship tid letter whole) did =
-          let unit : AleUnit = did.unit in
+          let was = did.was in
+          let unit : AleUnit = was.unit in
           let given = answer_to (meaning now.world.rules) now.world unit in
-          let comes : letter ≡ Whole = did.next ∙ ap next_letter (none tid) in
-          let grew = acted-whole now after (shipment letter given unit) whole did.grew stay in
+          let comes : letter ≡ Whole = was.next ∙ ap next_letter (none tid) in
+          let grew = acted-whole now after (shipment letter given unit) whole was.grew stay in
           record {
             clear = clear-grown now.world after.world (shipment letter given unit) grew.grew
-                (subst (λ l. EachIs HoldsNothing (shipment l given unit)) (sym comes) (arrives-well now.world leads tid unit did.committed)) clear;
-            none = left-none tid lines lines_after none did.taken;
+                (subst (λ l. EachIs HoldsNothing (shipment l given unit)) (sym comes) (arrives-well now.world leads tid unit was.committed)) clear;
+            none = left-none tid lines lines_after none was.taken;
             lost = λ other. ap (λ l. loses other (ship tid l whole)) comes;
           }
       acted-clear (execute system tid whole) did =

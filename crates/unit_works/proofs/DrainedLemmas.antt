@@ -33,22 +33,24 @@ use Rattle.document_tables.specs.declared.document_tables.DocumentTables.{Docume
 use Rattle.model_rules.specs.declared.model_rules.ModelRules.{ModelRules}
 use Rattle.wires.specs.declared.letter.Letter.{Letter}
 use Rattle.wires.specs.Wires.{letters_left, next_letter, rest_letters}
-use Rattle.unit_works.specs.Acts.{Act, HaveActed, confirm, each_but_last_cut, execute, loses, ship, takes}
+use Rattle.unit_works.specs.Acts.{Act, HaveActed, confirm, each_but_last_cut, execute, is_cut, loses, ship, takes}
 use Rattle.unit_works.specs.Drained.{AreLost, AreOnce, DrainedAs, Found, FoundAs, GoThrough, HasGone, HasWorked, IsIdle, is_round}
-use Rattle.unit_works.specs.Claims.{AreOrGone, AreOrNone}
+use Rattle.unit_works.specs.Claims.{AreOrGone, AreOrNone, NoneRuns}
 use Rattle.unit_works.specs.Finished.{finished_in}
 use Rattle.unit_works.specs.Events.{is_confirmation, is_execution, is_shipping, is_work}
 use Rattle.unit_works.specs.Trips.{Appended, confirmation, forgot, is_due}
-use Rattle.unit_works.specs.steps.Confirming.{IsDueOf}
+use Rattle.unit_works.specs.Trips.{IsDueOf}
 use Rattle.unit_works.specs.Worked.{HasTaken, HaveEnded, HaveOnlyClaimed, HaveTaken, Lines, NothingIn, NothingOut, Worked}
 use Rattle.unit_works.specs.Works.{ExecutedAs, ShippedAs}
-use Rattle.unit_works.specs.steps.Rounds.{HasVisited, IsTo, NothingAt, NothingTo, RoundsAs, VisitedSo, joined}
+use Rattle.unit_works.specs.Rounds.{HasVisited, IsTo, RoundsAs, VisitedSo}
+use Rattle.unit_works.specs.steps.Rounds.{NothingAt, NothingTo, joined}
 use Rattle.unit_works.proofs.ClearLemmas.{acts-clear}
 use Rattle.unit_works.proofs.IdleLemmas.{idle-through}
 use Rattle.unit_works.proofs.LossLemmas.{all-up, due-or-on, lost-or-due, only-committed, only-due}
-use Rattle.unit_works.proofs.OnceLemmas.{all-done, cut-each, none-taken, once-on, once-shipped}
+use Rattle.unit_works.proofs.OnceLemmas.{all-done, none-taken, once-on, once-shipped}
 use Rattle.unit_works.proofs.TripLemmas.{due-parts}
 use Rattle.unit_works.proofs.WorkedLemmas.{confirmation-works, ended-same, execution-works, is_lawful, meaning, on, shipping-works, still, wider}
+use Rattle.unit_works.proofs.WorkedLemmas.{gone-on as claims-on}
 use Rattle.unit_works.proofs.WentLemmas.{up-known}
 
 -- where there were no claims there are none
@@ -57,6 +59,17 @@ none-left claims these left none = elim left [
   | inl same ↦ same ∙ none
   | inr gone ↦ gone
 ]
+
+-- where no run was claimed none is
+runs-left : (claims these : List Held) → AreOrNone claims these → NoneRuns these → NoneRuns claims
+runs-left claims these left none = elim left [
+  | inl same ↦ ap (list_all (λ (held : Held). not (is_kind held.kind Direct))) same ∙ none
+  | inr gone ↦ ap (list_all (λ (held : Held). not (is_kind held.kind Direct))) gone
+]
+
+-- an act confirms a unit
+abbrev is_confirmed : Act → Bool
+is_confirmed act = not (is_round act)
 
 -- claims that are gone where a system fell are gone
 none-gone : (before after : World ModelRules) → AreOrGone before after before.claims → AreOrNone after.claims before.claims
@@ -313,7 +326,7 @@ module _ {V : Type 0} (faults : V → ℕ → ℕ) where
         ships = list_all-append is_round one.acts two.acts ∙ and_from (list_all is_round one.acts) (list_all is_round two.acts) first.ships second.ships;
         once = λ none tid.
             once-on faults one.acts two.acts before between after lines lines_between lines_after two.did second.ships tid (first.once none tid)
-            (second.once (none-left between.world.claims before.world.claims one.claims none) tid);
+            (second.once (runs-left between.world.claims before.world.claims one.claims none) tid);
       }
 
   -- ---- what was found
@@ -325,19 +338,19 @@ module _ {V : Type 0} (faults : V → ℕ → ℕ) where
     shipped-found system (Some n) did =
         let letter = next_letter (letters_left lines did.0) in
         let shipped = did.3 in
+        let was = shipped.was in
         let ended = did.4 in (
           record {
             worked = record {
-              went = wider faults (is_shipping letter) is_work true before after (shipping-works letter) shipped.went;
-              taken = taken-one did.0 lines lines_after shipped.taken;
+              went = wider faults (is_shipping letter) is_work true before after (shipping-works letter) was.went;
+              taken = taken-one did.0 lines lines_after was.taken;
               finished = ended.finished;
               claims = none-gone before.world after.world ended.claims;
               acts = ship did.0 letter did.2 ∷ [];
               did = (before, after, lines_after, only-same before before refl, did.3, (only-same after after refl, refl));
             };
             ships = refl;
-            once = λ none tid. once-shipped faults before after lines lines_after did.0 letter did.2 did.3
-                (ap (list_all (λ (held : Held). not (is_kind held.kind Direct))) none) tid;
+            once = λ none tid. once-shipped faults before after lines lines_after did.0 letter did.2 did.3 none tid;
           },
           did.5,
         )
@@ -376,6 +389,7 @@ module _ {V : Type 0} (faults : V → ℕ → ℕ) where
     unfolding worked-same
     visited-none These same same_lines not_due = record {
       worked = worked-same before after lines lines_after same same_lines;
+      confirms = refl;
       visited = λ unit these named due sender receiver. absurd (not_due unit these named due);
       few = λ tid. inl refl;
     }
@@ -388,6 +402,7 @@ module _ {V : Type 0} (faults : V → ℕ → ℕ) where
         → HasVisited faults before lines after lines_after These → HasVisited faults before lines after lines_after Those
     visited-among These Those among back did = record {
       worked = did.worked;
+      confirms = did.confirms;
       visited = λ unit those named due sender receiver. did.visited unit (among unit those named due) named due sender receiver;
       few = λ tid. elim (did.few tid) [
         | inl none ↦ inl none
@@ -440,6 +455,7 @@ module _ {V : Type 0} (faults : V → ℕ → ℕ) where
           acts = act ∷ [];
           did = acted;
         };
+        confirms = refl;
         visited = λ unit its named due sender receiver. ap (λ b. b || false) (is_tid-from tid unit.tid (sym its));
         few = λ other. elim (cases_Bool (is_tid tid other)) [
           | inl same ↦
@@ -488,6 +504,8 @@ module _ {V : Type 0} (faults : V → ℕ → ℕ) where
       let two = second.worked in
       record {
         worked = worked-on before between after lines lines_between lines_after 0 0 one two;
+        confirms = list_all-append is_confirmed one.acts two.acts
+            ∙ and_from (list_all is_confirmed one.acts) (list_all is_confirmed two.acts) first.confirms second.confirms;
         visited = λ unit all named due sender receiver.
             let sender_then = all-up faults two.acts between after lines_between lines_after two.did unit.tid.system sender in
             let receiver_then = all-up faults two.acts between after lines_between lines_after two.did unit.receiver receiver in
@@ -525,6 +543,16 @@ module _ {V : Type 0} (faults : V → ℕ → ℕ) where
             ];
       }
 
+  -- claims that stay or go as units are visited, and then as others are
+  pub visited-claims : (before between after : KeptOf ModelRules DocumentTables V) (lines lines_between lines_after : Lines) (These Those : TidOf → Type 0)
+      → HasVisited faults before lines between lines_between These → HasVisited faults between lines_between after lines_after Those
+      → AreOrGone before.world between.world before.world.claims → AreOrGone between.world after.world between.world.claims
+      → AreOrGone before.world after.world before.world.claims
+  visited-claims before between after lines lines_between lines_after These Those first second at_first at_last =
+      let one = first.worked in
+      let two = second.worked in
+      claims-on faults is_work is_work true before between after one.went two.went before.world.claims at_first at_last
+
   -- claims were given up, and then units were visited
   visited-first : (before start after : KeptOf ModelRules DocumentTables V) (lines lines_after : Lines) (These : TidOf → Type 0)
       → Worked faults before start is_work true → HaveOnlyClaimed before start → start.world.claims ≡ []
@@ -540,6 +568,7 @@ module _ {V : Type 0} (faults : V → ℕ → ℕ) where
           acts = worked.acts;
           did = only-first worked.acts before start after lines lines_after only worked.did;
         };
+        confirms = did.confirms;
         visited = λ unit these named due sender receiver.
             did.visited unit these (only-committed before start only unit.tid ∙ named) (only-due before start only unit ∙ due) sender receiver;
         few = did.few;
@@ -580,16 +609,19 @@ module _ {V : Type 0} (faults : V → ℕ → ℕ) where
         let both_taken = filter-append (takes tid) one.acts two.acts in
         elim (first.few tid) [
           | inl none_first ↦
-              ap each_but_last_cut (both_taken ∙ ap (λ l. l ++ filter (takes tid) two.acts) none_first)
-              ∙ elim (gone.once bare tid) [
-                | inl cut ↦ cut-each (filter (takes tid) two.acts) cut
-                | inr once ↦ once.0
+              let left : filter (takes tid) (one.acts ++ two.acts) ≡ filter (takes tid) two.acts =
+              both_taken ∙ ap (λ l. l ++ filter (takes tid) two.acts) none_first in
+              elim (gone.once (ap (list_all (λ (held : Held). not (is_kind held.kind Direct))) bare) tid) [
+                | inl cut ↦ inl (ap (list_all is_cut) left ∙ cut)
+                | inr once ↦ inr (ap each_but_last_cut left ∙ once.0, once.1)
               ]
           | inr one_act ↦
-              ap each_but_last_cut (both_taken
+              let left : filter (takes tid) (one.acts ++ two.acts) ≡ one_act.0 ∷ [] =
+              both_taken
               ∙ ap (λ l. filter (takes tid) one.acts ++ l)
               (none-taken faults two.acts between after lines_between lines_after two.did gone.ships tid (inl one_act.4))
-              ∙ append-nil (filter (takes tid) one.acts) ∙ one_act.1)
+              ∙ append-nil (filter (takes tid) one.acts) ∙ one_act.1 in
+              inr (ap each_but_last_cut left, inl (all-done faults two.acts between after lines_between lines_after two.did tid one_act.4))
         ]
 
   -- where nothing held units up before acts until none is offered, each went its whole way

@@ -1,6 +1,6 @@
 -- The work of a claim ends: one more run or execution has ended, and its claim is gone.
 use Rattle.std.specs.Prelude.{Result, Ok, Err, IfOk, filter}
-use Rattle.std.proofs.Common.{◌≡◌, ◌==◌, ◌+◌, ℕ, not, Bool, true, false, cond, Option, Some, List, [], ◌∷◌, inl, inr, refl, sym, ap, subst, ◌∙◌, arith}
+use Rattle.std.proofs.Common.{◌≡◌, ◌==◌, ◌+◌, ℕ, not, Bool, true, false, cond, Option, Some, [], ◌∷◌, inl, inr, refl, sym, ap, subst, ◌∙◌, arith}
 use Rattle.std.specs.Option.{option_and_then}
 use Rattle.std.proofs.lemmas.Bool.{both_ways, cases_Bool, cond_both, not-true}
 use Rattle.ale_base.specs.declared.way.Way.TheVariants.{Incoming}
@@ -21,7 +21,7 @@ use Rattle.trfc_protocol.specs.Meaning.{Meaning}
 use Rattle.trfc_protocol.specs.Offered.{offers_received_now}
 use Rattle.trfc_protocol.specs.RecordOf.{Writing, record_of, record_of_claim, record_of_failure, record_of_work}
 use Rattle.trfc_protocol.specs.Safe.{is_due}
-use Rattle.trfc_protocol.specs.Worlds.{claim_of, committed_unit, is_kind, is_up, log_of}
+use Rattle.trfc_protocol.specs.Worlds.{committed_unit, is_kind, is_up, log_of, without_claim}
 use Rattle.trfc_protocol.proofs.ClaimLemmas.{claim_of-Some}
 use Rattle.trfc_protocol.proofs.ForCallers.{claimed_unit}
 use Rattle.trfc_protocol.proofs.LegalLemmas.{is_free-parts}
@@ -43,12 +43,11 @@ use Rattle.unit_landscape.proofs.FinishingLemmas.{direct-appends, execute-append
 use Rattle.unit_works.specs.Events.{is_end}
 use Rattle.unit_works.specs.Finished.{finished_in, is_ending}
 use Rattle.unit_works.specs.Went.{WentOn}
-use Rattle.unit_works.specs.Claims.{AreOrGone, NoneAdded}
-use Rattle.unit_works.specs.steps.Claims.{AreWith}
-use Rattle.unit_works.specs.steps.Ending.{FinishedSo, IsDownFor, IsRun, ended_by, ended_of, run_at, worked_by}
-use Rattle.unit_works.specs.Trips.{Wholly, execution, one_at}
-use Rattle.unit_works.proofs.ClaimLemmas.{found-last, held-in, none-added-gone, none-added-left, none-added-same, stands-found_in, without-last}
-use Rattle.unit_works.proofs.FellLemmas.{claims-fell, fell-was_cut, finished-fell, gone-fell}
+use Rattle.unit_works.specs.Claims.{AreOrGone}
+use Rattle.unit_works.specs.steps.Ending.{FinishedSo, IsDownFor, IsRun, ended_by, ended_of}
+use Rattle.unit_works.specs.Trips.{Wholly, execution, one_at, run_at, worked_by}
+use Rattle.unit_works.proofs.ClaimLemmas.{held-in}
+use Rattle.unit_works.proofs.FellLemmas.{fell-was_cut, finished-fell, gone-fell}
 use Rattle.unit_works.proofs.GrowthLemmas.{happened-wholly}
 use Rattle.unit_works.proofs.LogLemmas.{if-met, listed}
 use Rattle.unit_works.proofs.StateLemmas.{is_step}
@@ -101,13 +100,6 @@ module _ {R A V : Type 0} (meaning : R → Meaning) (lawful : (r : R) → IsLawf
       both_ways (is_up before.world (unit.0).receiver)
       (down unit.0 (subst (λ t. committed_unit (meaning before.world.rules) before.world t ≡ Some unit.0) holds.its unit.1))
       (receiver-up there.0 holds (there.0).kind refl unit.0 unit.1)
-
-  -- a claim that is among those of the world stands
-  pub with-stands : (others : List Held) → AreWith before.world.claims others claim → stands_in before.world claim ≡ true
-  with-stands others with =
-      let its = with.its in
-      stands-found_in before.world claim with.held
-      (ap (claim_of claim.number) with.are ∙ found-last claim.number others with.held its.number with.fresh) its.tid its.kind
 
   module _ (faults : V → ℕ → ℕ) (after : KeptOf R A V) where
     abbrev Ends : Result Finished WorkEnd → Type 0
@@ -211,13 +203,6 @@ module _ {R A V : Type 0} (meaning : R → Meaning) (lawful : (r : R) → IsLawf
         ap finished_in ended.world ∙ finished-record before.world ended.system ended.next (Some claim.number) ended.up
         ∙ ap (λ b. finished_in before.world + cond b 1 0) ended.ending
 
-    others-left : (others : List Held) → AreWith before.world.claims others claim → HasEnded before.world after.world claim.number
-        → AreOrGone before.world after.world others
-    others-left others with ended =
-        inl (ap (λ (w : World R). w.claims) ended.world ∙ claims-record before.world ended.system ended.next (Some claim.number)
-        ∙ ap (filter (λ (h : Held). not (h.number == claim.number))) with.are
-        ∙ without-last claim.number others with.held (with.its).number with.fresh)
-
     same-count : after ≡ before → finished_in after.world ≡ finished_in before.world + 0
     same-count same = let count = ap (λ (k : KeptOf R A V). finished_in k.world) same in omega (arith, count)
 
@@ -232,31 +217,21 @@ module _ {R A V : Type 0} (meaning : R → Meaning) (lawful : (r : R) → IsLawf
     finished-finished (Err end.Stale) did = same-count did.1
     finished-finished (Err end.OutOfMemory) did = tt
 
-    -- and its claim is gone
-    pub claims-finished : (result : Result Finished WorkEnd) → Ends result → (others : List Held) → AreWith before.world.claims others claim
-        → IfOk (ended_of result) (λ given. AreOrGone before.world after.world others)
-    claims-finished (Ok (finished.Executed receipt)) did others with = others-left others with (executed-is did.0 did.1 did.2)
-    claims-finished (Ok finished.Failed) did others with = others-left others with (failed-is did.0 did.1 did.2)
-    claims-finished (Ok finished.Down) did others with =
-        gone-fell meaning lawful faults before after is (finish_event (meaning before.world.rules) before.world claim) did.1 others
-    claims-finished (Err end.Stale) did others with = absurd (both_ways (stands_in before.world claim) did.0 (with-stands others with))
-    claims-finished (Err end.OutOfMemory) did others with = tt
-
     claims-ended : HasEnded before.world after.world claim.number
         → after.world.claims ≡ filter (λ (h : Held). not (h.number == claim.number)) before.world.claims
     claims-ended ended = ap (λ (w : World R). w.claims) ended.world ∙ claims-record before.world ended.system ended.next (Some claim.number)
 
-    pub fewer-finished : (result : Result Finished WorkEnd) → Ends result → IfOk (ended_of result) (λ given. NoneAdded before.world.claims after.world.claims)
-    fewer-finished (Ok (finished.Executed receipt)) did =
-        none-added-left (λ (h : Held). not (h.number == claim.number)) before.world.claims after.world.claims (claims-ended (executed-is did.0 did.1 did.2))
-    fewer-finished (Ok finished.Failed) did =
-        none-added-left (λ (h : Held). not (h.number == claim.number)) before.world.claims after.world.claims (claims-ended (failed-is did.0 did.1 did.2))
-    fewer-finished (Ok finished.Down) did =
-        none-added-gone before.world.claims after.world.claims
-        (claims-fell meaning lawful faults before after is (finish_event (meaning before.world.rules) before.world claim) did.1)
-    fewer-finished (Err end.Stale) did =
-        none-added-same before.world.claims after.world.claims (ap (λ (k : KeptOf R A V). k.world.claims) did.1)
-    fewer-finished (Err end.OutOfMemory) did = tt
+    -- the claim of a work that ends goes, or all do
+    pub left-finished : (result : Result Finished WorkEnd) → Ends result
+        → IfOk (ended_of result) (λ given. stands_in before.world claim ≡ true
+        → AreOrGone before.world after.world (without_claim before.world claim.number).claims)
+    left-finished (Ok (finished.Executed receipt)) did = λ stands. inl (claims-ended (executed-is did.0 did.1 did.2))
+    left-finished (Ok finished.Failed) did = λ stands. inl (claims-ended (failed-is did.0 did.1 did.2))
+    left-finished (Ok finished.Down) did = λ stands.
+        gone-fell meaning lawful faults before after is (finish_event (meaning before.world.rules) before.world claim) did.1
+        (filter (λ (h : Held). not (h.number == claim.number)) before.world.claims)
+    left-finished (Err end.Stale) did = λ stands. absurd (both_ways (stands_in before.world claim) did.0 stands)
+    left-finished (Err end.OutOfMemory) did = tt
 
     -- ---- what is appended
 

@@ -20,7 +20,7 @@ use Rattle.unit_landscape.proofs.EndsLemmas.{falls-up}
 use Rattle.unit_works.specs.Claims.{AreOrGone}
 use Rattle.unit_works.specs.Finished.{finished_in}
 use Rattle.unit_landscape.specs.Writes.{IsTooLong}
-use Rattle.unit_works.specs.Trips.{CutAt, DidNotFit}
+use Rattle.unit_works.specs.Trips.{CutAt, DidNotFit, HasFailed}
 use Rattle.unit_works.specs.steps.Claims.{WasCut}
 use Rattle.unit_works.proofs.LogLemmas.{grown-same, listed}
 use Rattle.unit_works.proofs.StateLemmas.{fall-is_down, fall-log, fall-other, fall-rest}
@@ -68,7 +68,7 @@ module _ {R A V : Type 0} (meaning : R → Meaning) (lawful : (r : R) → IsLawf
 
   -- so nothing was appended, where it fell so
   cut-at : (rest : Option Record) → after.world ≡ with_fall before.world (did.0).system rest
-      → (rest_of after.world (did.0).system ≡ Some (did.0).next) ⊎ DidNotFit after Given → CutAt before after [] Given
+      → HasFailed after Given ⊎ DidNotFit after Given → CutAt before after [] Given
   cut-at rest world why = record {
     grew = grown-same before.world after.world (λ system. ap (λ (w : World R). log_of w system) world
         ∙ fall-log before.world (did.0).system fell-up rest system);
@@ -87,7 +87,9 @@ module _ {R A V : Type 0} (meaning : R → Meaning) (lawful : (r : R) → IsLawf
   -- its volume failed, and it may find the record; or the record did not fit
   pub fell-cut : CutAt before after [] Given
   fell-cut = elim did.2 [
-    | inl failed ↦ let world = fell-failed failed in cut-at (Some (did.0).next) world (inl (finds (Some (did.0).next) world))
+    | inl failed ↦
+        let world = fell-failed failed in
+        cut-at (Some (did.0).next) world (inl (record { finds = finds (Some (did.0).next) world; untold = failed.untold }))
     | inr full ↦
         let world = fell-full full in
         cut-at None world (inr (record {

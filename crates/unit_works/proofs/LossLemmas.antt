@@ -320,8 +320,9 @@ module _ {V : Type 0} (faults : V → ℕ → ℕ) where
     pub acted-up : (act : Act) → Acted faults before lines act after lines_after → (system : ℕ) → is_up after.world system ≡ true
         → is_up before.world system ≡ true
     acted-up (ship tid letter whole) did system up =
+        let was = did.was in
         appended-up before after
-        (shipment letter (answer_to (meaning before.world.rules) before.world did.unit) did.unit) whole did.grew system up
+        (shipment letter (answer_to (meaning before.world.rules) before.world was.unit) was.unit) whole was.grew system up
     acted-up (execute place tid whole) did system up =
         let executed = did.0 in
         appended-up before after
@@ -331,7 +332,8 @@ module _ {V : Type 0} (faults : V → ℕ → ℕ) where
 
     -- an act is work
     pub acted-went : (act : Act) → Acted faults before lines act after lines_after → Worked faults before after is_work true
-    acted-went (ship of letter whole) did = wider faults (is_shipping letter) is_work true before after (shipping-works letter) did.went
+    acted-went (ship of letter whole) did =
+        let was = did.was in wider faults (is_shipping letter) is_work true before after (shipping-works letter) was.went
     acted-went (execute place of whole) did =
         let executed = did.0 in wider faults is_execution is_work true before after execution-works executed.went
     acted-went (confirm of letter whole) did = wider faults is_confirmation is_work true before after confirmation-works did.went
@@ -345,12 +347,13 @@ module _ {V : Type 0} (faults : V → ℕ → ℕ) where
     reads-other : (tid : TidOf) (act : Act) → Acted faults before lines act after lines_after → takes tid act ≡ false
         → ReadsSame before.world after.world tid
     reads-other tid (ship other letter whole) did off =
-        let unit : AleUnit = did.unit in
-        let its : unit.tid ≡ other = (unit_named-Some other (committed_by (meaning before.world.rules) before.world other.system) unit did.committed).1 in
+        let was = did.was in
+        let unit : AleUnit = was.unit in
+        let its : unit.tid ≡ other = (unit_named-Some other (committed_by (meaning before.world.rules) before.world other.system) unit was.committed).1 in
         let differs : is_tid unit.tid tid ≡ false = ap (λ t. is_tid t tid) its ∙ off in
         let given = answer_to (meaning before.world.rules) before.world unit in
         leaves-reads before.world after.world tid
-        (are-appended (Leaves tid) before after (shipment letter given unit) whole did.grew
+        (are-appended (Leaves tid) before after (shipment letter given unit) whole was.grew
         (each-shipped (Leaves tid) unit (leaves-none tid (at unit.receiver (log.Accept unit)) refl refl)
         (leaves-none tid (at unit.receiver (log.Direct unit)) refl refl)
         (one-spares done_by tid (log.Done unit.tid) unit.tid refl differs, none-spares ended_by tid (log.Done unit.tid) refl)
@@ -382,19 +385,20 @@ module _ {V : Type 0} (faults : V → ℕ → ℕ) where
     shipped-lost unit tid letter whole same did named due = by letter refl
       where
         sent : AleUnit
-        sent = did.unit
+        sent = (did.was).unit
 
         equal : sent ≡ unit
         equal =
-            let went = did.went in
+            let was = did.was in
+            let went = was.went in
             same_Some sent unit
-            (sym (went.committed tid ∙ did.committed) ∙ ap (committed_unit (meaning after.world.rules) after.world) same ∙ named)
+            (sym (went.committed tid ∙ was.committed) ∙ ap (committed_unit (meaning after.world.rules) after.world) same ∙ named)
 
         undone : is_listed unit.tid (done_in (log_of before.world unit.tid.system)) ≡ false
         undone =
             subst (λ (u : AleUnit). is_listed u.tid (done_in (log_of before.world unit.tid.system)) ≡ false) equal
             (subst (λ (t : TidOf). is_listed sent.tid (done_in (log_of before.world t.system)) ≡ false) same
-            (may-undone (meaning before.world.rules) before.world tid sent did.committed did.may))
+            (may-undone (meaning before.world.rules) before.world tid sent (did.was).committed did.may))
 
         wrong : (l : Letter) → letter ≡ l → (l ≡ LostConfirmation → ⊥) → (b : Bool) → AppendedAs before after
             (shipment l (answer_to (meaning before.world.rules) before.world unit) unit) b → ⊥
@@ -422,7 +426,7 @@ module _ {V : Type 0} (faults : V → ℕ → ℕ) where
             subst (λ m. AppendedAs before after (shipment m (answer_to (meaning before.world.rules) before.world unit) unit) whole) is
             (subst (λ (u : AleUnit). AppendedAs before after (shipment letter (answer_to (meaning before.world.rules) before.world u) u) whole)
             equal
-            did.grew)
+            (did.was).grew)
 
         by : (l : Letter) → letter ≡ l → letter ≡ LostConfirmation
         by LostConfirmation is = is
@@ -502,7 +506,8 @@ module _ {V : Type 0} (faults : V → ℕ → ℕ) where
       → Acted faults before lines act after lines_after → takes tid act ≡ true
       → (sent : AleUnit) × (committed_unit (meaning before.world.rules) before.world tid ≡ Some sent)
   taken-committed before after lines lines_after tid (ship other letter whole) did on_it =
-      (did.unit, subst (λ t. committed_unit (meaning before.world.rules) before.world t ≡ Some did.unit) (is_tid-true other tid on_it) did.committed)
+      let was = did.was in
+      (was.unit, subst (λ t. committed_unit (meaning before.world.rules) before.world t ≡ Some was.unit) (is_tid-true other tid on_it) was.committed)
   taken-committed before after lines lines_after tid (confirm other letter whole) did on_it =
       (did.unit, subst (λ t. committed_unit (meaning before.world.rules) before.world t ≡ Some did.unit) (is_tid-true other tid on_it) did.committed)
   taken-committed before after lines lines_after tid (execute system other whole) did on_it = cc

@@ -206,10 +206,11 @@ module _ {V : Type 0} (faults : V → ℕ → ℕ) where
     shipped-settles : (tid : TidOf) (letter : Letter) → HasShipped faults before after lines lines_after tid letter true → NoneRuns before.world.claims
         → IsSettled after.world tid
     shipped-settles tid letter did none =
-        let unit : AleUnit = did.unit in
-        let its : unit.tid ≡ tid = (unit_named-Some tid (committed_by (meaning before.world.rules) before.world tid.system) unit did.committed).1 in
+        let was = did.was in
+        let unit : AleUnit = was.unit in
+        let its : unit.tid ≡ tid = (unit_named-Some tid (committed_by (meaning before.world.rules) before.world tid.system) unit was.committed).1 in
         let given = answer_to (meaning before.world.rules) before.world unit in
-        let grew = did.grew in
+        let grew = was.grew in
         subst (IsSettled after.world) its
         (noted-settles before.world after.world unit letter given grew.grew (learnt_under letter given) refl
         (λ busy. never-busy (meaning before.world.rules) before.world unit none (busy-is (is_answered_under letter) given busy)))
@@ -217,8 +218,9 @@ module _ {V : Type 0} (faults : V → ℕ → ℕ) where
     -- an act appends records of works
     pub acted-appended : (act : Act) → Acted faults before lines act after lines_after → AreAppended IsOfWork before.world after.world
     acted-appended (ship tid letter whole) did =
-        let given = answer_to (meaning before.world.rules) before.world did.unit in
-        are-appended IsOfWork before after (shipment letter given did.unit) whole did.grew (shipment-works letter given did.unit)
+        let was = did.was in
+        let given = answer_to (meaning before.world.rules) before.world was.unit in
+        are-appended IsOfWork before after (shipment letter given was.unit) whole was.grew (shipment-works letter given was.unit)
     acted-appended (execute system tid whole) did =
         let executed = did.0 in
         let offered = offers_received_now (meaning before.world.rules) before.world system tid in
@@ -231,10 +233,11 @@ module _ {V : Type 0} (faults : V → ℕ → ℕ) where
     settled-not : (tid : TidOf) (letter : Letter) (whole : Bool) → HasShipped faults before after lines lines_after tid letter whole
         → IsSettled before.world tid → ⊥
     settled-not tid letter whole did is =
-        let unit : AleUnit = did.unit in
+        let was = did.was in
+        let unit : AleUnit = was.unit in
         let rules : Meaning = meaning before.world.rules in
         let l = log_of before.world tid.system in
-        let its : unit.tid ≡ tid = (unit_named-Some tid (committed_by rules before.world tid.system) unit did.committed).1 in
+        let its : unit.tid ≡ tid = (unit_named-Some tid (committed_by rules before.world tid.system) unit was.committed).1 in
         let up = is_up before.world tid.system in
         let free = is_free_outbound (committed_by rules before.world tid.system) l tid in
         let moves = may_move (is_stopped_outbound l) (committed_unit rules before.world tid) in
@@ -243,7 +246,7 @@ module _ {V : Type 0} (faults : V → ℕ → ℕ) where
         elim is [
           | inl done ↦
               both_ways (is_listed tid (done_in l))
-              (subst (λ t. is_listed t (done_in l) ≡ false) its (may-undone rules before.world tid unit did.committed did.may)) done
+              (subst (λ t. is_listed t (done_in l) ≡ false) its (may-undone rules before.world tid unit was.committed did.may)) done
           | inr marked ↦ both_ways (is_marked Outgoing tid l) parts.3 marked
         ]
 
@@ -308,9 +311,6 @@ cut-all : (xs ys : List Act) → list_all is_cut xs ≡ true → each_but_last_c
 cut-all [] ys cut each = each
 cut-all (x ∷ xs) ys cut each =
     let parts = and_parts (is_cut x) (list_all is_cut xs) cut in cut-more x (xs ++ ys) parts.0 (cut-all xs ys parts.1 each)
-
-pub cut-each : (xs : List Act) → list_all is_cut xs ≡ true → each_but_last_cut xs ≡ true
-cut-each xs cut = subst (λ l. each_but_last_cut l ≡ true) (append-nil xs) (cut-all xs [] cut refl)
 
 module _ {V : Type 0} (faults : V → ℕ → ℕ) where
   -- a unit that was shipped took one letter

@@ -1,6 +1,6 @@
 -- A shipment is replied to: nothing has ended, and its claim is gone.
 use Rattle.std.specs.Prelude.{Result, Ok, Err, filter}
-use Rattle.std.proofs.Common.{◌≡◌, ◌==◌, ◌+◌, ◌&&◌, ℕ, not, Bool, true, false, cond, Option, Some, None, List, inl, refl, sym, ap, subst, ◌∙◌, arith}
+use Rattle.std.proofs.Common.{◌≡◌, ◌==◌, ◌+◌, ◌&&◌, ℕ, not, Bool, true, false, cond, Option, Some, None, inl, refl, sym, ap, subst, ◌∙◌, arith}
 use Rattle.std.proofs.lemmas.Bool.{both_ways, cond_both}
 use Rattle.ale_base.specs.Tid.{TidOf, is_tid}
 use Rattle.ale_base.specs.declared.mark.Mark.TheVariants.{Cpicerr, Sysfail}
@@ -17,7 +17,7 @@ use Rattle.trfc_protocol.specs.Happens.{happens}
 use Rattle.trfc_protocol.specs.Legal.{IsLawful}
 use Rattle.trfc_protocol.specs.Meaning.{Meaning}
 use Rattle.trfc_protocol.specs.RecordOf.{record_of}
-use Rattle.trfc_protocol.specs.Worlds.{claim_of, without_claim}
+use Rattle.trfc_protocol.specs.Worlds.{without_claim}
 use Rattle.trfc_protocol.proofs.ClaimLemmas.{claim_of-Some}
 use Rattle.trfc_protocol.proofs.ForCallers.{shipped_by}
 use Rattle.kept_world.specs.Kept.{KeptOf}
@@ -39,12 +39,11 @@ use Rattle.unit_landscape.proofs.ReplyingLemmas.{busy-after, busy-none, lost-app
 use Rattle.unit_works.specs.Events.{is_reply}
 use Rattle.unit_works.specs.Finished.{finished_in, is_ending}
 use Rattle.unit_works.specs.Went.{WentOn}
-use Rattle.unit_works.specs.Claims.{AreOrGone, NoneAdded}
+use Rattle.unit_works.specs.Claims.{AreOrGone}
 use Rattle.unit_works.specs.Trips.{Appended, Wholly, noted_of, one_at}
 use Rattle.unit_works.specs.steps.Arriving.{event_of}
-use Rattle.unit_works.specs.steps.Claims.{AreWithOut, out_held}
-use Rattle.unit_works.proofs.ClaimLemmas.{found-last, held-out, none-added-gone, none-added-left, none-added-same, stands-found_out, without-last}
-use Rattle.unit_works.proofs.FellLemmas.{claims-fell, fell-was_cut, finished-fell, gone-fell}
+use Rattle.unit_works.proofs.ClaimLemmas.{held-out}
+use Rattle.unit_works.proofs.FellLemmas.{fell-was_cut, finished-fell, gone-fell}
 use Rattle.unit_works.proofs.GrowthLemmas.{happened-wholly}
 use Rattle.unit_works.proofs.LogLemmas.{listed}
 use Rattle.unit_works.proofs.StateLemmas.{is_step}
@@ -165,39 +164,16 @@ module _ {R A V : Type 0} (meaning : R → Meaning) (lawful : (r : R) → IsLawf
 
   -- ---- the claims
 
-  left-by : (others : List Held) → AreWithOut before.world.claims others claim → HasClosed before.world after.world claim.number
-      → AreOrGone before.world after.world others
-  left-by others with closed =
-      inl (closed.claims ∙ ap (filter (λ (h : Held). not (h.number == claim.number))) with.are
-      ∙ without-last claim.number others (out_held claim) refl with.fresh)
-
-  with-stands : (others : List Held) → AreWithOut before.world.claims others claim → stands_out before.world claim ≡ true
-  with-stands others with =
-      stands-found_out before.world claim (out_held claim)
-      (ap (claim_of claim.number) with.are ∙ found-last claim.number others (out_held claim) refl with.fresh) refl refl
-
-  pub claims-replied : (result : Result Replied WorkEnd) → RepliedAs (meaning before.world.rules) faults before after claim given result
-      → (result ≡ Err end.OutOfMemory → ⊥) → (others : List Held) → AreWithOut before.world.claims others claim
-      → AreOrGone before.world after.world others
-  claims-replied (Ok replied.Recorded) did other others with = left-by others with (recorded-is did.0 did.1 did.2)
-  claims-replied (Ok replied.Released) did other others with = left-by others with (released did.1 did.0 did.2)
-  claims-replied (Ok replied.Down) did other others with = gone-fell meaning lawful faults before after is ItsEvent did.1 others
-  claims-replied (Err end.Stale) did other others with = absurd (both_ways (stands_out before.world claim) did.0 (with-stands others with))
-  claims-replied (Err end.OutOfMemory) did other others with = absurd (other refl)
-
-  pub fewer-replied : (result : Result Replied WorkEnd) → RepliedAs (meaning before.world.rules) faults before after claim given result
-      → (result ≡ Err end.OutOfMemory → ⊥) → NoneAdded before.world.claims after.world.claims
-  fewer-replied (Ok replied.Recorded) did other =
-      let closed = recorded-is did.0 did.1 did.2 in
-      none-added-left (λ (h : Held). not (h.number == claim.number)) before.world.claims after.world.claims closed.claims
-  fewer-replied (Ok replied.Released) did other =
-      let closed = released did.1 did.0 did.2 in
-      none-added-left (λ (h : Held). not (h.number == claim.number)) before.world.claims after.world.claims closed.claims
-  fewer-replied (Ok replied.Down) did other =
-      none-added-gone before.world.claims after.world.claims (claims-fell meaning lawful faults before after is ItsEvent did.1)
-  fewer-replied (Err end.Stale) did other =
-      none-added-same before.world.claims after.world.claims (ap (λ (k : KeptOf R A V). k.world.claims) did.1)
-  fewer-replied (Err end.OutOfMemory) did other = absurd (other refl)
+  -- that of the reply goes, or all do
+  pub left-replied : (result : Result Replied WorkEnd) → RepliedAs (meaning before.world.rules) faults before after claim given result
+      → (result ≡ Err end.OutOfMemory → ⊥) → stands_out before.world claim ≡ true
+      → AreOrGone before.world after.world (without_claim before.world claim.number).claims
+  left-replied (Ok replied.Recorded) did other stands = let closed = recorded-is did.0 did.1 did.2 in inl closed.claims
+  left-replied (Ok replied.Released) did other stands = let closed = released did.1 did.0 did.2 in inl closed.claims
+  left-replied (Ok replied.Down) did other stands =
+      gone-fell meaning lawful faults before after is ItsEvent did.1 (filter (λ (h : Held). not (h.number == claim.number)) before.world.claims)
+  left-replied (Err end.Stale) did other stands = absurd (both_ways (stands_out before.world claim) did.0 stands)
+  left-replied (Err end.OutOfMemory) did other stands = absurd (other refl)
 
   -- ---- what is appended
 

@@ -47,12 +47,12 @@ use Rattle.wires.specs.declared.letter.Letter.{Letter}
 use Rattle.wires.specs.declared.letter.Letter.TheVariants.{Whole, LostRequest, LostReply, Twice, LostConfirmation}
 use Rattle.unit_works.specs.Events.{arrives_under, is_answered_under, is_confirmed_under, told_of}
 use Rattle.unit_works.specs.Trips.{Appended, AppendedAs, HaveGrown, Wholly, back_of, closing, confirmation, forgot, is_done, is_due, learnt_under, noted_of}
-use Rattle.unit_works.specs.Trips.{one_at, shipment, taken_in}
+use Rattle.unit_works.specs.Trips.{one_at, run_at, shipment, taken_in}
 use Rattle.unit_works.specs.steps.Arriving.{AnsweredSo, ClaimsAre, HasAnswered, HasArrived, HasDelivered, Says, Tells, accepted, back_under, delivery, event_of}
 use Rattle.unit_works.specs.steps.Arriving.{run_held, run_of}
-use Rattle.unit_works.specs.steps.Claims.{AreWith, WasCut}
+use Rattle.unit_works.specs.steps.Claims.{WasCut}
 use Rattle.unit_works.specs.steps.Confirming.{sent_to}
-use Rattle.unit_works.specs.steps.Ending.{FinishedSo, IsRun, run_at}
+use Rattle.unit_works.specs.steps.Ending.{FinishedSo, IsRun}
 use Rattle.unit_works.proofs.ClaimLemmas.{found-last, held-out, without-last}
 use Rattle.unit_works.proofs.GrowthLemmas.{appended-on, cut-before, wholly-on, wholly-same}
 use Rattle.unit_works.proofs.LogLemmas.{EachIs, NoneCounts, among-behind, each-first, each-next, same-grown, listed-behind, offers-log, read-same, record-here}
@@ -90,16 +90,6 @@ module _ {R : Type 0} (world : World R) (unit : AleUnit) (given : Answer) (other
       by arrival.Busy none tells claims = at_once answer.Busy reply.Busy tells refl claims tt
       by arrival.SysFail none tells claims = at_once answer.SysFail reply.SysFail tells refl claims tt
       by arrival.Down none tells claims = at_once answer.Down reply.Lost tells refl claims tt
-
--- the claim of a run that an arrival began is beside the others
-pub run-with : {R : Type 0} (world : World R) (others : List Held) (claim : InClaim) → ClaimsAre world.claims others (arrival.Run claim)
-    → AreWith world.claims others claim
-run-with world others claim claims = record {
-  held = run_held claim;
-  its = record { number = refl; tid = refl; kind = refl };
-  fresh = claims.1;
-  are = claims.0;
-}
 
 module _ {R A V : Type 0} (rules : Meaning) (before : KeptOf R A V) (unit : AleUnit) (given : Answer) (others : List Held) (claim : InClaim)
     (tells : Tells given unit (arrival.Run claim)) (claims : ClaimsAre before.world.claims others (arrival.Run claim)) where
@@ -575,6 +565,13 @@ due-parts world unit due =
     let parts = and_parts (is_up world unit.tid.system && is_up world unit.receiver) (is_unconfirmed unit.tid (log_of world unit.tid.system)) due in
     let ups = and_parts (is_up world unit.tid.system) (is_up world unit.receiver) parts.0 in
     (ups.0, ups.1, parts.1)
+
+-- a unit that its sender, which is up, says is done and not ended is done
+pub done-of : {R : Type 0} (world : World R) (tid : TidOf) → (is_up world tid.system && is_unconfirmed tid (log_of world tid.system)) ≡ true
+    → is_listed tid (done_in (log_of world tid.system)) ≡ true
+done-of world tid is =
+    let parts = and_parts (is_up world tid.system) (is_unconfirmed tid (log_of world tid.system)) is in
+    (and_parts (is_listed tid (done_in (log_of world tid.system))) (not (is_listed tid (ended_in (log_of world tid.system)))) parts.1).0
 
 sent-none : (unit : AleUnit) (forgotten : Bool) → NoneCounts ended_by (sent_to forgotten unit)
 sent-none unit true = tt

@@ -3,7 +3,7 @@ use Rattle.std.specs.Prelude.{slice_get}
 use Rattle.std.specs.List.{list_all}
 use Rattle.std.specs.Option.{unwrap_or}
 use Rattle.std.proofs.Common.{◌≡◌, ◌≢◌, ◌≤◌, ◌-◌, ◌^◌, ℕ, Bool, true, false, ◌&&◌, Option, Some, None, List, [], ◌∷◌, ◌++◌, inl, inr, refl, sym, ap, subst, ◌∙◌}
-use Rattle.std.proofs.Common.{arith}
+use Rattle.std.proofs.Common.{zero, suc, ◌+◌, arith}
 use Rattle.std.proofs.lemmas.Bool.{and_parts, and_from, both_ways, cases_Bool, cases_eq}
 use Rattle.std.proofs.lemmas.List.{get_or-set_other}
 use Rattle.std.proofs.lemmas.List.Folds.{list_all-append}
@@ -24,7 +24,8 @@ use Rattle.trfc_protocol.proofs.RecordLemmas.{MayWrite-record}
 use Rattle.trfc_protocol.proofs.WorldLemmas.{is_up-known, state_of-least, state_of-most}
 use Rattle.system_journals.specs.declared.journals.SystemJournals.{SystemJournals}
 use Rattle.system_journals.specs.Changes.{OnlyAt}
-use Rattle.system_journals.specs.OnDisk.{full_at, last_moment, later, moment_of, next_moment}
+use Rattle.system_journals.specs.OnDisk.{full_at, last_moment, later, moment_of, moments_at, next_moment}
+use Rattle.kept_world.specs.Appending.{HasOneMore}
 use Rattle.kept_world.specs.Kept.{KeptOf, overrun_at}
 use Rattle.kept_world.specs.Overruns.{overrun_in}
 use Rattle.unit_landscape.specs.Ends.{NoFaults, Happened, Failed, FellBehind, Stays, FellInstead, IsShort, Overflowed}
@@ -32,7 +33,7 @@ use Rattle.unit_landscape.specs.Kept.{IsLandscape}
 use Rattle.unit_landscape.specs.Writes.{IsTooLong, MomentsAs}
 use Rattle.unit_landscape.proofs.EndsLemmas.{falls-up}
 use Rattle.unit_works.specs.Events.{is_works_record, is_works_rest}
-use Rattle.unit_works.specs.Went.{HasCause, HasNotFallen, HasRisen, HaveWorksBehind, IsUnfit, StaysDown, WentOn}
+use Rattle.unit_works.specs.Went.{AreStamped, HasCause, HasNotFallen, HasRisen, HaveWorksBehind, IsUnfit, StaysDown, WentOn, with_more}
 use Rattle.unit_works.proofs.FellLemmas.{fell-failed, fell-full, fell-up}
 use Rattle.unit_works.proofs.LogLemmas.{works-event, works-on, works-same}
 use Rattle.unit_works.proofs.StateLemmas.{IsOfWorks, fall-committed, fall-down, fall-is_down, fall-log, fall-only, fall-rest, is_step, step-committed}
@@ -119,7 +120,7 @@ module _ {R A V : Type 0} (meaning : R → Meaning) (faults : V → ℕ → ℕ)
   cause-last : (rest : Option Record) → HasNotFallen (faults before.vols (system - 1)) (faults between.vols (system - 1))
       → HasCause meaning faults between after system rest → HasCause meaning faults before after system rest
   cause-last (Some next) held cause =
-      then-risen (faults before.vols (system - 1)) (faults between.vols (system - 1)) (faults after.vols (system - 1)) held cause
+      (then-risen (faults before.vols (system - 1)) (faults between.vols (system - 1)) (faults after.vols (system - 1)) held cause.0, cause.1)
   cause-last None held cause = unfit-last cause
 
   -- so did one that fell before, and stays down
@@ -127,9 +128,23 @@ module _ {R A V : Type 0} (meaning : R → Meaning) (faults : V → ℕ → ℕ)
       → ((tid : TidOf) → committed_unit (meaning after.world.rules) after.world tid ≡ committed_unit (meaning between.world.rules) between.world tid)
       → HasNotFallen (faults between.vols (system - 1)) (faults after.vols (system - 1)) → StaysDown between after system
       → HasCause meaning faults before between system rest → HasCause meaning faults before after system rest
-  cause-first (Some next) rules committed holds stays cause =
-      risen-then (faults before.vols (system - 1)) (faults between.vols (system - 1)) (faults after.vols (system - 1)) cause holds
+  cause-first (Some next) rules committed holds stays cause = (
+    risen-then (faults before.vols (system - 1)) (faults between.vols (system - 1)) (faults after.vols (system - 1)) cause.0 holds,
+    stays.overrun ∙ cause.1,
+  )
   cause-first None rules committed holds stays cause = unfit-still rules committed stays cause
+
+-- so many moments more, and more of them
+more-on : (set : Option ℕ) (n m : ℕ) (moments : List (Option ℕ)) → with_more set (n + m) moments ≡ with_more set m (with_more set n moments)
+more-on set zero m moments = let same : zero + m ≡ m = omega arith in ap (λ (k : ℕ). with_more set k moments) same
+more-on set (suc n) m moments =
+    let same : suc n + m ≡ suc (n + m) = omega arith in
+    ap (λ (k : ℕ). with_more set k moments) same ∙ more-on set n m (moments ++ later set (last_moment moments) ∷ [])
+
+stamped-on : (set : Option ℕ) (before between after : List (Option ℕ)) → AreStamped set before between → AreStamped set between after
+    → AreStamped set before after
+stamped-on set before between after first second =
+    (first.0 + second.0, second.1 ∙ ap (with_more set second.0) first.1 ∙ sym (more-on set first.0 second.0 before))
 
 -- a system that is up has a number from 1 on
 pub up-least : {R : Type 0} (world : World R) (system : ℕ) → is_up world system ≡ true → 1 ≤ system
@@ -153,6 +168,7 @@ module _ {R A V : Type 0} (meaning : R → Meaning) (faults : V → ℕ → ℕ)
     logs = works-same kept.world kept.world (λ system. refl);
     committed = λ tid. refl;
     moment = refl;
+    moments = λ place. (0, refl);
     counts = λ place. inl (omega arith);
     unharmed = λ system least up. refl;
     stays = λ system least down. record { down = down; rest = refl; log = refl; journal = refl; moment = refl; overrun = refl };
@@ -172,6 +188,7 @@ module _ {R A V : Type 0} (meaning : R → Meaning) (faults : V → ℕ → ℕ)
     logs = went.logs;
     committed = went.committed;
     moment = went.moment;
+    moments = went.moments;
     counts = went.counts;
     unharmed = went.unharmed;
     stays = went.stays;
@@ -190,6 +207,10 @@ module _ {R A V : Type 0} (meaning : R → Meaning) (faults : V → ℕ → ℕ)
     logs = works-on before.world between.world after.world first.logs second.logs;
     committed = λ tid. second.committed tid ∙ first.committed tid;
     moment = second.moment ∙ first.moment;
+    moments = λ place.
+        stamped-on (moment_of before.journals) (moments_at before.journals place) (moments_at between.journals place) (moments_at after.journals place)
+        (first.moments place)
+        (subst (λ set. AreStamped set (moments_at between.journals place) (moments_at after.journals place)) first.moment (second.moments place));
     unharmed = λ system least up. elim (cases_Bool (is_up between.world system)) [
       | inl still ↦ second.unharmed system least up ∙ first.unharmed system least still
       | inr down ↦ let stays = second.stays system least down in absurd (both_ways (is_up after.world system) stays.down up)
@@ -229,6 +250,7 @@ module _ {R A V : Type 0} (meaning : R → Meaning) (faults : V → ℕ → ℕ)
     logs = went.logs;
     committed = went.committed;
     moment = went.moment;
+    moments = went.moments;
     counts = went.counts;
     unharmed = went.unharmed;
     stays = went.stays;
@@ -301,6 +323,25 @@ module _ {R A V : Type 0} (meaning : R → Meaning) (lawful : (r : R) → IsLawf
   moments-moment None same = ap (λ (j : SystemJournals). moment_of j) same
   moments-moment (Some it) more = let only = more.one in only.moment
 
+  -- the moment of a record is the next one of its log
+  stamped-one : (at : ℕ) → HasOneMore at before.journals after.journals → (place : ℕ)
+      → AreStamped (moment_of before.journals) (moments_at before.journals place) (moments_at after.journals place)
+  stamped-one at more place = elim (cases_eq place at) [
+    | inl here ↦ (
+      1,
+      subst (λ p. moments_at after.journals p ≡ moments_at before.journals p ++ next_moment before.journals p ∷ []) (sym here) more.grown,
+    )
+    | inr differs ↦
+        let only = more.one in
+        let same = only.others place differs in
+        (0, ap (λ (found : Option (List (Option ℕ))). unwrap_or found []) same.moments)
+  ]
+
+  stamped-by : (found : Option Writing) → MomentsAs before.journals after.journals found → (place : ℕ)
+      → AreStamped (moment_of before.journals) (moments_at before.journals place) (moments_at after.journals place)
+  stamped-by None same place = (0, ap (λ (j : SystemJournals). moments_at j place) same)
+  stamped-by (Some it) more place = stamped-one (it.system - 1) more place
+
   -- an event happened
   pub went-happened : (whole : Bool) (e : Event) → is_step e ≡ true → may e ≡ true → Happened (meaning before.world.rules) faults before after e
       → WentOn meaning faults may whole before after
@@ -315,6 +356,7 @@ module _ {R A V : Type 0} (meaning : R → Meaning) (lawful : (r : R) → IsLawf
         (λ tid. ap (λ (w : World R). committed_unit (meaning before.world.rules) w tid) did.world
         ∙ step-committed (meaning before.world.rules) (lawful before.world.rules) before.world is.safe e step tid);
     moment = moments-moment (record_of (meaning before.world.rules) before.world e) did.moments;
+    moments = stamped-by (record_of (meaning before.world.rules) before.world e) did.moments;
     unharmed = λ other least up. did.no_faults (other - 1);
     counts = counted-same did.no_faults;
     stays = λ other least down.
@@ -339,6 +381,7 @@ module _ {R A V : Type 0} (meaning : R → Meaning) (lawful : (r : R) → IsLawf
     logs = works-same before.world after.world (λ system. ap (λ (w : World R). log_of w system) did.world);
     committed = by-rules (ap (λ (w : World R). w.rules) did.world) (λ tid. ap (λ (w : World R). committed_unit (meaning before.world.rules) w tid) did.world);
     moment = ap (λ (j : SystemJournals). moment_of j) did.journals;
+    moments = λ place. (0, ap (λ (j : SystemJournals). moments_at j place) did.journals);
     unharmed = λ other least up. did.no_faults (other - 1);
     counts = counted-same did.no_faults;
     stays = λ other least down.
@@ -367,6 +410,7 @@ module _ {R A V : Type 0} (meaning : R → Meaning) (lawful : (r : R) → IsLawf
           (λ tid. ap (λ (w : World R). committed_unit (meaning before.world.rules) w tid) fall
           ∙ fall-committed before.world system up rest (meaning before.world.rules) tid);
       moment = ap (λ (j : SystemJournals). moment_of j) journals;
+      moments = λ place. (0, ap (λ (j : SystemJournals). moments_at j place) journals);
       unharmed = unharmed;
       counts = counts;
       stays = λ other least down.
@@ -450,7 +494,7 @@ module _ {R A V : Type 0} (meaning : R → Meaning) (lawful : (r : R) → IsLawf
               one-fall whole it.system (Some it.next) (works-of e it step did.1) up failed.world
               (fell-failed meaning lawful faults before after is e did failed)
               failed.journals (λ other least down. same-overrun failed.overruns other) (failed-counts it failed)
-              (failed-unharmed it up failed (fell-failed meaning lawful faults before after is e did failed)) (failed-risen it failed)
+              (failed-unharmed it up failed (fell-failed meaning lawful faults before after is e did failed)) (failed-risen it failed, failed.untold)
           | inr full ↦
               one-fall whole it.system None refl up full.world (fell-full meaning lawful faults before after is e did full) full.journals
               (λ other least down. ap (λ all. overrun_in all other) full.overruns
@@ -484,6 +528,7 @@ module _ {R A V : Type 0} (meaning : R → Meaning) (lawful : (r : R) → IsLawf
               (λ tid. ap (λ (w : World R). committed_unit rules w tid) fall ∙ fall-committed between it.system still None rules tid
               ∙ step-committed rules law before.world is.safe e step tid);
           moment = let moments = did.moments in let only = moments.one in only.moment;
+          moments = stamped-one (it.system - 1) did.moments;
           unharmed = λ other least up_after. did.no_faults (other - 1);
           counts = counted-same did.no_faults;
           stays = λ other least down.

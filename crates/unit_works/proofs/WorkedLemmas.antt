@@ -1,8 +1,9 @@
 -- Works one after the other, of a landscape whose systems work by models.
-use Rattle.std.specs.Prelude.{Result, Ok, Err, IfOk, IsErr, OnOk}
+use Rattle.unit_landscape.proofs.FinishingLemmas.{in-stands}
+use Rattle.std.specs.Prelude.{Result, Ok, Err, IfOk, IsErr, OnOk, ◌==◌, filter}
 use Rattle.ale_base.specs.declared.out_of_memory.OutOfMemory.{OutOfMemory}
 use Rattle.std.specs.Result.{is_ok}
-use Rattle.std.proofs.Common.{◌≡◌, ◌≤◌, ◌+◌, ℕ, Bool, true, not, cond, Option, Some, List, [], ◌&&◌, inl, inr, refl, sym, ap, subst, ◌∙◌, arith, false}
+use Rattle.std.proofs.Common.{◌≡◌, ◌≤◌, ◌+◌, ℕ, Bool, true, not, cond, Option, Some, None, List, [], ◌&&◌, inl, inr, refl, sym, ap, subst, ◌∙◌, arith, false}
 use Rattle.std.proofs.lemmas.Bool.{both_ways, cases_Bool}
 use Rattle.std.proofs.lemmas.Option.{same_Some}
 use Rattle.ale_base.specs.Tid.{TidOf}
@@ -21,7 +22,7 @@ use Rattle.trfc_protocol.specs.declared.held.HeldKind.TheVariants.{In}
 use Rattle.trfc_protocol.specs.Legal.{IsLawful}
 use Rattle.trfc_protocol.specs.Meaning.{Meaning}
 use Rattle.trfc_protocol.specs.Offered.{answer_to, offers_received_now}
-use Rattle.trfc_protocol.specs.Worlds.{claim_of, committed_unit, is_up, log_of}
+use Rattle.trfc_protocol.specs.Worlds.{claim_of, committed_unit, is_up, log_of, without_claim}
 use Rattle.trfc_protocol.proofs.SafeLemmas.{committed_unit-is}
 use Rattle.kept_world.specs.Kept.{KeptOf}
 use Rattle.unit_landscape.specs.declared.answers.Arrival.{Arrival}
@@ -44,21 +45,22 @@ use Rattle.unit_landscape.specs.Kept.{IsLandscape}
 use Rattle.wires.specs.declared.letter.Letter.{Letter}
 use Rattle.wires.specs.declared.letter.Letter.TheVariants.{Whole}
 use Rattle.wires.specs.Wires.{letters_left, next_letter}
-use Rattle.unit_works.specs.Claims.{AreOrGone, NoneAdded, OneFell}
+use Rattle.unit_works.specs.Claims.{AreOrGone, OneFell}
 use Rattle.unit_works.specs.Events.{arrives_under, is_answered_under, is_arrival, is_confirmation, is_confirmed_under, is_confirming, is_delivery, is_end}
 use Rattle.unit_works.specs.Events.{is_claim, is_run, is_execution, is_lost, is_reply, is_shipping, is_work, told_of}
 use Rattle.unit_works.specs.Finished.{finished_in}
-use Rattle.unit_works.specs.Acts.{HasShipped}
+use Rattle.unit_works.specs.Acts.{HasShipped, WasShipped}
 use Rattle.unit_works.specs.Trips.{Appended, AppendedAs, confirmation, execution, forgot, is_due, learnt_under, may_ship, noted_of, one_at, shipment}
+use Rattle.unit_works.specs.Trips.{worked_by}
 use Rattle.unit_works.specs.Worked.{HasTaken, HaveEnded, Lines, Worked}
 use Rattle.unit_works.specs.Works.{ClaimExecutedAs, ClaimShippedAs, ExecutedAs, ShippedAs}
 use Rattle.unit_works.specs.steps.Arriving.{AnsweredSo, ArrivedSo, ClaimsAre, ClaimsCome, DeliveredSo, IsAnswered, Tells, event_of}
 use Rattle.unit_works.specs.steps.Confirming.{SentSo}
-use Rattle.unit_works.specs.steps.Claiming.{IsExecuted, IsShipped, in_held}
-use Rattle.unit_works.specs.steps.Claims.{AreWith, AreWithOut}
-use Rattle.unit_works.specs.steps.Ending.{FinishedSo, ended_by, worked_by}
+use Rattle.unit_works.specs.Claiming.{IsExecuted, IsShipped, in_held}
+use Rattle.unit_works.specs.Claiming.{out_held}
+use Rattle.unit_works.specs.steps.Ending.{FinishedSo, ended_by}
 use Rattle.unit_works.proofs.ArrivingLemmas.{claimed-committed}
-use Rattle.unit_works.proofs.ClaimLemmas.{claimed-executes, claimed-ships, found-last, stands-gone}
+use Rattle.unit_works.proofs.ClaimLemmas.{claimed-executes, claimed-ships, found-last, left-last, stands-gone}
 use Rattle.unit_works.proofs.GrowthLemmas.{appended-on}
 use Rattle.unit_works.proofs.TripLemmas.{confirmed-cut, confirmed-ended, delivered-first, delivered-on, delivered-run, event-told, sent-lasts, sent-up}
 use Rattle.unit_works.proofs.TripLemmas.{shipped-cut, shipped-noted}
@@ -159,21 +161,25 @@ module _ {V : Type 0} (faults : V → ℕ → ℕ) (may might all last : Event �
     (first : Worked faults before delivered may true) (second : Worked faults delivered replied might true) (both : Worked faults before replied all true)
     (third : Worked faults replied confirmed last true) where
   -- the claim of a shipment goes, once it was delivered, replied to and confirmed
-  pub shipped-claims : (claim : OutClaim) → AreOrGone before.world delivered.world before.world.claims
-      → ((others : List Held) → AreWithOut delivered.world.claims others claim → AreOrGone delivered.world replied.world others)
+  pub shipped-left : (claim : OutClaim) → stands_out before.world claim ≡ true → AreOrGone before.world delivered.world before.world.claims
+      → (stands_out delivered.world claim ≡ true → AreOrGone delivered.world replied.world (without_claim delivered.world claim.number).claims)
       → (stands_out delivered.world claim ≡ false → replied ≡ delivered)
       → AreOrGone replied.world confirmed.world replied.world.claims
-      → (others : List Held) → AreWithOut before.world.claims others claim → AreOrGone before.world confirmed.world others
-  shipped-claims claim delivers replies stale confirms others with =
-      gone-on faults all last true before replied confirmed both third others left confirms
+      → AreOrGone before.world confirmed.world (without_claim before.world claim.number).claims
+  shipped-left claim stands delivers replies stale confirms =
+      gone-on faults all last true before replied confirmed both third Others left confirms
     where
-      left : AreOrGone before.world replied.world others
+      Others : List Held
+      Others = filter (λ (h : Held). not (h.number == claim.number)) before.world.claims
+
+      left : AreOrGone before.world replied.world Others
       left = elim delivers [
         | inl same ↦
-            gone-last faults may might true before delivered replied first second others
-            (replies others (subst (λ claims. AreWithOut claims others claim) (sym same) with))
+            gone-last faults may might true before delivered replied first second Others
+            (subst (λ claims. AreOrGone delivered.world replied.world (filter (λ (h : Held). not (h.number == claim.number)) claims)) same
+            (replies (ap (λ claims. is_on claim.tid (claim_of claim.number claims) && is_out (claim_of claim.number claims)) same ∙ stands)))
         | inr gone ↦
-            subst (λ (k : KeptOf ModelRules DocumentTables V). AreOrGone before.world k.world others)
+            subst (λ (k : KeptOf ModelRules DocumentTables V). AreOrGone before.world k.world Others)
             (sym (stale (stands-gone delivered.world claim gone.0))) (inr gone)
       ]
 
@@ -282,32 +288,34 @@ module _ {V : Type 0} (faults : V → ℕ → ℕ) where
       → IsShipped (meaning before.world.rules) before.world claimed.world system claim
       → tid ≡ claim.tid → letter ≡ next_letter (letters_left lines tid) → HasTaken tid lines lines_after
       → Worked faults claimed after (is_shipping letter) true → IsAnswered claimed.world after.world n
-      → ((others : List Held) → AreWithOut claimed.world.claims others claim → AreOrGone claimed.world after.world others)
+      → AreOrGone claimed.world after.world (without_claim claimed.world claim.number).claims
       → ((unit : AleUnit) → committed_unit (meaning claimed.world.rules) claimed.world claim.tid ≡ Some unit
       → Appended claimed after (shipment letter (answer_to (meaning claimed.world.rules) claimed.world unit) unit))
       → ShippedAs faults before after lines lines_after system (Ok (Some n))
-  shipped before claimed after lines lines_after system claim tid letter n went_claim count is its next taken went answered claims grew = (
+  shipped before claimed after lines lines_after system claim tid letter n went_claim count is its next taken went answered left grew = (
     tid,
     is.first ∙ ap Some (sym its),
     appended.0,
     subst (λ l. HasShipped faults before after lines lines_after tid l appended.0) next (record {
-      unit = is.unit;
-      committed = ap (committed_unit (meaning before.world.rules) before.world) its ∙ is.committed;
       may = ap (may_ship (meaning before.world.rules) before.world) its ∙ is.may;
-      next = next;
-      taken = taken;
-      went = on faults (is_shipping letter) true before claimed after (wider faults is_claim (is_shipping letter) true before claimed (claim-ships letter)
-          went_claim) went;
-      grew = appended-on before claimed after [] (shipment letter (answer_to (meaning before.world.rules) before.world is.unit) is.unit)
-          is.grew
-          appended.0
-          (subst (λ a. AppendedAs claimed after (shipment letter a is.unit) appended.0)
-          (ap (λ (r : ModelRules). answer_to (meaning r) claimed.world is.unit) went_claim.rules ∙ is.answers) appended.1);
+      was = record {
+        unit = is.unit;
+        committed = ap (committed_unit (meaning before.world.rules) before.world) its ∙ is.committed;
+        next = next;
+        taken = taken;
+        went = on faults (is_shipping letter) true before claimed after (wider faults is_claim (is_shipping letter) true before claimed (claim-ships letter)
+            went_claim) went;
+        grew = appended-on before claimed after [] (shipment letter (answer_to (meaning before.world.rules) before.world is.unit) is.unit)
+            is.grew
+            appended.0
+            (subst (λ a. AppendedAs claimed after (shipment letter a is.unit) appended.0)
+            (ap (λ (r : ModelRules). answer_to (meaning r) claimed.world is.unit) went_claim.rules ∙ is.answers) appended.1);
+      };
     }),
     record {
       finished = let more = answered.count in omega (arith, count, more);
       claims = gone-last faults is_claim (is_shipping letter) true before claimed after went_claim went before.world.claims
-          (claims before.world.claims (record { fresh = is.fresh; are = is.claims }));
+          (left-last claimed.world after.world before.world.claims (out_held claim) claim.number refl is.fresh is.claims left);
     },
     answered.few,
   )
@@ -320,10 +328,10 @@ module _ {V : Type 0} (faults : V → ℕ → ℕ) where
       → Worked faults before claimed is_run true → finished_in claimed.world ≡ finished_in before.world
       → IsExecuted (meaning before.world.rules) before.world claimed.world system claim
       → Worked faults claimed after is_end true → finished_in after.world ≡ finished_in claimed.world + ended_by given
-      → ((others : List Held) → AreWith claimed.world.claims others claim → AreOrGone claimed.world after.world others)
+      → (stands_in claimed.world claim ≡ true → AreOrGone claimed.world after.world (without_claim claimed.world claim.number).claims)
       → ((held : Held) → HoldsIn claimed.world claim held → FinishedSo (meaning claimed.world.rules) claimed after claim held given)
       → (n : ℕ) → n ≡ ended_by given → ExecutedAs faults before after system (Ok (Some n))
-  executed before claimed after system claim given went_run count is went more claims grew n told = elim (grew (in_held claim) holds) [
+  executed before claimed after system claim given went_run count is went more left grew n told = elim (grew (in_held claim) holds) [
     | inl ended ↦ made true ended.grew (told ∙ ended.ended)
     | inr fell ↦ let cut = fell.0 in made false cut.cut (told ∙ fell.1)
   ]
@@ -355,11 +363,27 @@ module _ {V : Type 0} (faults : V → ℕ → ℕ) where
         record {
           finished = omega (arith, count, more, told);
           claims = gone-last faults is_run is_end true before claimed after went_run went before.world.claims
-              (claims before.world.claims
-              (record { held = in_held claim; its = record { number = refl; tid = refl; kind = refl }; fresh = is.fresh; are = is.claims }));
+              (left-last claimed.world after.world before.world.claims (in_held claim) claim.number refl is.fresh is.claims
+              (left (in-stands claimed.world claim (in_held claim) holds)));
         },
         ends,
       )
+
+  -- claims as one work leaves them
+  pub ended-claims : {T E : Type 0} (before after : KeptOf ModelRules DocumentTables V) (result : Result T E) → OnOk result (HaveEnded faults before after 0)
+      → OnOk result (AreOrGone before.world after.world before.world.claims)
+  ended-claims before after (Ok done) ended = ended.claims
+  ended-claims before after (Err why) ended = tt
+
+  pub shipped-claims : (before after : KeptOf ModelRules DocumentTables V) (lines lines_after : Lines) (system : ℕ) (found : Option ℕ)
+      → ShippedAs faults before after lines lines_after system (Ok found) → AreOrGone before.world after.world before.world.claims
+  shipped-claims before after lines lines_after system None did = inl (ap (λ (k : KeptOf ModelRules DocumentTables V). k.world.claims) did.0)
+  shipped-claims before after lines lines_after system (Some n) did = let ended = did.4 in ended.claims
+
+  pub executed-claims : (before after : KeptOf ModelRules DocumentTables V) (system : ℕ) (found : Option ℕ)
+      → ExecutedAs faults before after system (Ok found) → AreOrGone before.world after.world before.world.claims
+  executed-claims before after system None did = inl (ap (λ (k : KeptOf ModelRules DocumentTables V). k.world.claims) did.0)
+  executed-claims before after system (Some n) did = let ended = did.4 in ended.claims
 
   -- where memory is wanting, what was done is work
   pub shipped-short : (before after : KeptOf ModelRules DocumentTables V) (lines lines_after : Lines) (system : ℕ) (result : Result (Option ℕ) OutOfMemory)
@@ -378,32 +402,33 @@ module _ {V : Type 0} (faults : V → ℕ → ℕ) where
       → IsLandscape meaning before.world → stands_out before.world claim ≡ true
       → tid ≡ claim.tid → letter ≡ next_letter (letters_left lines tid) → HasTaken tid lines lines_after
       → Worked faults before after (is_shipping letter) true → IsAnswered before.world after.world n
-      → NoneAdded before.world.claims after.world.claims
+      → AreOrGone before.world after.world (without_claim before.world claim.number).claims
       → ((unit : AleUnit) → committed_unit (meaning before.world.rules) before.world claim.tid ≡ Some unit
       → Appended before after (shipment letter (answer_to (meaning before.world.rules) before.world unit) unit))
       → ClaimShippedAs faults before after lines lines_after claim (Ok (Some n))
-  claim-shipped before after lines lines_after claim tid letter n is stands its next taken went answered fewer grew = (
+  claim-shipped before after lines lines_after claim tid letter n is stands its next taken went answered left grew = (
     stands,
-    λ moves.
-        let unit = claimed-committed meaning is_lawful before is claim stands in
-        let appended = grew unit.0 unit.1 in (
-          appended.0,
-          subst (λ t. HasShipped faults before after lines lines_after t (next_letter (letters_left lines t)) appended.0) its
-              (subst (λ l. HasShipped faults before after lines lines_after tid l appended.0) next (record {
-                unit = unit.0;
-                committed = ap (committed_unit (meaning before.world.rules) before.world) its ∙ unit.1;
-                may = ap (may_ship (meaning before.world.rules) before.world) its
-                    ∙ claimed-ships (meaning before.world.rules) (is_lawful before.world.rules) before.world is.safe claim stands moves;
-                next = next;
-                taken = taken;
-                went = went;
-                grew = appended.1;
-              })),
-        ),
+    appended.0,
+    subst (λ t. WasShipped faults before after lines lines_after t (next_letter (letters_left lines t)) appended.0) its
+        (subst (λ l. WasShipped faults before after lines lines_after tid l appended.0) next (record {
+          unit = unit.0;
+          committed = ap (committed_unit (meaning before.world.rules) before.world) its ∙ unit.1;
+          next = next;
+          taken = taken;
+          went = went;
+          grew = appended.1;
+        })),
+    λ moves. claimed-ships (meaning before.world.rules) (is_lawful before.world.rules) before.world is.safe claim stands moves,
     answered.count,
-    fewer,
+    left,
     answered.few,
   )
+    where
+      unit : (sent : AleUnit) × (committed_unit (meaning before.world.rules) before.world claim.tid ≡ Some sent)
+      unit = claimed-committed meaning is_lawful before is claim stands
+
+      appended : Appended before after (shipment letter (answer_to (meaning before.world.rules) before.world unit.0) unit.0)
+      appended = grew unit.0 unit.1
 
   pub claim-shipped-short : (before after : KeptOf ModelRules DocumentTables V) (lines lines_after : Lines) (claim : OutClaim)
       (result : Result (Option ℕ) OutOfMemory) → IsErr result
@@ -411,35 +436,24 @@ module _ {V : Type 0} (faults : V → ℕ → ℕ) where
   claim-shipped-short before after lines lines_after claim (Ok found) short went = absurd (cc)
   claim-shipped-short before after lines lines_after claim (Err why) short went = went
 
-  -- the unit of a claim that was made before was executed
+  -- the work of a claim that was made before ended
   pub claim-executed : (before after : KeptOf ModelRules DocumentTables V) (claim : InClaim) (given : Finished) (n : ℕ)
       → IsLandscape meaning before.world
       → (stands_in before.world claim ≡ false → after ≡ before)
       → Worked faults before after is_end true → finished_in after.world ≡ finished_in before.world + ended_by given
-      → NoneAdded before.world.claims after.world.claims
+      → (stands_in before.world claim ≡ true → AreOrGone before.world after.world (without_claim before.world claim.number).claims)
       → ((held : Held) → HoldsIn before.world claim held → FinishedSo (meaning before.world.rules) before after claim held given)
       → n ≡ ended_by given → ClaimExecutedAs faults before after claim (Ok n)
-  claim-executed before after claim given n is stale went more fewer grew told = (
+  claim-executed before after claim given n is stale went more left grew told = (
     stale,
-    λ held holds kind moves.
-        let its = ap (worked_by (meaning before.world.rules) before.world held) kind in
-        let may = claimed-executes (meaning before.world.rules) (is_lawful before.world.rules) before.world is.safe claim held holds kind moves in
-        let wide = wider faults is_end is_execution true before after end-executes went in
-        elim (grew held holds) [
-          | inl ended ↦ (
-            true,
-            record { may = may; went = wide; grew = subst (λ xs. AppendedAs before after xs true) its ended.grew },
-            told ∙ ended.ended,
-          )
-          | inr fell ↦
-              let cut = fell.0 in (
-                false,
-                record { may = may; went = wide; grew = subst (λ xs. AppendedAs before after xs false) its cut.cut },
-                told ∙ fell.1,
-              )
-        ],
+    wider faults is_end is_execution true before after end-executes went,
+    λ held holds. elim (grew held holds) [
+      | inl ended ↦ (true, ended.grew, told ∙ ended.ended)
+      | inr fell ↦ let cut = fell.0 in (false, cut.cut, told ∙ fell.1)
+    ],
+    claimed-executes (meaning before.world.rules) (is_lawful before.world.rules) before.world is.safe claim,
     more ∙ ap (λ k. finished_in before.world + k) (sym told),
-    fewer,
+    left,
     subst (λ k. k ≤ 1) (sym told) (few given),
   )
     where

@@ -17,16 +17,20 @@ use Rattle.unit_works.specs.Trips.{AppendedAs, shipment, execution, confirmation
 use Rattle.unit_works.specs.Worked.{HasTaken, HaveOnlyClaimed, Lines, Worked}
 
 module _ {V : Type 0} (faults : V → ℕ → ℕ) (before after : KeptOf ModelRules DocumentTables V) where
-  -- A unit that may be shipped took its next letter, which is this one, and was shipped under it, as its receiver answered before: the
-  -- records of that shipment were appended, or it was cut.
-  pub record HasShipped (lines lines_after : Lines) (tid : TidOf) (letter : Letter) (whole : Bool) : Type 0 where
+  -- A unit took its next letter, which is this one, and was shipped under it, as its receiver answered before: the records of that shipment
+  -- were appended, or it was cut.
+  pub record WasShipped (lines lines_after : Lines) (tid : TidOf) (letter : Letter) (whole : Bool) : Type 0 where
     pub unit : AleUnit
     pub committed : committed_unit (model_meaning before.world.rules.systems) before.world tid ≡ Some unit
-    pub may : may_ship (model_meaning before.world.rules.systems) before.world tid ≡ true
     pub next : letter ≡ next_letter (letters_left lines tid)
     pub taken : HasTaken tid lines lines_after
     pub went : Worked faults before after (is_shipping letter) true
     pub grew : AppendedAs before after (shipment letter (answer_to (model_meaning before.world.rules.systems) before.world unit) unit) whole
+
+  -- so was a unit that may be shipped
+  pub record HasShipped (lines lines_after : Lines) (tid : TidOf) (letter : Letter) (whole : Bool) : Type 0 where
+    pub may : may_ship (model_meaning before.world.rules.systems) before.world tid ≡ true
+    pub was : WasShipped lines lines_after tid letter whole
 
   -- A unit that may be executed at a system was: the record of that was appended, or it was cut.
   pub record HasExecuted (system : ℕ) (tid : TidOf) (whole : Bool) : Type 0 where

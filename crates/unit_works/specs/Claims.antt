@@ -1,5 +1,5 @@
 -- The claims that are left.
-use Rattle.std.specs.Prelude.{◌≡◌, ◌⊎◌, ℕ, Bool, true, false, not, List, []}
+use Rattle.std.specs.Prelude.{◌≡◌, ◌⊎◌, ℕ, true, false, not, List, []}
 use Rattle.std.specs.List.{list_all}
 use Rattle.trfc_protocol.specs.declared.held.Held.{Held}
 use Rattle.trfc_protocol.specs.declared.held.HeldKind.TheVariants.{Direct}
@@ -17,10 +17,6 @@ AreOrGone before after these = (after.claims ≡ these) ⊎ ((after.claims ≡ [
 -- claims are these; or there are none, as where a system fell or all were given up
 abbrev pub AreOrNone : List Held → List Held → Type 0
 AreOrNone claims these = (claims ≡ these) ⊎ (claims ≡ [])
-
--- no claim was added: what is so of each claim before is so of each one now
-abbrev pub NoneAdded : List Held → List Held → Type 0
-NoneAdded before after = (is : Held → Bool) → list_all is before ≡ true → list_all is after ≡ true
 
 -- no claim to run a unit as it arrives stands
 abbrev pub NoneRuns : List Held → Type 0

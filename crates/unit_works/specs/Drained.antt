@@ -14,7 +14,7 @@ use Rattle.kept_world.specs.Kept.{KeptOf}
 use Rattle.document_tables.specs.declared.document_tables.DocumentTables.{DocumentTables}
 use Rattle.model_rules.specs.declared.model_rules.ModelRules.{ModelRules}
 use Rattle.model_rules.specs.Meaning.{model_meaning}
-use Rattle.unit_works.specs.Claims.{AreOrNone}
+use Rattle.unit_works.specs.Claims.{AreOrNone, NoneRuns}
 use Rattle.unit_works.specs.Events.{is_work}
 use Rattle.unit_works.specs.Finished.{finished_in}
 use Rattle.unit_works.specs.Worked.{HaveTaken, Lines, Worked}
@@ -26,6 +26,11 @@ use Rattle.unit_works.specs.Trips.{is_due}
 pub record IsIdle (world : World ModelRules) : Type 0 where
   pub outbound : (tid : TidOf) → is_offered_outbound (model_meaning world.rules.systems) world tid ≡ false
   pub inbound : (system : ℕ) (tid : TidOf) → is_offered_inbound world system tid ≡ false
+
+-- its sender says of a unit that it is done, or it marked it: it is not shipped any more
+abbrev pub IsSettled : World ModelRules → TidOf → Type 0
+IsSettled world tid =
+    (is_listed tid (done_in (log_of world tid.system)) ≡ true) ⊎ (is_marked Outgoing tid (log_of world tid.system) ≡ true)
 
 module _ {V : Type 0} (faults : V → ℕ → ℕ) (before : KeptOf ModelRules DocumentTables V) (lines : Lines) (after : KeptOf ModelRules DocumentTables V)
     (lines_after : Lines) where
@@ -45,9 +50,15 @@ module _ {V : Type 0} (faults : V → ℕ → ℕ) (before : KeptOf ModelRules D
       → committed_unit (model_meaning after.world.rules.systems) after.world unit.tid ≡ Some unit → is_due after.world unit ≡ true
       → list_any (loses unit.tid) acts ≡ true
 
-  -- Each unit takes a second letter only where a system fell in its act before: each of its acts but the last was cut.
+  -- a system fell in each of these acts in which a unit took a letter; or in each but the last, and its sender says that it is done or
+  -- marked
+  abbrev pub TakesOnce : List Act → TidOf → Type 0
+  TakesOnce acts tid =
+      (list_all is_cut (filter (takes tid) acts) ≡ true) ⊎ ((each_but_last_cut (filter (takes tid) acts) ≡ true) × IsSettled after.world tid)
+
+  -- so of each unit: it takes a second letter only where a system fell in its act before
   abbrev pub AreOnce : List Act → Type 0
-  AreOnce acts = (tid : TidOf) → each_but_last_cut (filter (takes tid) acts) ≡ true
+  AreOnce acts = (tid : TidOf) → TakesOnce acts tid
 
   -- Where no queue was stopped before, no unit was marked and none had a letter left, and all systems are up at the end, and offer the functions
   -- of the units that were committed for them, each of these units went its whole way; and again none is held up.
@@ -71,13 +82,6 @@ module _ {V : Type 0} (faults : V → ℕ → ℕ) (before : KeptOf ModelRules D
   DrainedAs (Ok n) = HasDrained n
   DrainedAs (Err short) = Worked faults before after is_work false
 
--- ---- what only private functions cite
-
--- its sender says of a unit that it is done, or it marked it: it is not shipped any more
-abbrev pub IsSettled : World ModelRules → TidOf → Type 0
-IsSettled world tid =
-    (is_listed tid (done_in (log_of world tid.system)) ≡ true) ⊎ (is_marked Outgoing tid (log_of world tid.system) ≡ true)
-
 -- an act ships a unit, or executes one
 abbrev pub is_round : Act → Bool
 is_round (ship tid letter whole) = true
@@ -86,18 +90,14 @@ is_round (confirm tid letter whole) = false
 
 module _ {V : Type 0} (faults : V → ℕ → ℕ) (before : KeptOf ModelRules DocumentTables V) (lines : Lines) (after : KeptOf ModelRules DocumentTables V)
     (lines_after : Lines) where
-  -- a system fell in each of these acts in which a unit took a letter; or in each but the last, and its sender says that it is done or
-  -- marked
-  abbrev pub TakesOnce : List Act → TidOf → Type 0
-  TakesOnce acts tid =
-      (list_all is_cut (filter (takes tid) acts) ≡ true) ⊎ ((each_but_last_cut (filter (takes tid) acts) ≡ true) × IsSettled after.world tid)
-
-  -- Works were done, and each act ships a unit or executes one. Where no claim stood before, each unit took one letter, and one more only
-  -- where a system fell.
+  -- Works were done, and each act ships a unit or executes one. Where no run was claimed before, each unit took one letter at most, and one
+  -- more only where a system fell.
   pub record HasGone (n : ℕ) : Type 0 where
     pub worked : HasWorked faults before lines after lines_after n
     pub ships : list_all is_round worked.acts ≡ true
-    pub once : before.world.claims ≡ [] → (tid : TidOf) → TakesOnce worked.acts tid
+    pub once : NoneRuns before.world.claims → (tid : TidOf) → TakesOnce faults before lines after lines_after worked.acts tid
+
+  -- ---- what only private functions cite
 
   -- Works were found, and at most so many runs and executions ended. Where none was found, nothing has changed, and this holds.
   abbrev pub Found : ℕ → Type 0 → Option ℕ → Type 0

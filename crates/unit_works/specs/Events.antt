@@ -95,13 +95,6 @@ is_confirmation (event.Reply (Forgotten tid)) = true
 is_confirmation (event.Fall system kept) = is_works_rest kept
 is_confirmation _ = false
 
--- ---- what only private functions cite
-
--- nothing came back
-abbrev pub is_lost : Reply → Bool
-is_lost reply.Lost = true
-is_lost _ = false
-
 -- what happens as a unit is claimed to be shipped
 abbrev pub is_claim : Event → Bool
 is_claim (event.Claim tid) = true
@@ -111,6 +104,13 @@ is_claim _ = false
 abbrev pub is_run : Event → Bool
 is_run (event.Run tid) = true
 is_run _ = false
+
+-- ---- what only private functions cite
+
+-- nothing came back
+abbrev pub is_lost : Reply → Bool
+is_lost reply.Lost = true
+is_lost _ = false
 
 -- what happens as a unit arrives
 abbrev pub is_arrival : Event → Bool

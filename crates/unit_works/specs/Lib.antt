@@ -12,11 +12,15 @@ pub mod Worked
 pub mod Trips
 -- acts, and lists of them
 pub mod Acts
+-- a unit is claimed
+pub mod Claiming
 -- a unit is shipped, or executed
 pub mod Works
 -- units go their whole way where nothing holds them up
 pub mod Through
 -- works are done until none is left
 pub mod Drained
+-- the two parts of a drain
+pub mod Rounds
 -- what only private functions cite
 pub mod steps

@@ -16,7 +16,10 @@ use Rattle.trfc_protocol.specs.declared.event.CoreAnswer.TheVariants as reply
 use Rattle.trfc_protocol.specs.Meaning.{Meaning}
 use Rattle.trfc_protocol.specs.Worlds.{is_up, log_of, rest_of, committed_by, committed_unit}
 use Rattle.trfc_protocol.specs.Legal.{is_free_outbound, is_free_inbound}
-use Rattle.trfc_protocol.specs.Offered.{is_stopped_outbound, is_stopped_inbound, may_move}
+use Rattle.trfc_protocol.specs.declared.held.Held.{Held}
+use Rattle.trfc_protocol.specs.declared.held.HeldKind.{HeldKind}
+use Rattle.trfc_protocol.specs.declared.held.HeldKind.TheVariants as kind
+use Rattle.trfc_protocol.specs.Offered.{is_stopped_outbound, is_stopped_inbound, may_move, offers_received_now}
 use Rattle.trfc_protocol.specs.RecordOf.{Writing}
 use Rattle.kept_world.specs.Kept.{KeptOf, overrun_at}
 use Rattle.unit_landscape.specs.Writes.{IsTooLong}
@@ -44,13 +47,18 @@ pub record DidNotFit {R A V : Type 0} (after : KeptOf R A V) (next : Writing) : 
   pub long : IsTooLong after.journals next size
   pub told : overrun_at after next.system ≡ Some size
 
+-- A volume failed as a record was to be appended, and its faults rose (`HasCause`): its system may find that record, and no length is kept.
+pub record HasFailed {R A V : Type 0} (after : KeptOf R A V) (next : Writing) : Type 0 where
+  pub finds : rest_of after.world next.system ≡ Some next.next
+  pub untold : overrun_at after next.system ≡ None
+
 -- These records were appended, one after the other, and a system fell as it was to append one more: its volume failed, and it may find that
 -- one; or that one did not fit. All other systems are up or down as before, and may find what they might.
 pub record CutAt {R A V : Type 0} (before after : KeptOf R A V) (done : List Writing) (next : Writing) : Type 0 where
   pub grew : HaveGrown before.world after.world done
   pub up : is_up before.world next.system ≡ true
   pub fell : is_up after.world next.system ≡ false
-  pub why : (rest_of after.world next.system ≡ Some next.next) ⊎ DidNotFit after next
+  pub why : HasFailed after next ⊎ DidNotFit after next
   pub others : (system : ℕ) → system ≢ next.system
       → (is_up after.world system ≡ is_up before.world system) × (rest_of after.world system ≡ rest_of before.world system)
 
@@ -69,8 +77,8 @@ Appended before after added = (whole : Bool) × AppendedAs before after added wh
 abbrev pub one_at : ℕ → Record → List Writing
 one_at system next = record { system = system; next = next } ∷ []
 
--- what a receiver appends as a unit arrives that it answers so: it takes the unit in, or takes it in and executes it in one record, or has
--- it, is busy with it, or can't execute it
+-- what a receiver appends as a unit arrives that it answers so: it takes the unit in, or takes it in and executes it in one record; nothing
+-- where it has it, is busy with it, can't execute it, or is down
 abbrev pub taken_in : Answer → AleUnit → List Writing
 taken_in answer.New unit = one_at unit.receiver (Accept unit)
 taken_in answer.Run unit = one_at unit.receiver (Direct unit)
@@ -118,6 +126,17 @@ shipment letter given unit =
 abbrev pub execution : Bool → ℕ → TidOf → List Writing
 execution offered system tid = one_at system (if offered then Execute tid else Fail tid)
 
+-- the record of a run: the unit of the claim was taken in and executed
+abbrev pub run_at : ℕ → Option AleUnit → List Writing
+run_at system (Some unit) = one_at system (Direct unit)
+run_at system None = []
+
+-- what is appended as the work of a claim ends: that its unit was executed or failed, or that it was run
+abbrev pub worked_by : {R : Type 0} → Meaning → World R → Held → HeldKind → List Writing
+worked_by rules world held kind.In = execution (offers_received_now rules world held.system held.tid) held.system held.tid
+worked_by rules world held kind.Direct = run_at held.system (committed_unit rules world held.tid)
+worked_by rules world held kind.Out = []
+
 -- What is appended as a unit is confirmed that was done before: its receiver forgets the id, unless it has, and its sender notes that it
 -- did; nothing where the confirmation is lost.
 abbrev pub confirmation : Letter → Bool → AleUnit → List Writing
@@ -148,3 +167,9 @@ module _ {R : Type 0} (world : World R) where
   -- the receiver of a unit has forgotten it
   abbrev pub forgot : AleUnit → Bool
   forgot unit = is_listed unit.tid (forgotten_in (log_of world unit.receiver))
+
+-- a unit of this id was committed, and its confirmation is due
+pub record IsDueOf {R : Type 0} (rules : Meaning) (world : World R) (tid : TidOf) : Type 0 where
+  pub unit : AleUnit
+  pub committed : committed_unit rules world tid ≡ Some unit
+  pub due : is_due world unit ≡ true

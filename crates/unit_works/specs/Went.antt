@@ -1,5 +1,5 @@
 -- A landscape goes on by events.
-use Rattle.std.specs.Prelude.{◌≡◌, ◌≤◌, ◌<◌, ◌⊎◌, ◌-◌, ◌^◌, ℕ, Bool, true, false, Option, Some, None, List, ◌++◌, slice_get}
+use Rattle.std.specs.Prelude.{◌≡◌, ◌≤◌, ◌<◌, ◌⊎◌, ◌-◌, ◌^◌, ℕ, zero, suc, Bool, true, false, Option, Some, None, List, [], ◌∷◌, ◌++◌, slice_get}
 use Rattle.std.specs.List.{list_all}
 use Rattle.ale_base.specs.Tid.{TidOf}
 use Rattle.unit_core.specs.declared.ale_unit.AleUnit.{AleUnit}
@@ -11,7 +11,7 @@ use Rattle.trfc_protocol.specs.Happens.{run}
 use Rattle.trfc_protocol.specs.Meaning.{Meaning}
 use Rattle.trfc_protocol.specs.Legal.{may_follow}
 use Rattle.trfc_protocol.specs.Worlds.{committed_unit, is_up, log_of, rest_of}
-use Rattle.system_journals.specs.OnDisk.{moment_of, next_moment}
+use Rattle.system_journals.specs.OnDisk.{last_moment, later, moment_of, moments_at, next_moment}
 use Rattle.kept_world.specs.Kept.{KeptOf, overrun_at}
 use Rattle.unit_landscape.specs.Writes.{IsTooLong}
 use Rattle.unit_works.specs.Events.{is_works_record}
@@ -36,9 +36,10 @@ module _ {R A V : Type 0} (meaning : R → Meaning) (faults : V → ℕ → ℕ)
     pub long : IsTooLong after.journals (record { system = system; next = next }) size
     pub told : overrun_at after system ≡ Some size
 
-  -- why a system is down that was up: its volume failed as it was to write a record, which it may find, or a record did not fit on it
+  -- why a system is down that was up: its volume failed as it was to write a record, which it may find, and no length is kept; or a record
+  -- did not fit on it
   abbrev pub HasCause : Option Record → Type 0
-  HasCause (Some next) = HasRisen (faults before.vols (system - 1)) (faults after.vols (system - 1))
+  HasCause (Some next) = HasRisen (faults before.vols (system - 1)) (faults after.vols (system - 1)) × (overrun_at after system ≡ None)
   HasCause None = IsUnfit
 
 -- a system is down as it was before, with its log, what it may find, its journal, and what is kept of its length
@@ -55,9 +56,19 @@ abbrev pub HaveWorksBehind : {R : Type 0} → World R → World R → Type 0
 HaveWorksBehind before after = (system : ℕ)
     → (added : List Record) × (log_of after system ≡ log_of before system ++ added) × (list_all is_works_record added ≡ true)
 
+-- the moments of a log with so many more behind them, each the one that is set, or the last before it where that is later
+abbrev pub with_more : Option ℕ → ℕ → List (Option ℕ) → List (Option ℕ)
+with_more set zero moments = moments
+with_more set (suc n) moments = with_more set n (moments ++ later set (last_moment moments) ∷ [])
+
+-- The records that were added to a log have such moments. That there are as many moments as records is kept by the journals (`IsOnDisk`).
+abbrev pub AreStamped : Option ℕ → List (Option ℕ) → List (Option ℕ) → Type 0
+AreStamped set before after = (n : ℕ) × (after ≡ with_more set n before)
+
 -- A landscape went on by events that may happen: its world is the one that these make of the one before, by the same rules. Each log is the
--- one before with records of works behind it, and the units that are committed are those that were. The moment that is set is as before. No
--- count of faults fell, and that of a system that is up has not changed. Systems that were down stay so; and where the work is whole, those
+-- one before with records of works behind it, and the units that are committed are those that were. The moment that is set is as before,
+-- and the records behind have it, or the last of their log where that is later. No count of faults fell, and that of a system that is up has
+-- not changed. Systems that were down stay so; and where the work is whole, those
 -- that fell had a cause.
 pub record WentOn {R A V : Type 0} (meaning : R → Meaning) (faults : V → ℕ → ℕ) (may : Event → Bool) (whole : Bool) (before after : KeptOf R A V) : Type 0
   where
@@ -68,6 +79,7 @@ pub record WentOn {R A V : Type 0} (meaning : R → Meaning) (faults : V → ℕ
     pub logs : HaveWorksBehind before.world after.world
     pub committed : (tid : TidOf) → committed_unit (meaning after.world.rules) after.world tid ≡ committed_unit (meaning before.world.rules) before.world tid
     pub moment : moment_of after.journals ≡ moment_of before.journals
+    pub moments : (place : ℕ) → AreStamped (moment_of before.journals) (moments_at before.journals place) (moments_at after.journals place)
     pub counts : (place : ℕ) → HasNotFallen (faults before.vols place) (faults after.vols place)
     pub unharmed : (system : ℕ) → 1 ≤ system → is_up after.world system ≡ true → faults after.vols (system - 1) ≡ faults before.vols (system - 1)
     pub stays : (system : ℕ) → 1 ≤ system → is_up before.world system ≡ false → StaysDown before after system

@@ -8,7 +8,7 @@ use Rattle.unit_core.specs.Queues.{unit_named}
 use Rattle.trfc_protocol.specs.declared.held.Held.{Held}
 use Rattle.trfc_protocol.specs.declared.held.HeldKind.TheVariants.{In}
 use Rattle.trfc_protocol.specs.Offered.{is_stopped_inbound, is_stopped_outbound, may_move}
-use Rattle.trfc_protocol.specs.Worlds.{committed_unit, log_of}
+use Rattle.trfc_protocol.specs.Worlds.{committed_unit, log_of, without_claim}
 use Rattle.kept_world.specs.Kept.{KeptOf}
 use Rattle.kept_world.specs.Answers.{first_to_go}
 use Rattle.document_tables.specs.declared.document_tables.DocumentTables.{DocumentTables}
@@ -19,11 +19,12 @@ use Rattle.unit_landscape.specs.declared.claims.OutClaim.{OutClaim}
 use Rattle.unit_landscape.specs.Appending.{HoldsIn}
 use Rattle.unit_landscape.specs.Calls.{stands_in, stands_out}
 use Rattle.wires.specs.Wires.{letters_left, next_letter}
-use Rattle.unit_works.specs.Claims.{NoneAdded}
+use Rattle.unit_works.specs.Claims.{AreOrGone}
 use Rattle.unit_works.specs.Events.{is_execution, is_work}
 use Rattle.unit_works.specs.Finished.{finished_in}
 use Rattle.unit_works.specs.Worked.{HaveEnded, Lines, NothingIn, NothingOut, Worked}
-use Rattle.unit_works.specs.Acts.{HasExecuted, HasShipped}
+use Rattle.unit_works.specs.Acts.{HasExecuted, HasShipped, WasShipped}
+use Rattle.unit_works.specs.Trips.{AppendedAs, may_execute, may_ship, worked_by}
 
 module _ {V : Type 0} (faults : V → ℕ → ℕ) (before after : KeptOf ModelRules DocumentTables V) where
   -- The first unit that is offered outbound at a system was shipped under its next letter, whole or cut, and at most one run ended; or there
@@ -52,29 +53,38 @@ module _ {V : Type 0} (faults : V → ℕ → ℕ) (before after : KeptOf ModelR
       × (n ≡ (if whole then 1 else 0))
   ExecutedAs system (Err short) = Worked faults before after is_execution false
 
-  -- The unit of a claim was shipped under its next letter, whole or cut, where none of its outbound queues is stopped, as none is where it
-  -- was claimed; at most one run ended, and no claim was added. Or the claim did not stand, and nothing has changed.
+  -- The unit of a claim was shipped under its next letter, whole or cut; it may be shipped where none of its outbound queues is stopped, as
+  -- none is where it was claimed. At most one run ended. Its claim is gone, and all others stand; or there are none, and a system fell. Or the
+  -- claim did not stand, and nothing has changed.
   abbrev pub ClaimShippedAs : Lines → Lines → OutClaim → Result (Option ℕ) OutOfMemory → Type 0
   ClaimShippedAs lines lines_after claim (Ok None) = (after ≡ before) × (lines_after ≡ lines) × (stands_out before.world claim ≡ false)
   ClaimShippedAs lines lines_after claim (Ok (Some n)) =
       (stands_out before.world claim ≡ true)
+      × (whole : Bool)
+      × WasShipped faults before after lines lines_after claim.tid (next_letter (letters_left lines claim.tid)) whole
       × (may_move (is_stopped_outbound (log_of before.world claim.tid.system))
       (committed_unit (model_meaning before.world.rules.systems) before.world claim.tid) ≡ true
-      → (whole : Bool) × HasShipped faults before after lines lines_after claim.tid (next_letter (letters_left lines claim.tid)) whole)
+      → may_ship (model_meaning before.world.rules.systems) before.world claim.tid ≡ true)
       × (finished_in after.world ≡ finished_in before.world + n)
-      × NoneAdded before.world.claims after.world.claims
+      × AreOrGone before.world after.world (without_claim before.world claim.number).claims
       × (n ≤ 1)
   ClaimShippedAs lines lines_after claim (Err short) = Worked faults before after is_work false
 
-  -- The unit of a claim was executed, whole or cut, where none of its inbound queues is stopped, as none is where it was claimed; so many
-  -- executions ended, and no claim was added. Where the claim did not stand nothing has changed.
+  -- The work of a claim that stands ended, whole or cut: of one to execute a unit, which may be executed where none of its inbound queues is
+  -- stopped, as none is where it was claimed; or of one to run a unit. So many executions and runs ended. Its claim is gone, and all others
+  -- stand; or there are none, and a system fell. Where the claim did not stand nothing has changed.
   abbrev pub ClaimExecutedAs : InClaim → Result ℕ OutOfMemory → Type 0
   ClaimExecutedAs claim (Ok n) =
       (stands_in before.world claim ≡ false → after ≡ before)
+      × Worked faults before after is_execution true
+      × ((held : Held) → HoldsIn before.world claim held
+      → (whole : Bool)
+      × AppendedAs before after (worked_by (model_meaning before.world.rules.systems) before.world held held.kind) whole
+      × (n ≡ (if whole then 1 else 0)))
       × ((held : Held) → HoldsIn before.world claim held → held.kind ≡ In
       → may_move (is_stopped_inbound (log_of before.world held.system)) (unit_named held.tid (received (log_of before.world held.system))) ≡ true
-      → (whole : Bool) × HasExecuted faults before after held.system held.tid whole × (n ≡ (if whole then 1 else 0)))
+      → may_execute before.world held.system held.tid ≡ true)
       × (finished_in after.world ≡ finished_in before.world + n)
-      × NoneAdded before.world.claims after.world.claims
+      × (stands_in before.world claim ≡ true → AreOrGone before.world after.world (without_claim before.world claim.number).claims)
       × (n ≤ 1)
   ClaimExecutedAs claim (Err short) = Worked faults before after is_execution false

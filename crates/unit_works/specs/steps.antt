@@ -4,8 +4,6 @@
 pub mod Claims
 -- a unit arrives, and once more
 pub mod Arriving
--- a unit is claimed
-pub mod Claiming
 -- the work of a claim ends
 pub mod Ending
 -- a confirmation comes to its receiver

@@ -10,18 +10,17 @@ ghost use Rattle.trfc_protocol.specs.declared.event.CoreAnswer.TheVariants as co
 ghost use Rattle.trfc_protocol.specs.declared.held.Held.{Held};
 ghost use Rattle.trfc_protocol.specs.declared.held.HeldKind.TheVariants.{Direct};
 ghost use Rattle.trfc_protocol.specs.Offered.{answer_to};
-ghost use Rattle.trfc_protocol.specs.Worlds.{committed_unit};
+ghost use Rattle.trfc_protocol.specs.Worlds.{committed_unit, without_claim};
 ghost use Rattle.model_rules.specs.Meaning.{model_meaning};
 ghost use Rattle.unit_landscape.specs.declared.answers.Arrival.TheVariants.{Down};
 ghost use Rattle.unit_landscape.specs.Calls.{reply_event, stands_out};
 ghost use Rattle.landscape.specs.Working.{IsPreparedFor};
-ghost use Rattle.unit_works.specs.Claims.{AreOrGone, NoneAdded};
+ghost use Rattle.unit_works.specs.Claims.{AreOrGone};
 ghost use Rattle.unit_works.specs.Events.{arrives_under, is_delivery, is_end, is_reply};
 ghost use Rattle.unit_works.specs.Finished.{finished_in};
 ghost use Rattle.unit_works.specs.Trips.{Appended, noted_of};
 ghost use Rattle.unit_works.specs.Worked.{Worked};
 ghost use Rattle.unit_works.specs.steps.Arriving.{AnsweredSo, ClaimsAre, DeliveredSo, IsAnswered, IsReadyFor, Says, Tells, event_of};
-ghost use Rattle.unit_works.specs.steps.Claims.{AreWithOut};
 ghost use Rattle.unit_works.specs.steps.Ending.{IsRun, ended_by};
 
 use crate::arriving::arrive_under;
@@ -135,9 +134,8 @@ pub(crate) fn reply<V: Volumes>(
 ) -> Result<(), OutOfMemory>
     ensures went { Worked V.faults landscape.old landscape.new (is_reply given) (is_ok result) }
     ensures finished { OnOk result (finished_in landscape.new.world ≡ finished_in landscape.old.world) }
-    ensures claims { (others : List Held) → AreWithOut landscape.old.world.claims others claim
-        → OnOk result (AreOrGone landscape.old.world landscape.new.world others) }
-    ensures fewer { OnOk result (NoneAdded landscape.old.world.claims landscape.new.world.claims) }
+    ensures left { OnOk result (stands_out landscape.old.world claim ≡ true
+        → AreOrGone landscape.old.world landscape.new.world (without_claim landscape.old.world claim.number).claims) }
     ensures grew { (learnt : Option CoreAnswer) → stands_out landscape.old.world claim ≡ true
         → reply_event (model_meaning landscape.old.world.rules.systems) landscape.old.world claim given ≡ event_of learnt claim.number
         → OnOk result (Appended landscape.old landscape.new (noted_of learnt claim.tid)) }

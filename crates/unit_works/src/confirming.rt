@@ -12,12 +12,14 @@ ghost use Rattle.system_tables.specs.OfLog.{is_unconfirmed};
 ghost use Rattle.trfc_protocol.specs.Worlds.{committed_unit, is_up, log_of};
 ghost use Rattle.unit_landscape.specs.Calls.{is_forgotten};
 ghost use Rattle.model_rules.specs.Meaning.{model_meaning};
+ghost use Rattle.unit_works.specs.Claims.{AreOrGone};
 ghost use Rattle.unit_works.specs.Events.{is_confirmation, is_confirmed_under, is_confirming, is_sent_under};
 ghost use Rattle.unit_works.specs.Finished.{finished_in};
 ghost use Rattle.unit_works.specs.Trips.{Appended, confirmation, forgot, is_due, one_at};
 ghost use Rattle.unit_works.specs.Worked.{HaveEnded, Worked};
-ghost use Rattle.unit_works.specs.steps.Confirming.{Forgets, IsDueOf, SentSo};
-ghost use Rattle.unit_works.specs.steps.Rounds.{VisitedSo};
+ghost use Rattle.unit_works.specs.Trips.{IsDueOf};
+ghost use Rattle.unit_works.specs.steps.Confirming.{Forgets, SentSo};
+ghost use Rattle.unit_works.specs.Rounds.{VisitedSo};
 ghost use Rattle.wires.specs.declared.letter.Letter.TheVariants.{Whole};
 ghost use Rattle.wires.specs.Wires.{letters_left, next_letter};
 
@@ -29,7 +31,8 @@ use unit_landscape::{Closed, Confirmed};
 use wires::{Letter, Wires};
 
 /// Sends the confirmation of a unit that is done and not ended, and then the reply to it. Nothing changes where it is not done or ended,
-/// or one of its systems is down. Where it is done and not ended and both its systems are up, the logs grow by exactly the record of the
+/// or one of its systems is down, or no unit has this id. Where it is done and not ended and both its systems are up, the logs grow by
+/// exactly the record of the
 /// receiver, unless it has forgotten the unit before, and that of the sender; where one of them falls as it is to append its record, the
 /// records before that one stand, and none behind it. After an `Err` the confirmation may have come to the receiver.
 pub fn confirm<V: Volumes>(landscape: &mut Landscape<V>, tid: Tid) -> Result<(), OutOfMemory>
@@ -37,12 +40,13 @@ pub fn confirm<V: Volumes>(landscape: &mut Landscape<V>, tid: Tid) -> Result<(),
     ensures ended { OnOk result (HaveEnded V.faults landscape.old landscape.new 0) }
     ensures same { (is_up landscape.old.world tid.system && is_unconfirmed tid (log_of landscape.old.world tid.system)) ≡ false
         → landscape.new ≡ landscape.old }
+    ensures none { (IsDueOf (model_meaning landscape.old.world.rules.systems) landscape.old.world tid → ⊥) → landscape.new ≡ landscape.old }
     ensures due { (unit : AleUnit) → committed_unit (model_meaning landscape.old.world.rules.systems) landscape.old.world tid ≡ Some unit
         → is_due landscape.old.world unit ≡ true
         → OnOk result (Appended landscape.old landscape.new (confirmation Whole (forgot landscape.old.world unit) unit)) }
 {
     let _ = landscape.world();
-    if !landscape.is_unconfirmed(tid) {
+    if !is_due(landscape, tid) {
         return Ok(());
     }
     confirm_done(landscape, tid)
@@ -121,7 +125,8 @@ pub(crate) fn confirm_each<V: Volumes>(
     tids: &[Tid],
 ) -> Result<(), OutOfMemory>
     requires apart { IsDistinct is_tid tids.now }
-    ensures { VisitedSo V.faults landscape.old wires.old landscape.new wires.new (λ (other : TidOf). is_listed other tids.now ≡ true) result }
+    ensures visited { VisitedSo V.faults landscape.old wires.old landscape.new wires.new (λ (other : TidOf). is_listed other tids.now ≡ true) result }
+    ensures claims { OnOk result (AreOrGone landscape.old.world landscape.new.world landscape.old.world.claims) }
 {
     for tid in tids {
         confirm_due(landscape, wires, *tid)?;
@@ -138,6 +143,7 @@ fn confirm_due<V: Volumes>(
 ) -> Result<(), OutOfMemory>
     ensures worked { VisitedSo V.faults landscape.old wires.old landscape.new wires.new (λ (other : TidOf). other ≡ tid) result }
     ensures lost { is_sent_under (next_letter (letters_left wires.old tid)) ≡ false → landscape.new ≡ landscape.old }
+    ensures claims { OnOk result (AreOrGone landscape.old.world landscape.new.world landscape.old.world.claims) }
 {
     let _ = landscape.world();
     if !is_due(landscape, tid) {

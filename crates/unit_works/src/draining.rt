@@ -1,8 +1,9 @@
 //! The two parts of a drain: confirmations that are due are sent, and units are shipped and executed until none is left.
 
-ghost use Rattle.std.specs.Prelude.{◌≡◌};
+ghost use Rattle.std.specs.Prelude.{◌≡◌, OnOk};
 ghost use Rattle.ale_base.specs.Tid.{TidOf};
-ghost use Rattle.unit_works.specs.steps.Rounds.{IsTo, RoundsAs, VisitedSo};
+ghost use Rattle.unit_works.specs.Claims.{AreOrGone};
+ghost use Rattle.unit_works.specs.Rounds.{IsTo, RoundsAs, VisitedSo};
 
 use crate::confirming::confirm_each;
 use crate::rounds::go_round;
@@ -17,12 +18,13 @@ use wires::Wires;
 const MOST_ROUNDS: u32 = 4_000_000;
 
 /// Confirms each unit that is done and not ended, with both its systems up, under its next letter: nothing is sent where its confirmation is
-/// lost. No other unit takes a letter. After an `Err` the acts before it were done.
+/// lost. No other unit takes a letter, and no claim goes unless a system falls. After an `Err` the acts before it were done.
 pub fn confirm_all<V: Volumes>(
     landscape: &mut Landscape<V>,
     wires: &mut Wires,
 ) -> Result<(), OutOfMemory>
-    ensures { VisitedSo V.faults landscape.old wires.old landscape.new wires.new (IsTo 16) result }
+    ensures visited { VisitedSo V.faults landscape.old wires.old landscape.new wires.new (IsTo 16) result }
+    ensures claims { OnOk result (AreOrGone landscape.old.world landscape.new.world landscape.old.world.claims) }
 {
     for number in 0..SystemNo::MAX {
         let Some(system) = SystemNo::of(number + 1) else {
@@ -39,20 +41,23 @@ fn confirm_at<V: Volumes>(
     wires: &mut Wires,
     system: SystemNo,
 ) -> Result<(), OutOfMemory>
-    ensures { VisitedSo V.faults landscape.old wires.old landscape.new wires.new (λ (other : TidOf). other.system ≡ system) result }
+    ensures visited { VisitedSo V.faults landscape.old wires.old landscape.new wires.new (λ (other : TidOf). other.system ≡ system) result }
+    ensures claims { OnOk result (AreOrGone landscape.old.world landscape.new.world landscape.old.world.claims) }
 {
     let _ = landscape.world();
     let tids = landscape.unconfirmed(system)?;
     confirm_each(landscape, wires, tids.as_slice())
 }
 
-/// Goes round all systems until a whole round finds nothing. How many runs and executions ended.
+/// Goes round all systems until a whole round finds nothing. How many runs and executions ended. No claim that stood before goes unless a
+/// system falls.
 pub fn go_rounds<V: Volumes>(
     alloc: Global,
     landscape: &mut Landscape<V>,
     wires: &mut Wires,
 ) -> Result<u64, OutOfMemory>
-    ensures { RoundsAs V.faults landscape.old wires.old landscape.new wires.new result }
+    ensures gone { RoundsAs V.faults landscape.old wires.old landscape.new wires.new result }
+    ensures claims { OnOk result (AreOrGone landscape.old.world landscape.new.world landscape.old.world.claims) }
 {
     let mut finished = 0;
     for _round in 0..MOST_ROUNDS {

@@ -1,17 +1,17 @@
 //! The work of a claim ends, with what is prepared of the documents of its unit.
 
-ghost use Rattle.std.specs.Prelude.{◌≡◌, ◌+◌, false, List, IsNone, IfOk, IfSome, OnOk};
+ghost use Rattle.std.specs.Prelude.{◌≡◌, ◌+◌, true, false, IsNone, IfOk, IfSome, OnOk};
 ghost use Rattle.std.specs.Result.{is_ok};
 ghost use Rattle.trfc_protocol.specs.declared.held.Held.{Held};
+ghost use Rattle.trfc_protocol.specs.Worlds.{without_claim};
 ghost use Rattle.unit_landscape.specs.Appending.{HoldsIn};
 ghost use Rattle.unit_landscape.specs.Calls.{stands_in};
 ghost use Rattle.landscape.specs.Working.{IsPreparedFor};
 ghost use Rattle.model_rules.specs.Meaning.{model_meaning};
-ghost use Rattle.unit_works.specs.Claims.{AreOrGone, NoneAdded};
+ghost use Rattle.unit_works.specs.Claims.{AreOrGone};
 ghost use Rattle.unit_works.specs.Events.{is_end};
 ghost use Rattle.unit_works.specs.Finished.{finished_in};
 ghost use Rattle.unit_works.specs.Worked.{Worked};
-ghost use Rattle.unit_works.specs.steps.Claims.{AreWith};
 ghost use Rattle.unit_works.specs.steps.Ending.{FinishedSo, IsDownFor, ended_by};
 
 use ale_base::{OutOfMemory, Tid};
@@ -32,9 +32,8 @@ pub(crate) fn finish<V: Volumes>(
     requires ready { IfSome ready (λ prepared. IsPreparedFor landscape.old.world claim.tid prepared.postings) }
     ensures went { Worked V.faults landscape.old landscape.new is_end (is_ok result) }
     ensures finished { IfOk result (λ given. finished_in landscape.new.world ≡ finished_in landscape.old.world + ended_by given) }
-    ensures claims { (others : List Held) → AreWith landscape.old.world.claims others claim
-        → OnOk result (AreOrGone landscape.old.world landscape.new.world others) }
-    ensures fewer { OnOk result (NoneAdded landscape.old.world.claims landscape.new.world.claims) }
+    ensures left { OnOk result (stands_in landscape.old.world claim ≡ true
+        → AreOrGone landscape.old.world landscape.new.world (without_claim landscape.old.world claim.number).claims) }
     ensures stale { stands_in landscape.old.world claim ≡ false → OnOk result (landscape.new ≡ landscape.old) }
     ensures grew { (held : Held) → HoldsIn landscape.old.world claim held
         → IfOk result (FinishedSo (model_meaning landscape.old.world.rules.systems) landscape.old landscape.new claim held) }
@@ -54,9 +53,8 @@ fn finish_ready<V: Volumes>(
     requires ready { IfSome ready (λ prepared. IsPreparedFor landscape.old.world claim.tid prepared.postings) }
     ensures went { Worked V.faults landscape.old landscape.new is_end (is_ok result) }
     ensures finished { IfOk result (λ given. finished_in landscape.new.world ≡ finished_in landscape.old.world + ended_by given) }
-    ensures claims { (others : List Held) → AreWith landscape.old.world.claims others claim
-        → OnOk result (AreOrGone landscape.old.world landscape.new.world others) }
-    ensures fewer { OnOk result (NoneAdded landscape.old.world.claims landscape.new.world.claims) }
+    ensures left { OnOk result (stands_in landscape.old.world claim ≡ true
+        → AreOrGone landscape.old.world landscape.new.world (without_claim landscape.old.world claim.number).claims) }
     ensures stale { stands_in landscape.old.world claim ≡ false → OnOk result (landscape.new ≡ landscape.old) }
     ensures grew { (held : Held) → HoldsIn landscape.old.world claim held
         → IfOk result (FinishedSo (model_meaning landscape.old.world.rules.systems) landscape.old landscape.new claim held) }
@@ -75,9 +73,8 @@ fn finish_prepared<V: Volumes>(
 ) -> Result<Finished, OutOfMemory>
     ensures went { Worked V.faults landscape.old landscape.new is_end (is_ok result) }
     ensures finished { IfOk result (λ given. finished_in landscape.new.world ≡ finished_in landscape.old.world + ended_by given) }
-    ensures claims { (others : List Held) → AreWith landscape.old.world.claims others claim
-        → OnOk result (AreOrGone landscape.old.world landscape.new.world others) }
-    ensures fewer { OnOk result (NoneAdded landscape.old.world.claims landscape.new.world.claims) }
+    ensures left { OnOk result (stands_in landscape.old.world claim ≡ true
+        → AreOrGone landscape.old.world landscape.new.world (without_claim landscape.old.world claim.number).claims) }
     ensures stale { stands_in landscape.old.world claim ≡ false → OnOk result (landscape.new ≡ landscape.old) }
     ensures grew { (held : Held) → HoldsIn landscape.old.world claim held
         → IfOk result (FinishedSo (model_meaning landscape.old.world.rules.systems) landscape.old landscape.new claim held) }
@@ -92,7 +89,6 @@ fn finish_prepared<V: Volumes>(
 fn not_finished<V: Volumes>(landscape: &Landscape<V>, claim: InClaim) -> Finished
     requires down { IsDownFor (model_meaning landscape.now.world.rules.systems) landscape.now.world claim.tid }
     ensures finished { ended_by result ≡ 0 }
-    ensures claims { (others : List Held) → AreWith landscape.now.world.claims others claim → ⊥ }
     ensures stands { (held : Held) → HoldsIn landscape.now.world claim held → ⊥ }
 {
     let _ = landscape.world();
@@ -109,9 +105,8 @@ fn finish_with<V: Volumes>(
     requires prepared { IsPreparedFor landscape.old.world claim.tid prepared.postings }
     ensures went { Worked V.faults landscape.old landscape.new is_end (is_ok result) }
     ensures finished { IfOk result (λ given. finished_in landscape.new.world ≡ finished_in landscape.old.world + ended_by given) }
-    ensures claims { (others : List Held) → AreWith landscape.old.world.claims others claim
-        → OnOk result (AreOrGone landscape.old.world landscape.new.world others) }
-    ensures fewer { OnOk result (NoneAdded landscape.old.world.claims landscape.new.world.claims) }
+    ensures left { OnOk result (stands_in landscape.old.world claim ≡ true
+        → AreOrGone landscape.old.world landscape.new.world (without_claim landscape.old.world claim.number).claims) }
     ensures stale { stands_in landscape.old.world claim ≡ false → OnOk result (landscape.new ≡ landscape.old) }
     ensures grew { (held : Held) → HoldsIn landscape.old.world claim held
         → IfOk result (FinishedSo (model_meaning landscape.old.world.rules.systems) landscape.old landscape.new claim held) }

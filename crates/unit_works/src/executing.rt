@@ -8,7 +8,7 @@ ghost use Rattle.unit_works.specs.Events.{is_run};
 ghost use Rattle.unit_works.specs.Finished.{finished_in};
 ghost use Rattle.unit_works.specs.Worked.{HaveOnlyClaimed, NothingIn, Worked};
 ghost use Rattle.unit_works.specs.Works.{ClaimExecutedAs, ExecutedAs};
-ghost use Rattle.unit_works.specs.steps.Claiming.{IsExecuted};
+ghost use Rattle.unit_works.specs.Claiming.{IsExecuted};
 
 use crate::ending::{ended_by, finish};
 use ale_base::{OutOfMemory, SystemNo};

@@ -1,6 +1,7 @@
 //! Rounds of all systems: the first unit that is offered at each is shipped, and the first is executed.
 
-ghost use Rattle.std.specs.Prelude.{◌≡◌, ◌≤◌, IfSome};
+ghost use Rattle.std.specs.Prelude.{◌≡◌, ◌≤◌, IfSome, OnOk};
+ghost use Rattle.unit_works.specs.Claims.{AreOrGone};
 ghost use Rattle.unit_works.specs.Drained.{FoundAs, IsIdle};
 ghost use Rattle.unit_works.specs.steps.Rounds.{NothingAt, NothingTo, joined};
 
@@ -19,7 +20,8 @@ pub(crate) fn go_round<V: Volumes>(
     landscape: &mut Landscape<V>,
     wires: &mut Wires,
 ) -> Result<Option<u64>, OutOfMemory>
-    ensures { FoundAs V.faults landscape.old wires.old landscape.new wires.new 32 (IsIdle landscape.old.world) result }
+    ensures found { FoundAs V.faults landscape.old wires.old landscape.new wires.new 32 (IsIdle landscape.old.world) result }
+    ensures claims { OnOk result (AreOrGone landscape.old.world landscape.new.world landscape.old.world.claims) }
 {
     let found = visit_all(alloc, landscape, wires)?;
     let _ = landscape.world();
@@ -32,7 +34,8 @@ fn visit_all<V: Volumes>(
     landscape: &mut Landscape<V>,
     wires: &mut Wires,
 ) -> Result<Option<u64>, OutOfMemory>
-    ensures { FoundAs V.faults landscape.old wires.old landscape.new wires.new 32 (NothingTo landscape.old.world 16) result }
+    ensures found { FoundAs V.faults landscape.old wires.old landscape.new wires.new 32 (NothingTo landscape.old.world 16) result }
+    ensures claims { OnOk result (AreOrGone landscape.old.world landscape.new.world landscape.old.world.claims) }
 {
     let mut found = None;
     for number in 0..SystemNo::MAX {
@@ -53,7 +56,8 @@ fn visit<V: Volumes>(
     wires: &mut Wires,
     system: SystemNo,
 ) -> Result<Option<u64>, OutOfMemory>
-    ensures { FoundAs V.faults landscape.old wires.old landscape.new wires.new 2 (NothingAt landscape.old.world system) result }
+    ensures found { FoundAs V.faults landscape.old wires.old landscape.new wires.new 2 (NothingAt landscape.old.world system) result }
+    ensures claims { OnOk result (AreOrGone landscape.old.world landscape.new.world landscape.old.world.claims) }
 {
     let shipped = ship_next(alloc, landscape, wires, system)?;
     let executed = execute_next(alloc, landscape, system)?;

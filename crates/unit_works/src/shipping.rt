@@ -1,23 +1,21 @@
 //! Units are claimed and shipped.
 
-ghost use Rattle.std.specs.Prelude.{◌≡◌, ◌≤◌, List, Some, true, IsNone, IfOk, IfSome, OnErr, OnOk};
+ghost use Rattle.std.specs.Prelude.{◌≡◌, Some, true, IsNone, IfOk, IfSome, OnErr, OnOk};
 ghost use Rattle.std.specs.Result.{is_ok};
 ghost use Rattle.unit_core.specs.declared.ale_unit.AleUnit.{AleUnit};
-ghost use Rattle.trfc_protocol.specs.declared.held.Held.{Held};
 ghost use Rattle.trfc_protocol.specs.Offered.{answer_to};
-ghost use Rattle.trfc_protocol.specs.Worlds.{committed_unit};
+ghost use Rattle.trfc_protocol.specs.Worlds.{committed_unit, without_claim};
 ghost use Rattle.unit_landscape.specs.Calls.{stands_out};
 ghost use Rattle.model_rules.specs.Meaning.{model_meaning};
 ghost use Rattle.landscape.specs.Working.{IsPreparedFor};
-ghost use Rattle.unit_works.specs.Claims.{AreOrGone, NoneAdded};
+ghost use Rattle.unit_works.specs.Claims.{AreOrGone};
 ghost use Rattle.unit_works.specs.Events.{is_claim, is_shipping};
 ghost use Rattle.unit_works.specs.Finished.{finished_in};
 ghost use Rattle.unit_works.specs.Trips.{Appended, shipment};
 ghost use Rattle.unit_works.specs.Worked.{HaveOnlyClaimed, NothingOut, Worked};
 ghost use Rattle.unit_works.specs.Works.{ClaimShippedAs, ShippedAs};
 ghost use Rattle.unit_works.specs.steps.Arriving.{IsAnswered};
-ghost use Rattle.unit_works.specs.steps.Claiming.{IsShipped};
-ghost use Rattle.unit_works.specs.steps.Claims.{AreWithOut};
+ghost use Rattle.unit_works.specs.Claiming.{IsShipped};
 
 use crate::answering::{Answered, deliver, reply};
 use crate::confirming::confirm_under;
@@ -103,9 +101,7 @@ fn ship<V: Volumes>(
     requires ready { IfSome ready (λ prepared. IsPreparedFor landscape.old.world claim.tid prepared.postings) }
     ensures went { Worked V.faults landscape.old landscape.new (is_shipping letter) (is_ok result) }
     ensures finished { IfOk result (IsAnswered landscape.old.world landscape.new.world) }
-    ensures claims { (others : List Held) → AreWithOut landscape.old.world.claims others claim
-        → OnOk result (AreOrGone landscape.old.world landscape.new.world others) }
-    ensures fewer { OnOk result (NoneAdded landscape.old.world.claims landscape.new.world.claims) }
+    ensures left { OnOk result (AreOrGone landscape.old.world landscape.new.world (without_claim landscape.old.world claim.number).claims) }
     ensures grew { (unit : AleUnit) → committed_unit (model_meaning landscape.old.world.rules.systems) landscape.old.world claim.tid ≡ Some unit
         → OnOk result (Appended landscape.old landscape.new
         (shipment letter (answer_to (model_meaning landscape.old.world.rules.systems) landscape.old.world unit) unit)) }

@@ -7,19 +7,19 @@ use Rattle.kept_world.specs.Kept.{KeptOf}
 use Rattle.document_tables.specs.declared.document_tables.DocumentTables.{DocumentTables}
 use Rattle.model_rules.specs.declared.model_rules.ModelRules.{ModelRules}
 use Rattle.unit_works.specs.Acts.{Act, HaveActed}
-use Rattle.unit_works.specs.Claims.{NoneAdded, NoneRuns}
+use Rattle.unit_works.specs.Claims.{NoneRuns}
 use Rattle.unit_works.specs.Drained.{TakesOnce, is_round}
 use Rattle.unit_works.specs.Events.{is_work}
 use Rattle.unit_works.specs.Finished.{finished_in}
 use Rattle.unit_works.specs.Worked.{HaveTaken, Lines, Worked}
 
 module _ {V : Type 0} (faults : V → ℕ → ℕ) (before after : KeptOf ModelRules DocumentTables V) (lines lines_after : Lines) where
-  -- a unit was shipped or executed, or nothing was done; so many runs and executions ended, and no claim was added
+  -- a unit was shipped or executed, or nothing was done; so many runs and executions ended, and no run is claimed that was not
   pub record HasActed (n : ℕ) : Type 0 where
     pub went : Worked faults before after is_work true
     pub taken : HaveTaken lines lines_after
     pub count : finished_in after.world ≡ finished_in before.world + n
-    pub fewer : NoneAdded before.world.claims after.world.claims
+    pub runs : NoneRuns before.world.claims → NoneRuns after.world.claims
     pub acts : List Act
     pub did : HaveActed faults before lines acts after lines_after
     pub ships : list_all is_round acts ≡ true

@@ -5,7 +5,7 @@ use Rattle.kept_world.specs.Kept.{KeptOf}
 use Rattle.document_tables.specs.declared.document_tables.DocumentTables.{DocumentTables}
 use Rattle.model_rules.specs.declared.model_rules.ModelRules.{ModelRules}
 use Rattle.unit_works.specs.Worked.{Lines}
-use Rattle.unit_works.specs.steps.Rounds.{RoundsAs}
+use Rattle.unit_works.specs.Rounds.{RoundsAs}
 use Rattle.drain_desk.specs.Desk.{AreGoingOn}
 
 -- works that were going on until now, of which so many runs and executions had ended, went on until no unit was offered

@@ -1,9 +1,6 @@
 -- What was put of a command, and of a run.
-use Rattle.std.specs.Prelude.{◌≡◌, ℕ, List, [], ◌∷◌, ◌++◌, take, Option, Some, None, Result, Ok}
-use Rattle.std.specs.Io.KnownBytes.{Appends}
-use Rattle.ale_base.specs.Faults.{Rose}
+use Rattle.std.specs.Prelude.{◌≡◌, ℕ, List, [], ◌∷◌, ◌++◌, Option, Some, None, Result, Ok}
 use Rattle.ale_base.specs.declared.out_of_memory.OutOfMemory.{OutOfMemory as Short}
-use Rattle.ale_io.specs.Written.{AppendsFront}
 use Rattle.script_text.specs.declared.command.Command.{Command}
 use Rattle.runs.specs.declared.answered.Answered.{Answered}
 use Rattle.runs.specs.declared.inputs.Inputs.{Inputs}
@@ -13,32 +10,10 @@ use Rattle.runs.specs.declared.stage.Stage.{Stage}
 use Rattle.runs.specs.declared.turns.TurnEnd.{TurnEnd}
 use Rattle.runs.specs.declared.turns.TurnEnd.TheVariants as turn
 use Rattle.runs.specs.Does.{Does}
-use Rattle.runs.specs.Turns.{Turn, at_moment, first_down, first_faulted, text_of, length_at}
+use Rattle.runs.specs.Turns.{at_moment, first_down, first_faulted, length_at}
 use Rattle.runs.specs.Text.{shown}
+use Rattle.runs.specs.Put.{IsPart, IsPut}
 use Rattle.runs.specs.steps.Keeping.{KeepsFree}
-
--- the whole text was put with no fault
-pub record IsPut (before after : Option (List ℕ)) (faults faults_after : ℕ) (text : List ℕ) : Type 0 where
-  pub appends : Appends before after text
-  pub quiet : faults_after ≡ faults
-
--- a write failed, and a front of the text was put
-pub record IsPart (before after : Option (List ℕ)) (faults faults_after : ℕ) (text : List ℕ) : Type 0 where
-  pub appends : AppendsFront before after text
-  pub rose : Rose faults faults_after
-
--- a write failed: a text was put whole, and a front of the one behind it
-pub record IsCut (before after : Option (List ℕ)) (faults faults_after : ℕ) (whole part : List ℕ) : Type 0 where
-  pub count : ℕ
-  pub appends : Appends before after (whole ++ take count part)
-  pub rose : Rose faults faults_after
-
--- what a run put, by its ending: all its text; or all that was due before its last turn, and a front of the text of that
-abbrev pub IsPutAt : {V : Type 0} → RunEnd → Option (List ℕ) → Option (List ℕ) → ℕ → ℕ → List (Turn V) → Type 0
-IsPutAt {V} end.WriteFailed before after faults faults_after turns =
-    (done : List (Turn V)) × ((last : Turn V) × (turns ≡ done ++ last ∷ [])
-    × IsCut before after faults faults_after (text_of done) (shown last.command last.answered last.after))
-IsPutAt _ before after faults faults_after turns = IsPut before after faults faults_after (text_of turns)
 
 -- the text of an answer was put, whole or in part; or there was no answer, or no memory for its text, and nothing was put
 abbrev pub IsReported : TurnEnd → Result Answered Short → (Answered → List ℕ) → Option (List ℕ) → Option (List ℕ) → ℕ → ℕ → Type 0

@@ -1,17 +1,16 @@
 -- The confirmation of a unit comes to its receiver.
-use Rattle.std.specs.Prelude.{◌≡◌, ◌⊎◌, ⊤, Bool, true, false, Some, List, [], if◌then◌else◌}
+use Rattle.std.specs.Prelude.{◌≡◌, ◌⊎◌, ⊤, Bool, true, false, List, [], if◌then◌else◌}
 use Rattle.ale_base.specs.Tid.{TidOf}
 use Rattle.unit_core.specs.declared.ale_unit.AleUnit.{AleUnit}
 use Rattle.unit_core.specs.declared.records.Record.TheVariants.{Forget}
 use Rattle.trfc_protocol.specs.declared.world.World.{World}
 use Rattle.trfc_protocol.specs.RecordOf.{Writing}
 use Rattle.trfc_protocol.specs.Meaning.{Meaning}
-use Rattle.trfc_protocol.specs.Worlds.{committed_unit}
 use Rattle.kept_world.specs.Kept.{KeptOf}
 use Rattle.unit_landscape.specs.declared.answers.Confirmed.{Confirmed}
 use Rattle.unit_landscape.specs.declared.answers.Confirmed.TheVariants.{Forgotten, Already, Down}
 use Rattle.unit_landscape.specs.Calls.{is_forgotten}
-use Rattle.unit_works.specs.Trips.{AppendedAs, Wholly, forgot, is_due, one_at}
+use Rattle.unit_works.specs.Trips.{AppendedAs, Wholly, forgot, one_at}
 
 -- the receiver of a unit has forgotten it, unless it is down
 abbrev pub Forgets : {R : Type 0} → Meaning → World R → TidOf → Confirmed → Type 0
@@ -34,9 +33,3 @@ abbrev pub SentSo : {R A V : Type 0} → KeptOf R A V → KeptOf R A V → TidOf
 SentSo before after tid unit given =
     HasSent before.world after.world tid unit given
     ⊎ (AppendedAs before after (sent_to (forgot before.world unit) unit) false × (given ≡ Down))
-
--- a unit was committed, and its confirmation is due
-pub record IsDueOf {R : Type 0} (rules : Meaning) (world : World R) (tid : TidOf) : Type 0 where
-  pub unit : AleUnit
-  pub committed : committed_unit rules world tid ≡ Some unit
-  pub due : is_due world unit ≡ true

@@ -1,18 +1,15 @@
 -- The work of a claim ends.
-use Rattle.std.specs.Prelude.{◌≡◌, ◌⊎◌, ◌==◌, ⊤, ℕ, false, not, filter, List, [], Option, Some, None, Result, Ok, Err}
+use Rattle.std.specs.Prelude.{◌≡◌, ◌⊎◌, ◌==◌, ⊤, ℕ, false, not, filter, Some, Result, Ok, Err}
 use Rattle.ale_base.specs.Tid.{TidOf}
 use Rattle.ale_base.specs.declared.out_of_memory.OutOfMemory.{OutOfMemory}
 use Rattle.unit_core.specs.declared.ale_unit.AleUnit.{AleUnit}
-use Rattle.unit_core.specs.declared.records.Record.TheVariants.{Direct}
 use Rattle.trfc_protocol.specs.declared.held.Held.{Held}
 use Rattle.trfc_protocol.specs.declared.held.HeldKind.{HeldKind}
 use Rattle.trfc_protocol.specs.declared.held.HeldKind.TheVariants as kind
 use Rattle.trfc_protocol.specs.declared.world.World.{World}
-use Rattle.trfc_protocol.specs.Offered.{offers_received_now}
-use Rattle.trfc_protocol.specs.RecordOf.{Writing}
 use Rattle.kept_world.specs.Kept.{KeptOf}
 use Rattle.unit_landscape.specs.declared.claims.InClaim.{InClaim}
-use Rattle.unit_works.specs.Trips.{Wholly, execution, one_at}
+use Rattle.unit_works.specs.Trips.{Wholly, worked_by}
 use Rattle.unit_works.specs.steps.Claims.{WasCut}
 use Rattle.trfc_protocol.specs.Meaning.{Meaning}
 use Rattle.trfc_protocol.specs.Worlds.{committed_unit, is_up}
@@ -36,17 +33,6 @@ ended_of (Err end.OutOfMemory) = Err (record {})
 -- the receiver of the unit of an id is down
 abbrev pub IsDownFor : {R : Type 0} → Meaning → World R → TidOf → Type 0
 IsDownFor rules world tid = (unit : AleUnit) → committed_unit rules world tid ≡ Some unit → is_up world unit.receiver ≡ false
-
--- the record of a run: the unit of the claim was taken in and executed
-abbrev pub run_at : ℕ → Option AleUnit → List Writing
-run_at system (Some unit) = one_at system (Direct unit)
-run_at system None = []
-
--- what is appended as the work of a claim ends
-abbrev pub worked_by : {R : Type 0} → Meaning → World R → Held → HeldKind → List Writing
-worked_by rules world held kind.In = execution (offers_received_now rules world held.system held.tid) held.system held.tid
-worked_by rules world held kind.Direct = run_at held.system (committed_unit rules world held.tid)
-worked_by rules world held kind.Out = []
 
 -- a run is done
 abbrev pub IsRun : HeldKind → TidOf → Finished → Type 0

@@ -2,7 +2,7 @@ use Rattle.std.specs.Prelude.{IfSome, IsNone}
 use Rattle.std.specs.Result.{is_ok}
 use Rattle.std.proofs.Common.{true, refl, sym, subst}
 use Rattle.unit_works.specs.Events.{is_claim}
-use Rattle.unit_works.specs.steps.Claiming.{IsShipped}
+use Rattle.unit_works.specs.Claiming.{IsShipped}
 use Rattle.unit_works.proofs.WorkedLemmas.{meaning}
 use Rattle.drain_desk.specs.Work.{IsBasis}
 use Rattle.drain_desk.proofs.ClaimingLemmas.{claims-out, claims-same, may-out, whole-or-not}

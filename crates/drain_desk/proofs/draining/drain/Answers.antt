@@ -7,7 +7,7 @@ use Rattle.drain_desk.proofs.draining.drain.Goals as goal
 
 pub work-drained-requires-clause-bare : goal.work-drained-requires-clause-bare
 work-drained-requires-clause-bare g c = λ lives outlive.
-    let visited = c.in-Ok.ensures in
+    let visited = c.in-Ok.ensures.visited in
     let worked = visited.worked in
     none-left c.confirm_all.new.landscape.world.claims c.revoke.new.self.world.claims worked.claims
     (revoked-none g.V.Volumes.faults c.args.landscape c.revoke.new.self c.world.ensures.safe c.revoke.ensures.event)
@@ -19,9 +19,9 @@ returns-in-Ok g c =
     c.work-drained.result.wires c.work-drained.result.end c.world.ensures.safe c.world-in-Ok.ensures.safe
     (revoked-went g.V.Volumes.faults c.args.landscape c.revoke.new.self c.world.ensures.safe c.revoke.ensures.event)
     (revoked-only g.V.Volumes.faults c.args.landscape c.revoke.new.self c.world.ensures.safe c.revoke.ensures.event c.revoke.ensures.volumes)
-    (revoked-none g.V.Volumes.faults c.args.landscape c.revoke.new.self c.world.ensures.safe c.revoke.ensures.event) c.in-Ok.ensures c.work-drained.ensures
+    (revoked-none g.V.Volumes.faults c.args.landscape c.revoke.new.self c.world.ensures.safe c.revoke.ensures.event) c.in-Ok.ensures.visited c.work-drained.ensures
 
 pub returns-in-Err : goal.returns-in-Err
 returns-in-Err g c =
     on g.V.Volumes.faults is_work false c.args.landscape c.revoke.new.self c.confirm_all.new.landscape
-    (revoked-went g.V.Volumes.faults c.args.landscape c.revoke.new.self c.world.ensures.safe c.revoke.ensures.event) c.in-Err.ensures
+    (revoked-went g.V.Volumes.faults c.args.landscape c.revoke.new.self c.world.ensures.safe c.revoke.ensures.event) c.in-Err.ensures.visited

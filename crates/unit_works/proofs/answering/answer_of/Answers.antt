@@ -1,7 +1,9 @@
-use Rattle.std.proofs.Common.{true, refl, subst}
+use Rattle.std.proofs.Common.{true, ap, refl, subst, ◌∙◌}
+use Rattle.trfc_protocol.specs.Worlds.{claim_of}
 use Rattle.unit_works.specs.Events.{is_end}
 use Rattle.unit_works.specs.steps.Arriving.{ClaimsAre, Tells, run_held}
-use Rattle.unit_works.proofs.TripLemmas.{answered-run, run-holds, run-with}
+use Rattle.unit_works.proofs.ClaimLemmas.{found-last, left-last, stands-found_in}
+use Rattle.unit_works.proofs.TripLemmas.{answered-run, run-holds}
 use Rattle.unit_works.proofs.WorkedLemmas.{meaning, still}
 use Rattle.unit_works.proofs.answering.answer_of.Goals as goal
 
@@ -33,4 +35,7 @@ returns-in_ok-finished-in-Run-clause-grew g c = λ unit given others named tells
 pub returns-in_ok-finished-in-Run-clause-claims : goal.returns-in_ok-finished-in-Run-clause-claims
 returns-in_ok-finished-in-Run-clause-claims g c = λ others claims.
     let are = subst (ClaimsAre c.args.landscape.now.world.claims others) c.in-Run.is claims in
-    c.in_ok-finished-in-Run.ensures.claims others (run-with c.args.landscape.now.world others c.in-Run.claim are)
+    let held = run_held c.in-Run.claim in
+    left-last c.args.landscape.now.world c.finish.new.landscape.world others held c.in-Run.claim.number refl are.1 are.0
+    (c.in_ok-finished-in-Run.ensures.left (stands-found_in c.args.landscape.now.world c.in-Run.claim held
+    (ap (claim_of c.in-Run.claim.number) are.0 ∙ found-last c.in-Run.claim.number others held refl are.1) refl refl))

@@ -1,4 +1,4 @@
-use Rattle.unit_works.proofs.ReplyingLemmas.{fewer-replied, appended-replied, claims-replied, finished-replied, stale-replied, went-replied, went-replied_short}
+use Rattle.unit_works.proofs.ReplyingLemmas.{appended-replied, finished-replied, left-replied, stale-replied, went-replied, went-replied_short}
 use Rattle.unit_works.proofs.WorkedLemmas.{meaning, is_lawful}
 use Rattle.unit_works.proofs.answering.reply.Goals as goal
 
@@ -12,9 +12,9 @@ returns-in-Ok-clause-finished g c =
     finished-replied meaning is_lawful c.args.landscape.now c.world.ensures.safe c.args.claim c.args.given g.V.Volumes.faults c.reply.new.self
     c.reply.result c.reply.ensures.ends (λ short. let is = c.in-Ok.is in cc)
 
-pub returns-in-Ok-clause-claims : goal.returns-in-Ok-clause-claims
-returns-in-Ok-clause-claims g c =
-    claims-replied meaning is_lawful c.args.landscape.now c.world.ensures.safe c.args.claim c.args.given g.V.Volumes.faults c.reply.new.self
+pub returns-in-Ok-clause-left : goal.returns-in-Ok-clause-left
+returns-in-Ok-clause-left g c =
+    left-replied meaning is_lawful c.args.landscape.now c.world.ensures.safe c.args.claim c.args.given g.V.Volumes.faults c.reply.new.self
     c.reply.result c.reply.ensures.ends (λ short. let is = c.in-Ok.is in cc)
 
 pub returns-in-Err-Stale-clause-went : goal.returns-in-Err-Stale-clause-went
@@ -27,9 +27,9 @@ returns-in-Err-Stale-clause-finished g c =
     finished-replied meaning is_lawful c.args.landscape.now c.world.ensures.safe c.args.claim c.args.given g.V.Volumes.faults c.reply.new.self
     c.reply.result c.reply.ensures.ends (λ short. let is = c.in-Err-Stale.is in let its = c.in-Err-Stale.field-0-is in cc)
 
-pub returns-in-Err-Stale-clause-claims : goal.returns-in-Err-Stale-clause-claims
-returns-in-Err-Stale-clause-claims g c =
-    claims-replied meaning is_lawful c.args.landscape.now c.world.ensures.safe c.args.claim c.args.given g.V.Volumes.faults c.reply.new.self
+pub returns-in-Err-Stale-clause-left : goal.returns-in-Err-Stale-clause-left
+returns-in-Err-Stale-clause-left g c =
+    left-replied meaning is_lawful c.args.landscape.now c.world.ensures.safe c.args.claim c.args.given g.V.Volumes.faults c.reply.new.self
     c.reply.result c.reply.ensures.ends (λ short. let is = c.in-Err-Stale.is in let its = c.in-Err-Stale.field-0-is in cc)
 
 pub returns-in-Err-OutOfMemory-clause-went : goal.returns-in-Err-OutOfMemory-clause-went
@@ -58,8 +58,3 @@ pub returns-in-Err-Stale-clause-stale : goal.returns-in-Err-Stale-clause-stale
 returns-in-Err-Stale-clause-stale g c = λ stale.
     stale-replied meaning is_lawful c.args.landscape.now c.world.ensures.safe c.args.claim c.args.given g.V.Volumes.faults c.reply.new.self stale
     c.reply.result c.reply.ensures.ends (λ short. let is = c.in-Err-Stale.is in let its = c.in-Err-Stale.field-0-is in cc)
-
-pub returns-in-Ok-clause-fewer : goal.returns-in-Ok-clause-fewer
-returns-in-Ok-clause-fewer g c =
-    fewer-replied meaning is_lawful c.args.landscape.now c.world.ensures.safe c.args.claim c.args.given g.V.Volumes.faults c.reply.new.self
-    c.reply.result c.reply.ensures.ends (λ short. let is = c.in-Ok.is in cc)

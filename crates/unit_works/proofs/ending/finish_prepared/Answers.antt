@@ -1,6 +1,7 @@
 use Rattle.std.specs.Result.{is_ok}
 use Rattle.std.proofs.Common.{true, refl}
 use Rattle.unit_works.specs.Events.{is_end}
+use Rattle.unit_works.proofs.ClaimLemmas.{held-in}
 use Rattle.unit_works.proofs.WorkedLemmas.{still}
 use Rattle.unit_works.proofs.ending.finish_prepared.Goals as goal
 
@@ -10,5 +11,6 @@ returns-in-None-clause-went g c = still g.V.Volumes.faults is_end true c.args.la
 pub returns-in_err-prepared_for-clause-went : goal.returns-in_err-prepared_for-clause-went
 returns-in_err-prepared_for-clause-went g c = still g.V.Volumes.faults is_end (is_ok c.from_residual.result) c.args.landscape.now c.args.landscape.now refl
 
-pub returns-in-None-clause-claims : goal.returns-in-None-clause-claims
-returns-in-None-clause-claims g c = λ others with. absurd (c.not_finished.ensures.claims others with)
+pub returns-in-None-clause-left : goal.returns-in-None-clause-left
+returns-in-None-clause-left g c = λ stands.
+    let there = held-in c.args.landscape.now.world c.args.claim stands in absurd (c.not_finished.ensures.stands there.0 there.1)

@@ -1,9 +1,11 @@
 use Rattle.std.specs.Prelude.{Err, IfOk}
-use Rattle.std.proofs.Common.{◌≡◌, ◌+◌, ap, subst, ◌∙◌}
-use Rattle.unit_works.specs.Claims.{AreOrGone, NoneAdded}
+use Rattle.std.proofs.Common.{◌≡◌, ◌+◌, true, ap, subst, ◌∙◌}
+use Rattle.trfc_protocol.specs.Worlds.{without_claim}
+use Rattle.unit_landscape.specs.Calls.{stands_in}
+use Rattle.unit_works.specs.Claims.{AreOrGone}
 use Rattle.unit_works.specs.Finished.{finished_in}
 use Rattle.unit_works.specs.steps.Ending.{FinishedSo, ended_by, ended_of}
-use Rattle.unit_works.proofs.EndingLemmas.{claims-finished, fewer-finished, finished-finished, has-finished, went-finished, went-finished_short}
+use Rattle.unit_works.proofs.EndingLemmas.{finished-finished, has-finished, left-finished, went-finished, went-finished_short}
 use Rattle.unit_works.proofs.WorkedLemmas.{meaning, is_lawful}
 use Rattle.unit_works.proofs.ending.finish_with.Goals as goal
 
@@ -23,18 +25,20 @@ returns-in-Ok-clause-finished g c =
     (finished-finished meaning is_lawful c.args.landscape.now c.world.ensures.safe c.args.claim g.V.Volumes.faults c.finish.new.self c.finish.result
     c.finish.ensures.ends)
 
-pub returns-in-Ok-clause-claims : goal.returns-in-Ok-clause-claims
-returns-in-Ok-clause-claims g c = λ others with.
-    subst (λ r. IfOk (ended_of r) (λ given. AreOrGone c.args.landscape.now.world c.finish.new.self.world others)) c.in-Ok.is
-    (claims-finished meaning is_lawful c.args.landscape.now c.world.ensures.safe c.args.claim g.V.Volumes.faults c.finish.new.self c.finish.result
-    c.finish.ensures.ends others with)
+pub returns-in-Ok-clause-left : goal.returns-in-Ok-clause-left
+returns-in-Ok-clause-left g c =
+    subst (λ r. IfOk (ended_of r) (λ given. stands_in c.args.landscape.now.world c.args.claim ≡ true
+    → AreOrGone c.args.landscape.now.world c.finish.new.self.world (without_claim c.args.landscape.now.world c.args.claim.number).claims)) c.in-Ok.is
+    (left-finished meaning is_lawful c.args.landscape.now c.world.ensures.safe c.args.claim g.V.Volumes.faults c.finish.new.self c.finish.result
+    c.finish.ensures.ends)
 
-pub returns-in-Err-Stale-clause-claims : goal.returns-in-Err-Stale-clause-claims
-returns-in-Err-Stale-clause-claims g c = λ others with.
-    subst (λ r. IfOk (ended_of r) (λ given. AreOrGone c.args.landscape.now.world c.finish.new.self.world others))
+pub returns-in-Err-Stale-clause-left : goal.returns-in-Err-Stale-clause-left
+returns-in-Err-Stale-clause-left g c =
+    subst (λ r. IfOk (ended_of r) (λ given. stands_in c.args.landscape.now.world c.args.claim ≡ true
+    → AreOrGone c.args.landscape.now.world c.finish.new.self.world (without_claim c.args.landscape.now.world c.args.claim.number).claims))
     (c.in-Err-Stale.is ∙ ap Err c.in-Err-Stale.field-0-is)
-    (claims-finished meaning is_lawful c.args.landscape.now c.world.ensures.safe c.args.claim g.V.Volumes.faults c.finish.new.self c.finish.result
-    c.finish.ensures.ends others with)
+    (left-finished meaning is_lawful c.args.landscape.now c.world.ensures.safe c.args.claim g.V.Volumes.faults c.finish.new.self c.finish.result
+    c.finish.ensures.ends)
 
 pub returns-in-Err-OutOfMemory-clause-went : goal.returns-in-Err-OutOfMemory-clause-went
 returns-in-Err-OutOfMemory-clause-went g c =
@@ -52,10 +56,4 @@ returns-in-Err-Stale-clause-grew g c = λ held holds.
     subst (λ r. IfOk (ended_of r) (FinishedSo (meaning c.args.landscape.now.world.rules) c.args.landscape.now c.finish.new.self c.args.claim held))
     (c.in-Err-Stale.is ∙ ap Err c.in-Err-Stale.field-0-is)
     (has-finished meaning is_lawful c.args.landscape.now c.world.ensures.safe c.args.claim g.V.Volumes.faults c.finish.new.self held holds c.finish.result
-    c.finish.ensures.ends)
-
-pub returns-in-Ok-clause-fewer : goal.returns-in-Ok-clause-fewer
-returns-in-Ok-clause-fewer g c =
-    subst (λ r. IfOk (ended_of r) (λ given. NoneAdded c.args.landscape.now.world.claims c.finish.new.self.world.claims)) c.in-Ok.is
-    (fewer-finished meaning is_lawful c.args.landscape.now c.world.ensures.safe c.args.claim g.V.Volumes.faults c.finish.new.self c.finish.result
     c.finish.ensures.ends)

@@ -1,12 +1,7 @@
 use Rattle.unit_landscape.proofs.FinishingLemmas.{in-stands}
-use Rattle.unit_works.proofs.EndingLemmas.{stands-up, with-stands}
+use Rattle.unit_works.proofs.EndingLemmas.{stands-up}
 use Rattle.unit_works.proofs.WorkedLemmas.{meaning, is_lawful}
 use Rattle.unit_works.proofs.ending.not_finished.Goals as goal
-
-pub returns-clause-claims : goal.returns-clause-claims
-returns-clause-claims g c = λ others with.
-    stands-up meaning is_lawful c.args.landscape.now c.world.ensures.safe c.args.claim
-    (with-stands meaning is_lawful c.args.landscape.now c.world.ensures.safe c.args.claim others with) c.requires.down
 
 pub returns-clause-stands : goal.returns-clause-stands
 returns-clause-stands g c = λ held holds.

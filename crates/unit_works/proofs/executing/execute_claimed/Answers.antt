@@ -11,5 +11,5 @@ returns-in_err-finished g c =
 pub returns : goal.returns
 returns g c =
     claim-executed g.V.Volumes.faults c.args.landscape.now c.finish.new.landscape c.args.claim c.in_ok-finished.finished c.ended_by.result c.world.ensures.safe
-    c.in_ok-finished.ensures.stale c.in_ok-finished.ensures.went c.in_ok-finished.ensures.finished c.in_ok-finished.ensures.fewer
+    c.in_ok-finished.ensures.stale c.in_ok-finished.ensures.went c.in_ok-finished.ensures.finished c.in_ok-finished.ensures.left
     c.in_ok-finished.ensures.grew c.ended_by.ensures

@@ -1,7 +1,7 @@
 use Rattle.std.specs.Prelude.{IfSome}
 use Rattle.std.proofs.Common.{true, false, subst}
 use Rattle.unit_works.specs.Events.{is_end, is_execution, is_run}
-use Rattle.unit_works.specs.steps.Claiming.{IsExecuted}
+use Rattle.unit_works.specs.Claiming.{IsExecuted}
 use Rattle.unit_works.proofs.WorkedLemmas.{end-executes, executed, executed-short, meaning, on, run-executes, wider}
 use Rattle.unit_works.proofs.executing.execute_next.Goals as goal
 
@@ -27,6 +27,6 @@ returns g c =
     executed g.V.Volumes.faults c.args.landscape.now c.claim_to_execute.new.landscape c.finish.new.landscape c.args.system c.in-Some.claim
     c.in_ok-finished.finished
     c.in_ok-claim.ensures.went c.claim_to_execute.ensures.finished is c.in_ok-finished.ensures.went c.in_ok-finished.ensures.finished
-    c.in_ok-finished.ensures.claims
+    c.in_ok-finished.ensures.left
     c.in_ok-finished.ensures.grew
     c.ended_by.result c.ended_by.ensures

@@ -1,4 +1,4 @@
-use Rattle.std.proofs.Common.{false, sym, subst}
+use Rattle.std.proofs.Common.{true, false, sym, subst}
 use Rattle.kept_world.specs.Kept.{KeptOf}
 use Rattle.document_tables.specs.declared.document_tables.DocumentTables.{DocumentTables}
 use Rattle.model_rules.specs.declared.model_rules.ModelRules.{ModelRules}
@@ -7,11 +7,12 @@ use Rattle.unit_works.specs.Events.{is_work}
 use Rattle.unit_works.specs.Worked.{NothingIn, NothingOut}
 use Rattle.unit_works.specs.steps.Rounds.{NothingAt}
 use Rattle.unit_works.proofs.DrainedLemmas.{executed-found, executed-went, found-on, found-short, found-went, shipped-found}
-use Rattle.unit_works.proofs.WorkedLemmas.{on}
+use Rattle.unit_works.proofs.WorkedLemmas.{executed-claims, on, shipped-claims}
+use Rattle.unit_works.proofs.WorkedLemmas.{gone-on as claims-on}
 use Rattle.unit_works.proofs.rounds.visit.Goals as goal
 
-pub returns-in_err-executed : goal.returns-in_err-executed
-returns-in_err-executed g c =
+pub returns-in_err-executed-clause-found : goal.returns-in_err-executed-clause-found
+returns-in_err-executed-clause-found g c =
     let before = c.args.landscape.now in
     let between = c.ship_next.new.landscape in
     let after = c.execute_next.new.landscape in
@@ -24,8 +25,8 @@ returns-in_err-executed g c =
     (shipped-found g.V.Volumes.faults before between lines lines_after c.args.system c.in_ok-shipped.shipped c.in_ok-shipped.ensures))
     (executed-went g.V.Volumes.faults false between after c.in_err-executed.ensures))
 
-pub returns : goal.returns
-returns g c =
+pub returns-clause-found : goal.returns-clause-found
+returns-clause-found g c =
     let before = c.args.landscape.now in
     let between = c.ship_next.new.landscape in
     let after = c.execute_next.new.landscape in
@@ -36,3 +37,19 @@ returns g c =
     (λ (k : KeptOf ModelRules DocumentTables g.row.V.Denot). NothingIn k.world c.args.system) c.in_ok-shipped.shipped c.in_ok-executed.executed
     (shipped-found g.V.Volumes.faults before between lines lines_after c.args.system c.in_ok-shipped.shipped c.in_ok-shipped.ensures)
     (executed-found g.V.Volumes.faults between after lines_after c.args.system c.in_ok-executed.executed c.in_ok-executed.ensures))
+
+pub returns-clause-claims : goal.returns-clause-claims
+returns-clause-claims g c =
+    let before = c.args.landscape.now in
+    let between = c.ship_next.new.landscape in
+    let after = c.execute_next.new.landscape in
+    let lines = c.args.wires.now in
+    let lines_after = c.ship_next.new.wires in
+    claims-on g.V.Volumes.faults is_work is_work true before between after
+    (found-went g.V.Volumes.faults before between lines lines_after 1 (NothingOut before.world c.args.system) c.in_ok-shipped.shipped
+    (shipped-found g.V.Volumes.faults before between lines lines_after c.args.system c.in_ok-shipped.shipped c.in_ok-shipped.ensures))
+    (found-went g.V.Volumes.faults between after lines_after lines_after 1 (NothingIn between.world c.args.system) c.in_ok-executed.executed
+    (executed-found g.V.Volumes.faults between after lines_after c.args.system c.in_ok-executed.executed c.in_ok-executed.ensures))
+    before.world.claims
+    (shipped-claims g.V.Volumes.faults before between lines lines_after c.args.system c.in_ok-shipped.shipped c.in_ok-shipped.ensures)
+    (executed-claims g.V.Volumes.faults between after c.args.system c.in_ok-executed.executed c.in_ok-executed.ensures)

@@ -1,7 +1,6 @@
 use Rattle.std.proofs.Common.{true, false}
 use Rattle.unit_works.specs.Events.{is_confirming, is_delivery, is_reply, is_shipping}
-use Rattle.unit_works.proofs.ClaimLemmas.{none-added, none-added-on}
-use Rattle.unit_works.proofs.WorkedLemmas.{shipped-appended, shipped-claims, ships-confirmed, ships-delivered, ships-replied, short-of}
+use Rattle.unit_works.proofs.WorkedLemmas.{shipped-appended, shipped-left, ships-confirmed, ships-delivered, ships-replied, short-of}
 use Rattle.unit_works.proofs.shipping.ship.Goals as goal
 
 pub returns-in_err-answered-clause-went : goal.returns-in_err-answered-clause-went
@@ -38,19 +37,11 @@ returns-clause-grew g c =
     c.in_ok-answered.ensures.went c.in_ok-reply.ensures.went c.in_ok-answered.ensures.grew c.in_ok-reply.ensures.grew c.in_ok-reply.ensures.stale
     c.in_ok-confirm_under.ensures.due c.confirm_under.ensures.same
 
-pub returns-clause-fewer : goal.returns-clause-fewer
-returns-clause-fewer g c =
+pub returns-clause-left : goal.returns-clause-left
+returns-clause-left g c =
     let ended = c.in_ok-confirm_under.ensures.ended in
-    none-added-on c.args.landscape.now.world.claims c.reply.new.landscape.world.claims c.confirm_under.new.landscape.world.claims
-    (none-added-on c.args.landscape.now.world.claims c.deliver.new.landscape.world.claims c.reply.new.landscape.world.claims
-    (none-added c.args.landscape.now.world c.deliver.new.landscape.world c.in_ok-answered.ensures.claims) c.in_ok-reply.ensures.fewer)
-    (none-added c.reply.new.landscape.world c.confirm_under.new.landscape.world ended.claims)
-
-pub returns-clause-claims : goal.returns-clause-claims
-returns-clause-claims g c =
-    let ended = c.in_ok-confirm_under.ensures.ended in
-    shipped-claims g.V.Volumes.faults (is_delivery c.args.letter) (is_reply c.told_under-told.result) (is_shipping c.args.letter) (is_confirming c.args.letter)
+    shipped-left g.V.Volumes.faults (is_delivery c.args.letter) (is_reply c.told_under-told.result) (is_shipping c.args.letter) (is_confirming c.args.letter)
     c.args.landscape.now c.deliver.new.landscape c.reply.new.landscape c.confirm_under.new.landscape c.in_ok-answered.ensures.went c.in_ok-reply.ensures.went
     (ships-replied g.V.Volumes.faults c.args.letter true c.args.landscape.now c.deliver.new.landscape c.reply.new.landscape c.in_ok-answered.answered.given
     c.told_under-told.result c.told_under-told.ensures c.in_ok-answered.ensures.went c.in_ok-reply.ensures.went) c.in_ok-confirm_under.ensures.went
-    c.args.claim c.in_ok-answered.ensures.claims c.in_ok-reply.ensures.claims c.in_ok-reply.ensures.stale ended.claims
+    c.args.claim c.requires.stands c.in_ok-answered.ensures.claims c.in_ok-reply.ensures.left c.in_ok-reply.ensures.stale ended.claims

@@ -16,4 +16,4 @@ returns g c =
     c.tid.result c.take-letter.result c.in_ok-finished.finished c.world.ensures.safe
     (sym c.holds.ensures ∙ c.if-not-holds.false)
     c.tid.ensures c.take-letter.ensures.letter c.take-letter.ensures.rest
-    c.in_ok-finished.ensures.went c.in_ok-finished.ensures.finished c.in_ok-finished.ensures.fewer c.in_ok-finished.ensures.grew
+    c.in_ok-finished.ensures.went c.in_ok-finished.ensures.finished c.in_ok-finished.ensures.left c.in_ok-finished.ensures.grew

@@ -1,7 +1,7 @@
 use Rattle.std.specs.Prelude.{IfSome}
 use Rattle.std.proofs.Common.{true, false, subst}
 use Rattle.unit_works.specs.Events.{is_claim, is_shipping, is_work}
-use Rattle.unit_works.specs.steps.Claiming.{IsShipped}
+use Rattle.unit_works.specs.Claiming.{IsShipped}
 use Rattle.unit_works.proofs.WorkedLemmas.{claim-works, meaning, on, shipped, shipped-short, shipping-works, wider}
 use Rattle.unit_works.proofs.shipping.ship_next.Goals as goal
 
@@ -30,4 +30,4 @@ returns g c =
     c.in-Some.claim
     c.tid.result c.take-letter.result c.in_ok-finished.finished
     c.in_ok-claim.ensures.went c.claim_to_ship.ensures.finished is c.tid.ensures c.take-letter.ensures.letter c.take-letter.ensures.rest
-    c.in_ok-finished.ensures.went c.in_ok-finished.ensures.finished c.in_ok-finished.ensures.claims c.in_ok-finished.ensures.grew
+    c.in_ok-finished.ensures.went c.in_ok-finished.ensures.finished c.in_ok-finished.ensures.left c.in_ok-finished.ensures.grew

@@ -40,7 +40,7 @@ invariant_of-self-in-Ok g c =
     (c.self.inside.parts.finished + c.in-Ok.finished)
     c.self.inside.parts.is_short c.if-self.false
     (going-acted g.V.Volumes.faults began.landscape.value c.self.inside.parts.landscape c.perform.new.landscape began.wires.value c.self.inside.parts.wires
-    c.perform.new.wires c.self.inside.parts.finished c.in-Ok.finished going c.in-Ok.ensures)
+    c.perform.new.wires c.self.inside.parts.finished c.in-Ok.finished going c.in-Ok.ensures.acted)
 
 pub invariant_of-self : goal.invariant_of-self
 invariant_of-self g c =
@@ -48,7 +48,7 @@ invariant_of-self g c =
     let going = keeps-going g.V.Volumes.faults began.landscape.value c.self.inside.parts.landscape began.wires.value c.self.inside.parts.wires
     c.self.inside.parts.finished
     c.self.inside.parts.is_short c.if-self.false c.self.invariant in
-    let acted = c.in-Ok.ensures in
+    let acted = c.in-Ok.ensures.acted in
     going-short g.V.Volumes.faults began.landscape.value c.self.inside.parts.landscape c.perform.new.landscape began.wires.value c.self.inside.parts.wires
     c.self.inside.parts.finished going (part g.V.Volumes.faults is_work c.self.inside.parts.landscape c.perform.new.landscape acted.went)
 
@@ -59,4 +59,4 @@ invariant_of-self-in-Err g c =
     c.self.inside.parts.finished
     c.self.inside.parts.is_short c.if-self.false c.self.invariant in
     going-short g.V.Volumes.faults began.landscape.value c.self.inside.parts.landscape c.perform.new.landscape began.wires.value c.self.inside.parts.wires
-    c.self.inside.parts.finished going c.in-Err.ensures
+    c.self.inside.parts.finished going c.in-Err.ensures.acted

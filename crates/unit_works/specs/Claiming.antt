@@ -7,13 +7,16 @@ use Rattle.trfc_protocol.specs.Worlds.{claim_of, committed_unit}
 use Rattle.unit_core.specs.declared.ale_unit.AleUnit.{AleUnit}
 use Rattle.kept_world.specs.Answers.{first_to_go}
 use Rattle.trfc_protocol.specs.declared.held.Held.{Held}
-use Rattle.trfc_protocol.specs.declared.held.HeldKind.TheVariants.{In}
+use Rattle.trfc_protocol.specs.declared.held.HeldKind.TheVariants.{In, Out}
 use Rattle.trfc_protocol.specs.declared.world.World.{World}
 use Rattle.unit_landscape.specs.declared.claims.OutClaim.{OutClaim}
 use Rattle.unit_landscape.specs.declared.claims.InClaim.{InClaim}
 use Rattle.unit_landscape.specs.Calls.{stands_out}
 use Rattle.unit_works.specs.Trips.{Wholly, may_execute, may_ship}
-use Rattle.unit_works.specs.steps.Claims.{out_held}
+
+-- a claim to ship a unit, as a world keeps it
+abbrev pub out_held : OutClaim → Held
+out_held claim = record { number = claim.number; tid = claim.tid; system = claim.tid.system; kind = Out }
 
 -- the first unit that is offered outbound at a system was claimed to be shipped, and no other
 pub record IsShipped {R : Type 0} (rules : Meaning) (before after : World R) (system : ℕ) (claim : OutClaim) : Type 0 where
