@@ -154,8 +154,8 @@ module _ {R A E Extra : Type 0} (meaning : R → Meaning) (stands : A → List R
       (system - 1) is.tables now.tables after.tables (λ x y z first second. second ∙ ap (λ (t : TablesOf A). t.units) first) is.entered units))))
 
 -- a record that was written fitted, whether or not the system falls behind it
-pub full-after : (place : ℕ) (journals : SystemJournals) (next : Record) (r : Result (Unit {0}) AppendEnd) → OnErr r (r ≡ Err After)
-    → FullAs {T = Unit {0}} place journals next (Ok tt) → FullAs place journals next r
-full-after place journals next (Ok done) fell is = is
-full-after place journals next (Err end) fell is = λ journal at size not_before.
-    let told = is journal at size (λ bad. cc) in (λ same. cc, λ fits. let bad = told.1 fits in cc)
+pub full-after : (place : ℕ) (journals : SystemJournals) (log : List Record) (next : Record) (r : Result (Unit {0}) AppendEnd) → OnErr r (r ≡ Err After)
+    → FullAs {T = Unit {0}} place journals log next (Ok tt) → FullAs place journals log next r
+full-after place journals log next (Ok done) fell is = is
+full-after place journals log next (Err end) fell is = λ size not_before.
+    let told = is size (λ bad. cc) in (λ same. cc, λ fits. let bad = told.1 fits in cc)

@@ -52,7 +52,7 @@ pub record EndsAs {R A E D : Type 0} (meaning : R → Meaning) (stands : A → L
   pub kept : OnErr r (IsKept meaning stands told volume (kept_of after noted new))
   pub journals : JournalsAs (system - 1) held noted r
   pub unchanged : UnchangedAs (kept_of before held old) (kept_of after noted new) r
-  pub full : FullAs (system - 1) held next r
+  pub full : FullAs (system - 1) held (log_of before.world system) next r
 
 module _ {R A E D : Type 0} (meaning : R → Meaning) (stands : A → List Record → Type 0) (told : Type 0) (volume : D → ℕ → OneVolume)
     (before entered after : WorldTables R A E) (held noted : SystemJournals) (old new : D) (system : ℕ) (next : Record)
@@ -135,17 +135,15 @@ module _ {R A E D : Type 0} (meaning : R → Meaning) (stands : A → List Recor
   )
 
   -- the volume is told to be full where it is
-  full-ended : (w : Result (Unit {0}) AppendFault) → Wrote w → FullAs (system - 1) held next (ended_by w)
-  full-ended (Ok done) wrote = λ journal at size not_before.
-      let fits = wrote.full journal at size (λ is. cc) in (λ is. cc, λ over. let is = fits.1 over in cc)
-  full-ended (Err VolumeFault) wrote = λ journal at size not_before.
-      let fits = wrote.full journal at size (λ is. cc) in (λ is. cc, λ over. let is = fits.1 over in cc)
-  full-ended (Err (FullAt place)) wrote = λ journal at size not_before.
-      let fits = wrote.full journal at size (λ is. cc) in (
+  full-ended : (w : Result (Unit {0}) AppendFault) → Wrote w → FullAs (system - 1) held (log_of before.world system) next (ended_by w)
+  full-ended (Ok done) wrote = λ size not_before. let fits = wrote.full size (λ is. cc) in (λ is. cc, λ over. let is = fits.1 over in cc)
+  full-ended (Err VolumeFault) wrote = λ size not_before. let fits = wrote.full size (λ is. cc) in (λ is. cc, λ over. let is = fits.1 over in cc)
+  full-ended (Err (FullAt place)) wrote = λ size not_before.
+      let fits = wrote.full size (λ is. cc) in (
         λ is. let same : place ≡ size = cc in fits.0 (ap (λ n. Err (FullAt n)) same),
         λ over. let is = fits.1 over in let same : place ≡ size = cc in cc,
       )
-  full-ended (Err OutOfMemory) wrote = λ journal at size not_before. absurd (not_before refl)
+  full-ended (Err OutOfMemory) wrote = λ size not_before. absurd (not_before refl)
 
   -- so ends the write
   pub ends : (more : List AleUnit) (w : Result (Unit {0}) AppendFault) (r : Result (Unit {0}) AppendEnd) → r ≡ ended_by w → Wrote w

@@ -5,7 +5,6 @@ use Rattle.unit_core.specs.declared.ale_unit.AleUnit.{AleUnit}
 use Rattle.unit_core.specs.declared.records.Record.{Record}
 use Rattle.trfc_protocol.specs.declared.world.World.{World}
 use Rattle.byte_journal.specs.Log.{most_bytes}
-use Rattle.unit_journal.specs.declared.journal.UnitJournal.{UnitJournal}
 use Rattle.unit_codec.specs.Entries.{entry_with}
 use Rattle.unit_codec.specs.Condition.{IsWritable}
 use Rattle.trfc_protocol.specs.Meaning.{Meaning}
@@ -13,7 +12,7 @@ use Rattle.trfc_protocol.specs.Worlds.{log_of, is_up, with_record, with_fall}
 use Rattle.trfc_protocol.specs.Safe.{AreApart}
 use Rattle.system_tables.specs.Tables.{TablesOf, entered}
 use Rattle.system_journals.specs.declared.journals.SystemJournals.{SystemJournals}
-use Rattle.system_journals.specs.OnDisk.{next_moment, moments_at, full_at}
+use Rattle.system_journals.specs.OnDisk.{next_moment, moments_at, entries_at, length_with}
 use Rattle.system_journals.specs.Changes.{OnlyAt}
 use Rattle.world_tables.specs.declared.world_tables.WorldTables.{WorldTables}
 use Rattle.world_tables.specs.Changed.{ChangedAt}
@@ -57,12 +56,13 @@ UnchangedAs before after (Err (Full length)) = after ≡ before
 UnchangedAs before after (Err Before) = (after.world ≡ before.world) × (after.tables ≡ before.tables) × (after.journals ≡ before.journals)
 UnchangedAs before after _ = ⊤
 
--- The volume is told to be full exactly where with the record it would have this length, which is over the most that it may have;
+-- The volume of a log is told to be full exactly where with the record it would have this length, which is over the most that it may have;
 -- unless memory ran out before.
-abbrev pub FullAs : {T : Type 0} → ℕ → SystemJournals → Record → Result T AppendEnd → Type 0
-FullAs place journals next result =
-    (journal : UnitJournal) → slice_get journals.journals place ≡ Some journal → (size : ℕ) → result ≢ Err Before
-    → (result ≡ Err (Full size)) ↔ ((size ≡ full_at journal (entry_with (next_moment journals place) next)) × (most_bytes < size))
+abbrev pub FullAs : {T : Type 0} → ℕ → SystemJournals → List Record → Record → Result T AppendEnd → Type 0
+FullAs place journals log next result =
+    (size : ℕ) → result ≢ Err Before
+    → (result ≡ Err (Full size))
+    ↔ ((size ≡ length_with (entries_at journals place log) (entry_with (next_moment journals place) next)) × (most_bytes < size))
 
 -- what is known of a record that is written at a system: the system is up, the claims differ, and the record follows the rules of its
 -- fields

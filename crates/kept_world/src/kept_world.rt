@@ -120,7 +120,7 @@ impl<R: Rules, A: Application, V: Volumes> KeptWorld<R, A, V> {
         ensures overruns { self.new.overruns ≡ self.old.overruns }
 
         // When the volume is too small, and how long it would be; unless memory ran out.
-        ensures full { FullAs (system - 1) self.old.journals next result }
+        ensures full { FullAs (system - 1) self.old.journals (log_of self.old.world system) next result }
 
         // A crash at any moment of the call leaves of the system's volume the log, or the log and the record; of others what it left.
         ensures any_moment { V.told → LeavesOnly V.moment V.images_since self.old.vols self.new.vols (system - 1)

@@ -46,7 +46,7 @@ pub(crate) fn write<R: Rules, A: Application, V: Volumes>(
     ensures kept { OnErr result (IsKept R.meaning A.stands V.told V.volume (kept_of both.new journals.new vols.new)) }
     ensures journals { JournalsAs (system - 1) journals.old journals.new result }
     ensures unchanged { UnchangedAs (kept_of both.old journals.old vols.old) (kept_of both.new journals.new vols.new) result }
-    ensures full { FullAs (system - 1) journals.old next result }
+    ensures full { FullAs (system - 1) journals.old (log_of both.old.world system) next result }
     ensures any_moment { V.told → LeavesOnly V.moment V.images_since vols.old vols.new (system - 1)
         (IsBeforeOrAfter (entries_at journals.old (system - 1) (log_of both.old.world system)) (entry_with (next_moment journals.old (system - 1)) next)) }
     ensures others { V.told → KeepsOthers V.volume V.moment V.images_since vols.old vols.new (system - 1) }

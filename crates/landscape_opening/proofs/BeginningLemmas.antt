@@ -144,13 +144,12 @@ module _ {R A E V : Type 0} (meaning : R → Meaning) (lawful : (rules : R) → 
       leaves))
 
   -- its volume is large enough
-  pub first-fits : {T : Type 0} (same : ℕ) (r : Result T AppendEnd) (end : AppendEnd) (size : ℕ) → FullAs (system - 1) kept.journals (Genesis same text) r
-      → r ≡ Err end → end ≡ Full size → ⊥
+  pub first-fits : {T : Type 0} (same : ℕ) (r : Result T AppendEnd) (end : AppendEnd) (size : ℕ)
+      → FullAs (system - 1) kept.journals (log_of kept.world system) (Genesis same text) r → r ≡ Err end → end ≡ Full size → ⊥
   first-fits same r end size full is_err is_full =
-      let disk = its_disk in
       let result : r ≡ Err (Full size) = is_err ∙ ap Err is_full in
-      let long = (full disk.journal disk.here size (λ before. (let both = sym result ∙ before in cc))).0 result in
-      let gate = disk.on.at_end ∙ ap (λ entries. length (records (map entry_spelling entries))) (entries-none (moments_at kept.journals (system - 1))) in
+      let long = (full size (λ before. (let both = sym result ∙ before in cc))).0 result in
+      let gate = ap (λ (entries : List Entry). length (records (map entry_spelling entries))) first-entries in
       let short = genesis-short (next_moment kept.journals (system - 1)) same text in
       let most = is.text_most in
       omega (arith, long.0, long.1, gate, short, most)

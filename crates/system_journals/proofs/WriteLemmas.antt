@@ -1,7 +1,7 @@
 -- What the write of a record leaves, from what its append to the journal at the place does.
 use Rattle.std.specs.Prelude.{slice_get, slice_set}
 use Rattle.std.specs.Option.{unwrap_or}
-use Rattle.std.proofs.Common.{◌≡◌, ◌↔◌, ◌<◌, ◌≤◌, ℕ, Option, Some, List, [], ◌∷◌, ◌++◌, length, refl, sym, ap, ◌∙◌, subst, arith, length-append}
+use Rattle.std.proofs.Common.{◌≡◌, ◌↔◌, ◌+◌, ◌<◌, ◌≤◌, ℕ, Option, Some, List, [], ◌∷◌, ◌++◌, length, refl, sym, ap, ◌∙◌, subst, arith, length-append}
 use Rattle.std.proofs.lemmas.List.{length-set}
 use Rattle.std.proofs.lemmas.Option.{same_Some, slice_get_within}
 use Rattle.ale_base.proofs.ListLemmas.{AllByRecursion-append}
@@ -11,11 +11,11 @@ use Rattle.ale_volumes.specs.Clock.{LeavesOnly}
 use Rattle.byte_journal.specs.Log.{most_bytes}
 use Rattle.unit_core.specs.declared.records.Record.{Record}
 use Rattle.unit_codec.specs.declared.entry.Entry.{Entry}
-use Rattle.unit_codec.specs.Entries.{EntryHasSpelling, entry_with}
+use Rattle.unit_codec.specs.Entries.{EntryHasSpelling, entry_with, entry_spelling}
 use Rattle.unit_journal.specs.declared.journal.UnitJournal.{UnitJournal}
 use Rattle.unit_journal.specs.Settled.{bodies, IsAtEnd, IsOn, IsSettled, IsBeforeOrAfter}
 use Rattle.system_journals.specs.declared.journals.SystemJournals.{SystemJournals}
-use Rattle.system_journals.specs.OnDisk.{moments_at, last_moment, next_moment, MayFollow, moments_of, entries_of, entries_at, IsOnDisk, IsLeftOnDisk, full_at}
+use Rattle.system_journals.specs.OnDisk.{moments_at, last_moment, next_moment, MayFollow, moments_of, entries_of, entries_at, length_with, IsOnDisk, IsLeftOnDisk}
 use Rattle.system_journals.specs.Changes.{OnlyAt}
 use Rattle.system_journals.specs.steps.Moments.{with_one_more}
 use Rattle.system_journals.proofs.PlaceLemmas.{entries_of-push, got-set_other}
@@ -58,13 +58,15 @@ unchanged all journals moments same same_too =
 pub within-place : {A : Type 0} (xs : List A) (k place : ℕ) (x : A) → k ≡ place → slice_get xs place ≡ Some x → k < length xs
 within-place xs k place x at here = slice_get_within xs k x (ap (λ (i : ℕ). slice_get xs i) at ∙ here)
 
--- when a journal is full, by other names for the journal and the moment
-pub full-here : {Is : Type 0} (was journal : UnitJournal) (moment other : Option ℕ) (next : Record) (place : ℕ) → journal ≡ was → moment ≡ other
-    → (Is ↔ ((place ≡ full_at was (entry_with moment next)) × (most_bytes < place)))
-    → (Is ↔ ((place ≡ full_at journal (entry_with other next)) × (most_bytes < place)))
-full-here {Is = Is} was journal moment other next place same same_too full =
+-- when a journal at the end of these entries is full, by another name for the moment
+pub full-here : {Is : Type 0} (was : UnitJournal) (entries : List Entry) (moment other : Option ℕ) (next : Record) (place : ℕ)
+    → IsAtEnd was entries → moment ≡ other
+    → (Is ↔ ((place ≡ (bodies was).gate + 6 + length (entry_spelling (entry_with moment next))) × (most_bytes < place)))
+    → (Is ↔ ((place ≡ length_with entries (entry_with other next)) × (most_bytes < place)))
+full-here {Is = Is} was entries moment other next place at_end same full =
     subst (λ (n : ℕ). Is ↔ ((place ≡ n) × (most_bytes < place)))
-    (ap (λ (m : Option ℕ). full_at was (entry_with m next)) same_too ∙ ap (λ (j : UnitJournal). full_at j (entry_with other next)) (sym same)) full
+    (ap (λ (m : Option ℕ). (bodies was).gate + 6 + length (entry_spelling (entry_with m next))) same
+    ∙ ap (λ (gate : ℕ). gate + 6 + length (entry_spelling (entry_with other next))) at_end) full
 
 module _ {D : Type 0} (told : Type 0) (volume : D → ℕ → Volume) (old : D) (place : ℕ) (all : SystemJournals) (log : List Record) (was : UnitJournal)
     (here : slice_get all.journals place ≡ Some was) (disk : IsOnDisk told volume old place all log) where

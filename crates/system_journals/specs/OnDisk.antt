@@ -8,8 +8,9 @@ use Rattle.unit_core.specs.declared.records.Record.{Record}
 use Rattle.unit_codec.specs.declared.entry.Entry.{Entry}
 use Rattle.unit_codec.specs.Entries.{entry_with, entry_spelling}
 use Rattle.unit_journal.specs.declared.journal.UnitJournal.{UnitJournal}
-use Rattle.unit_journal.specs.Log.{Stands}
-use Rattle.unit_journal.specs.Settled.{bodies, IsOn, IsSettled}
+use Rattle.byte_journal.specs.Log.{records}
+use Rattle.unit_journal.specs.Log.{Stands, bodies_of}
+use Rattle.unit_journal.specs.Settled.{IsOn, IsSettled}
 use Rattle.system_journals.specs.declared.journals.SystemJournals.{SystemJournals}
 
 -- how many systems have a journal
@@ -67,9 +68,9 @@ moments_of entries = map (λ (entry : Entry). entry.moment) entries
 abbrev pub entries_at : SystemJournals → ℕ → List Record → List Entry
 entries_at all place log = entries_of (moments_at all place) log
 
--- the length that a journal's volume would have with one entry more, up to the gate behind it
-abbrev pub full_at : UnitJournal → Entry → ℕ
-full_at journal entry = (bodies journal).gate + 6 + length (entry_spelling entry)
+-- the length that a volume has with these entries and one more, up to the gate behind it
+abbrev pub length_with : List Entry → Entry → ℕ
+length_with entries entry = length (records (bodies_of entries)) + 6 + length (entry_spelling entry)
 
 -- Of a system that is up: a journal and moments are at its place, one for each record; the journal is at the end of the
 -- log, and where the disk tells what it holds, all of that log is on the disk for good.

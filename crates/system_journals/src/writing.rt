@@ -17,7 +17,7 @@ use byte_journal::AppendFault;
 use unit_core::Record;
 
 impl SystemJournals {
-    ghost use Rattle.system_journals.specs.OnDisk.{next_moment, moments_at, entries_at, IsOnDisk, IsLeftOnDisk, full_at};
+    ghost use Rattle.system_journals.specs.OnDisk.{next_moment, moments_at, entries_at, length_with, IsOnDisk, IsLeftOnDisk};
     ghost use Rattle.system_journals.specs.Changes.{OnlyAt};
 
     /// Adds a record to the log of a system that is up. Its moment is the one that is set, or the last of the log where that
@@ -44,9 +44,9 @@ impl SystemJournals {
             IsErrOf result AppendFault.OutOfMemory → IsOnDisk V.told V.volume vols.new (system - 1) self.new log }
 
         // When the volume is too small, and the length that it would have.
-        ensures full { (log : List Record) → (disk : IsOnDisk V.told V.volume vols.old (system - 1) self.old log) → (place : ℕ) →
+        ensures full { (log : List Record) → IsOnDisk V.told V.volume vols.old (system - 1) self.old log → (place : ℕ) →
             result ≢ Err AppendFault.OutOfMemory → (result ≡ Err (AppendFault.Full place))
-            ↔ ((place ≡ full_at disk.journal (entry_with (next_moment self.old (system - 1)) next.now)) × (most_bytes < place)) }
+            ↔ ((place ≡ length_with (entries_at self.old (system - 1) log) (entry_with (next_moment self.old (system - 1)) next.now)) × (most_bytes < place)) }
         ensures full_same { (place : ℕ) → result ≡ Err (AppendFault.Full place) → vols.new ≡ vols.old }
 
         // What stays: all after an error, and always all that is of other systems.

@@ -7,18 +7,19 @@ use Rattle.ale_base.specs.declared.out_of_memory.OutOfMemory.{OutOfMemory}
 use Rattle.ale_volumes.specs.declared.volume.Volume.{Volume as OneVolume}
 use Rattle.ale_volumes.specs.Faults.{CountsFault}
 use Rattle.unit_core.specs.declared.records.Record.{Record}
-use Rattle.unit_journal.specs.declared.journal.UnitJournal.{UnitJournal}
 use Rattle.trfc_protocol.specs.declared.world.World.{World}
 use Rattle.trfc_protocol.specs.declared.event.Event.{Event}
 use Rattle.trfc_protocol.specs.declared.event.Event.TheVariants.{Fall}
 use Rattle.trfc_protocol.specs.Meaning.{Meaning}
 use Rattle.trfc_protocol.specs.Legal.{IsLawful}
-use Rattle.trfc_protocol.specs.Worlds.{is_up, with_record, with_fall, with_state, state_down, without_claim}
+use Rattle.trfc_protocol.specs.Worlds.{is_up, log_of, with_record, with_fall, with_state, state_down, without_claim}
 use Rattle.trfc_protocol.specs.RecordOf.{Writing, record_of}
 use Rattle.trfc_protocol.specs.Happens.{happens}
 use Rattle.trfc_protocol.proofs.NextLemmas.{Next-without_claim}
 use Rattle.trfc_protocol.proofs.EventLemmas.{Safe-step}
 use Rattle.trfc_protocol.proofs.KeepingLemmas.{kept-is}
+use Rattle.unit_codec.specs.Entries.{entry_with}
+use Rattle.system_journals.specs.OnDisk.{entries_at, entries_of, length_with, moments_at, next_moment}
 use Rattle.world_tables.specs.Joining.{without_named, after_record}
 use Rattle.kept_world.specs.declared.append_end.AppendEnd.{AppendEnd}
 use Rattle.kept_world.specs.declared.append_end.AppendEnd.TheVariants.{Volume, Full, Before, After}
@@ -26,7 +27,7 @@ use Rattle.kept_world.specs.Kept.{KeptOf, IsKept}
 use Rattle.kept_world.specs.Overruns.{AreOverrunsOf, overrun_in, with_overrun}
 use Rattle.kept_world.proofs.OverrunsLemmas.{overruns-told}
 use Rattle.kept_world.specs.Appending.{AppendedAs, JournalsAs, UnchangedAs, FullAs}
-use Rattle.kept_world.proofs.OnVolumesLemmas.{up-written, on_disk-up}
+use Rattle.kept_world.proofs.OnVolumesLemmas.{up-written}
 use Rattle.unit_landscape.specs.Kept.{CommitWritable, IsLandscape}
 use Rattle.unit_landscape.specs.Writes.{Appends, IsTooLong, MomentsAs}
 use Rattle.unit_landscape.specs.Ends.{Happened, Overflowed, IsFull, Stays, FellBehind, FellInstead, IsShort, AppendsAs}
@@ -97,13 +98,6 @@ module _ {R A V : Type 0} (meaning : R → Meaning) (lawful : (r : R) → IsLawf
   abbrev rules : Meaning
   rules = meaning (before.world).rules
 
-  -- a system that is up has a journal at its place
-  journal_there : (system : ℕ) → is_up before.world system ≡ true → IsKept meaning stands told volume before
-      → (journal : UnitJournal) × (slice_get (before.journals).journals (system - 1) ≡ Some journal)
-  journal_there system up kept =
-      let disk = on_disk-up told volume before.vols before.world before.journals system up kept.on_volumes in
-      (disk.journal, disk.here)
-
   module _ (now : KeptOf R A V) (system : ℕ) (next : Record) (claim : Option ℕ) (e : Event) (does : Appends rules before.world system next claim e) where
     up : is_up before.world system ≡ true
     up = event-up rules (lawful (before.world).rules) before.world is.safe is.writable e system next claim does
@@ -131,15 +125,15 @@ module _ {R A V : Type 0} (meaning : R → Meaning) (lawful : (r : R) → IsLawf
     -- how the appending of its record ends
     pub ends-as : {T : Type 0} → (result : Result T AppendEnd) → IsKept meaning stands told volume before
         → AppendedAs before.world now.world system next claim result → JournalsAs (system - 1) before.journals now.journals result
-        → UnchangedAs before now result → now.overruns ≡ before.overruns → FullAs (system - 1) before.journals next result
+        → UnchangedAs before now result → now.overruns ≡ before.overruns → FullAs (system - 1) before.journals (log_of before.world system) next result
         → CountsFault (IsErrOf result Volume) (faults before.vols) (faults now.vols) (system - 1)
         → AppendsAs rules faults before now e (at system next) result
     ends-as {T} (Ok done) kept did journals unchanged overruns full counts = record {
       world = did ∙ sym behind;
       moments = subst (MomentsAs before.journals now.journals) (sym does.writes) journals;
       fits = λ it same size long.
-          let it_is : IsTooLong before.journals (at system next) size = subst (λ w. IsTooLong before.journals w size) (sym (its it same)) long in
-          let told_full : Ok done ≡ Err (Full size) = (full it_is.journal it_is.here size (λ none. cc)).1 (it_is.long, it_is.over) in
+          let it_is : IsTooLong before (at system next) size = subst (λ w. IsTooLong before w size) (sym (its it same)) long in
+          let told_full : Ok done ≡ Err (Full size) = (full size (λ none. cc)).1 (it_is.long, it_is.over) in
           cc;
       no_faults = counts-none _ (faults before.vols) (faults now.vols) (system - 1) (λ failed. cc) counts;
       overruns = overruns;
@@ -147,16 +141,14 @@ module _ {R A V : Type 0} (meaning : R → Meaning) (lawful : (r : R) → IsLawf
     ends-as (Err Volume) kept did journals unchanged overruns full counts = record {
       world = did ∙ sym falls-writing;
       journals = journals;
-      fits = λ size long. let told_full : Err Volume ≡ Err (Full size) = (full long.journal long.here size (λ none. cc)).1 (long.long, long.over) in cc;
+      fits = λ size long. let told_full : Err Volume ≡ Err (Full size) = (full size (λ none. cc)).1 (long.long, long.over) in cc;
       rose = counts.rose refl;
       others = counts.others;
       overruns = overruns;
       untold = ap (λ all. overrun_in all system) overruns ∙ kept.overruns.up system up;
     }
     ends-as (Err (Full size)) kept did journals unchanged overruns full counts =
-        let journal = journal_there system up kept in
-        let size_is = (full journal.0 journal.1 size (λ none. cc)).0 refl in
-        record { same = unchanged; long = record { journal = journal.0; here = journal.1; long = size_is.0; over = size_is.1 } }
+        let size_is = (full size (λ none. cc)).0 refl in record { same = unchanged; long = record { long = size_is.0; over = size_is.1 } }
     ends-as {T} (Err Before) kept did journals unchanged overruns full counts = record {
       world = did;
       tables = unchanged.1;
@@ -167,7 +159,7 @@ module _ {R A V : Type 0} (meaning : R → Meaning) (lawful : (r : R) → IsLawf
     ends-as {T} (Err After) kept did journals unchanged overruns full counts = record {
       world = did ∙ falls-behind;
       moments = journals;
-      fits = λ size long. let told_full : Err After ≡ Err (Full size) = (full long.journal long.here size (λ none. cc)).1 (long.long, long.over) in cc;
+      fits = λ size long. let told_full : Err After ≡ Err (Full size) = (full size (λ none. cc)).1 (long.long, long.over) in cc;
       no_faults = counts-none _ (faults before.vols) (faults now.vols) (system - 1) (λ failed. cc) counts;
       overruns = overruns;
     }
@@ -180,6 +172,20 @@ module _ {R A V : Type 0} (meaning : R → Meaning) (lawful : (r : R) → IsLawf
     landscape-ends (Err (Full size)) ends = landscape-same meaning before.world now.world (ap (λ (k : KeptOf R A V). k.world) ends.same) is
     landscape-ends (Err Before) ends = landscape-same meaning before.world now.world ends.world is
     landscape-ends (Err After) ends = landscape-steps meaning lawful before.world now.world e (Fall system None) is ends.world
+
+-- a record that is too long for a log is so where that log, its moments and the next one are the same
+pub too_long-same : {R A V : Type 0} (before after : KeptOf R A V) (it : Writing) (size : ℕ) → log_of after.world it.system ≡ log_of before.world it.system
+    → moments_at after.journals (it.system - 1) ≡ moments_at before.journals (it.system - 1)
+    → next_moment after.journals (it.system - 1) ≡ next_moment before.journals (it.system - 1) → IsTooLong before it size → IsTooLong after it size
+too_long-same before then it size logs moments moment long = record {
+  long = long.long
+      ∙ sym (ap (λ (l : List Record). length_with (entries_of (moments_at then.journals (it.system - 1)) l)
+      (entry_with (next_moment then.journals (it.system - 1)) it.next)) logs
+      ∙ ap (λ (m : List (Option ℕ)). length_with (entries_of m (log_of before.world it.system))
+      (entry_with (next_moment then.journals (it.system - 1)) it.next)) moments
+      ∙ ap (λ (m : Option ℕ). length_with (entries_at before.journals (it.system - 1) (log_of before.world it.system)) (entry_with m it.next)) moment);
+  over = long.over;
+}
 
 -- a record that did not fit, behind which its system fell, with the length that was told
 pub overflowed : {R A V : Type 0} (rules : Meaning) (faults : V → ℕ → ℕ) (before mid after : KeptOf R A V) (system : ℕ) (next : Record) (size : ℕ)

@@ -45,6 +45,7 @@ use Rattle.unit_landscape.specs.Late.{IsLate, ComesLate, record_of_late, late_re
 use Rattle.unit_landscape.specs.declared.answers.Late.TheVariants.{New, Down}
 use Rattle.unit_landscape.proofs.HappenedLemmas.{happened-none, writes-nothing}
 use Rattle.unit_landscape.proofs.ArrivingLemmas.{arrival-record, arrival-after}
+use Rattle.unit_landscape.proofs.EndsLemmas.{too_long-same}
 use Rattle.unit_landscape.proofs.FinishingLemmas.{direct-appends}
 use Rattle.unit_landscape.proofs.LateLemmas.{late_may_arrive}
 
@@ -250,7 +251,10 @@ module _ {R A V : Type 0} (rules : Meaning) (lawful : IsLawful rules) (faults : 
           overruns = gives.1.overruns ∙ ap (λ (k : KeptOf R A V). k.overruns) ends.same;
         };
         vols = gives.1.vols ∙ ap (λ (k : KeptOf R A V). k.vols) ends.same;
-        long = ends.long;
+        long = too_long-same begun before (at unit.receiver (log.Direct unit)) size
+            (sym (ap (λ (w : World R). log_of w unit.receiver)
+            (arrival-after rules before.world unit answer.Run (comes-arrives rules lawful before.world safe unit answer.Run comes))))
+            refl refl ends.long;
       },
     ),
   )

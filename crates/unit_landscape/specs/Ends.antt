@@ -20,7 +20,7 @@ module _ {R A V : Type 0} (rules : Meaning) (faults : V → ℕ → ℕ) (before
 
   -- a record fits on the volume of its system
   abbrev pub Fits : Writing → Type 0
-  Fits it = (size : ℕ) → ¬ IsTooLong before.journals it size
+  Fits it = (size : ℕ) → ¬ IsTooLong before it size
 
   -- the event happened: the world is that of the event, and its record fits and has its moment
   pub record Happened (e : Event) : Type 0 where
@@ -47,14 +47,14 @@ module _ {R A V : Type 0} (rules : Meaning) (faults : V → ℕ → ℕ) (before
     pub journals : after.journals ≡ before.journals
     pub vols : after.vols ≡ before.vols
     pub size : ℕ
-    pub long : IsTooLong before.journals it size
+    pub long : IsTooLong before it size
     pub overruns : after.overruns ≡ with_overrun before.overruns it.system (Some size)
     pub told : overrun_in after.overruns it.system ≡ Some size
 
   -- a record does not fit, and nothing has changed; this long the volume would be
   pub record IsFull (it : Writing) (size : ℕ) : Type 0 where
     pub same : after ≡ before
-    pub long : IsTooLong before.journals it size
+    pub long : IsTooLong before it size
 
   -- memory was wanting, and the world, the tables and the journals are as before
   pub record Stays : Type 0 where

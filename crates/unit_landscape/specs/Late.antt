@@ -89,7 +89,7 @@ module _ {R A V : Type 0} (rules : Meaning) (faults : V → ℕ → ℕ) (before
   pub record IsFullRun (it : Writing) (size : ℕ) : Type 0 where
     pub given_up : IsGivenUp
     pub vols : after.vols ≡ before.vols
-    pub long : IsTooLong before.journals it size
+    pub long : IsTooLong before it size
 
   module _ (unit : AleUnit) where
     abbrev Answers : Answer → Type 0

@@ -1,5 +1,5 @@
 -- The record of an event, the claim that goes with it, and what a crash at any moment of its writing leaves.
-use Rattle.std.specs.Prelude.{◌≡◌, ℕ, ◌-◌, ◌<◌, Bool, true, false, Option, Some, None, List, slice_get}
+use Rattle.std.specs.Prelude.{◌≡◌, ℕ, ◌-◌, ◌<◌, Bool, true, false, Option, Some, None, List}
 use Rattle.ale_volumes.specs.declared.volume.Volume.{Volume}
 use Rattle.ale_volumes.specs.Clock.{LeavesOnly, KeepsOthers}
 use Rattle.unit_core.specs.declared.records.Record.{Record}
@@ -7,7 +7,6 @@ use Rattle.unit_core.specs.declared.records.Record.TheVariants.{Genesis, Commit,
 use Rattle.unit_codec.specs.Entries.{entry_with}
 use Rattle.unit_codec.specs.Condition.{IsWritable}
 use Rattle.byte_journal.specs.Log.{most_bytes}
-use Rattle.unit_journal.specs.declared.journal.UnitJournal.{UnitJournal}
 use Rattle.unit_journal.specs.Settled.{IsBeforeOrAfter}
 use Rattle.trfc_protocol.specs.declared.world.World.{World}
 use Rattle.trfc_protocol.specs.declared.event.Event.{Event}
@@ -17,7 +16,7 @@ use Rattle.trfc_protocol.specs.Meaning.{Meaning}
 use Rattle.trfc_protocol.specs.Worlds.{log_of}
 use Rattle.trfc_protocol.specs.RecordOf.{Writing, record_of}
 use Rattle.system_journals.specs.declared.journals.SystemJournals.{SystemJournals}
-use Rattle.system_journals.specs.OnDisk.{next_moment, entries_at, full_at}
+use Rattle.system_journals.specs.OnDisk.{next_moment, entries_at, length_with}
 use Rattle.kept_world.specs.Kept.{KeptOf}
 use Rattle.kept_world.specs.Answers.{KeepsVolumes}
 use Rattle.kept_world.specs.Appending.{HasOneMore}
@@ -45,11 +44,10 @@ pub record Appends {R : Type 0} (rules : Meaning) (world : World R) (system : �
   pub ends : claim ≡ claim_in e
   pub texts : has_texts next ≡ true → IsWritable next
 
--- with the record its system's volume would be this long, which is over the most that it may be
-pub record IsTooLong (journals : SystemJournals) (it : Writing) (size : ℕ) : Type 0 where
-  pub journal : UnitJournal
-  pub here : slice_get journals.journals (it.system - 1) ≡ Some journal
-  pub long : size ≡ full_at journal (entry_with (next_moment journals (it.system - 1)) it.next)
+-- with the record behind the log of its system that volume would be this long, which is over the most that it may be
+pub record IsTooLong {R A V : Type 0} (kept : KeptOf R A V) (it : Writing) (size : ℕ) : Type 0 where
+  pub long : size ≡ length_with (entries_at kept.journals (it.system - 1) (log_of kept.world it.system))
+      (entry_with (next_moment kept.journals (it.system - 1)) it.next)
   pub over : most_bytes < size
 
 -- the moment of the record stands behind those of its log, and no other journal changed; where there is no record none did

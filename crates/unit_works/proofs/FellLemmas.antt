@@ -1,5 +1,5 @@
 -- A system fell as it was to append the record of an event: nothing more has ended, and there are no claims.
-use Rattle.std.proofs.Common.{◌≡◌, ◌⊎◌, ℕ, true, Option, Some, None, List, [], inl, inr, sym, ap, subst, ◌∙◌}
+use Rattle.std.proofs.Common.{◌≡◌, ◌⊎◌, ◌-◌, ℕ, true, Option, Some, None, List, [], inl, inr, sym, ap, subst, ◌∙◌}
 use Rattle.std.proofs.lemmas.Bool.{cond-true}
 use Rattle.unit_core.specs.declared.records.Record.{Record}
 use Rattle.trfc_protocol.specs.declared.event.Event.{Event}
@@ -13,13 +13,13 @@ use Rattle.trfc_protocol.specs.Worlds.{is_up, log_of, rest_of, rest_or_none, sta
 use Rattle.trfc_protocol.proofs.KeepingLemmas.{kept-is}
 use Rattle.trfc_protocol.proofs.RecordLemmas.{MayWrite-record}
 use Rattle.system_journals.specs.declared.journals.SystemJournals.{SystemJournals}
+use Rattle.system_journals.specs.OnDisk.{moments_at, next_moment}
 use Rattle.kept_world.specs.Kept.{KeptOf}
 use Rattle.unit_landscape.specs.Ends.{Failed, FellInstead, Overflowed}
 use Rattle.unit_landscape.specs.Kept.{IsLandscape}
-use Rattle.unit_landscape.proofs.EndsLemmas.{falls-up}
+use Rattle.unit_landscape.proofs.EndsLemmas.{falls-up, too_long-same}
 use Rattle.unit_works.specs.Claims.{AreOrGone}
 use Rattle.unit_works.specs.Finished.{finished_in}
-use Rattle.unit_landscape.specs.Writes.{IsTooLong}
 use Rattle.unit_works.specs.Trips.{CutAt, DidNotFit, HasFailed}
 use Rattle.unit_works.specs.steps.Claims.{WasCut}
 use Rattle.unit_works.proofs.LogLemmas.{grown-same, listed}
@@ -95,7 +95,10 @@ module _ {R A V : Type 0} (meaning : R → Meaning) (lawful : (r : R) → IsLawf
         cut-at None world (inr (record {
           nothing = finds None world;
           size = full.size;
-          long = subst (λ (j : SystemJournals). IsTooLong j Given full.size) (sym full.journals) full.long;
+          long = too_long-same before after Given full.size
+              (ap (λ (w : World R). log_of w (did.0).system) world ∙ fall-log before.world (did.0).system fell-up None (did.0).system)
+              (ap (λ (j : SystemJournals). moments_at j ((did.0).system - 1)) full.journals)
+              (ap (λ (j : SystemJournals). next_moment j ((did.0).system - 1)) full.journals) full.long;
           told = full.told;
         }))
   ]

@@ -9,7 +9,6 @@ use Rattle.std.proofs.lemmas.List.{get_or-set_other}
 use Rattle.std.proofs.lemmas.List.Folds.{list_all-append}
 use Rattle.ale_base.specs.Tid.{TidOf}
 use Rattle.unit_core.specs.declared.records.Record.{Record}
-use Rattle.unit_codec.specs.Entries.{entry_with}
 use Rattle.trfc_protocol.specs.declared.event.Event.{Event}
 use Rattle.trfc_protocol.specs.declared.event.Event.TheVariants.{Fall}
 use Rattle.trfc_protocol.specs.declared.world.World.{World}
@@ -24,14 +23,14 @@ use Rattle.trfc_protocol.proofs.RecordLemmas.{MayWrite-record}
 use Rattle.trfc_protocol.proofs.WorldLemmas.{is_up-known, state_of-least, state_of-most}
 use Rattle.system_journals.specs.declared.journals.SystemJournals.{SystemJournals}
 use Rattle.system_journals.specs.Changes.{OnlyAt}
-use Rattle.system_journals.specs.OnDisk.{full_at, last_moment, later, moment_of, moments_at, next_moment}
+use Rattle.system_journals.specs.OnDisk.{last_moment, later, moment_of, moments_at, next_moment}
 use Rattle.kept_world.specs.Appending.{HasOneMore}
 use Rattle.kept_world.specs.Kept.{KeptOf, overrun_at}
 use Rattle.kept_world.specs.Overruns.{overrun_in}
 use Rattle.unit_landscape.specs.Ends.{NoFaults, Happened, Failed, FellBehind, Stays, FellInstead, IsShort, Overflowed}
 use Rattle.unit_landscape.specs.Kept.{IsLandscape}
-use Rattle.unit_landscape.specs.Writes.{IsTooLong, MomentsAs}
-use Rattle.unit_landscape.proofs.EndsLemmas.{falls-up}
+use Rattle.unit_landscape.specs.Writes.{MomentsAs}
+use Rattle.unit_landscape.proofs.EndsLemmas.{falls-up, too_long-same}
 use Rattle.unit_works.specs.Events.{is_works_record, is_works_rest}
 use Rattle.unit_works.specs.Went.{AreStamped, HasCause, HasNotFallen, HasRisen, HaveWorksBehind, IsUnfit, StaysDown, WentOn, with_more}
 use Rattle.unit_works.proofs.FellLemmas.{fell-failed, fell-full, fell-up}
@@ -87,7 +86,6 @@ module _ {R A V : Type 0} (meaning : R → Meaning) (faults : V → ℕ → ℕ)
       → ((tid : TidOf) → committed_unit (meaning after.world.rules) after.world tid ≡ committed_unit (meaning between.world.rules) between.world tid)
       → StaysDown between after system → IsUnfit meaning faults before between system → IsUnfit meaning faults before after system
   unfit-still rules committed stays unfit =
-      let long = unfit.long in
       record {
         next = unfit.next;
         works = unfit.works;
@@ -95,12 +93,7 @@ module _ {R A V : Type 0} (meaning : R → Meaning) (faults : V → ℕ → ℕ)
             ∙ ap (λ l. may_follow (meaning between.world.rules) system l unfit.next) stays.log ∙ unfit.may;
         sent = λ unit takes. committed unit.tid ∙ unfit.sent unit takes;
         size = unfit.size;
-        long = record {
-          journal = long.journal;
-          here = stays.journal ∙ long.here;
-          long = long.long ∙ ap (λ m. full_at long.journal (entry_with m unfit.next)) (sym stays.moment);
-          over = long.over;
-        };
+        long = too_long-same between after (record { system = system; next = unfit.next }) unfit.size stays.log stays.moments stays.moment unfit.long;
         told = stays.overrun ∙ unfit.told;
       }
 
@@ -171,7 +164,7 @@ module _ {R A V : Type 0} (meaning : R → Meaning) (faults : V → ℕ → ℕ)
     moments = λ place. (0, refl);
     counts = λ place. inl (omega arith);
     unharmed = λ system least up. refl;
-    stays = λ system least down. record { down = down; rest = refl; log = refl; journal = refl; moment = refl; overrun = refl };
+    stays = λ system least down. record { down = down; rest = refl; log = refl; moments = refl; moment = refl; overrun = refl };
     falls = λ is system up down. absurd (both_ways (is_up kept.world system) down up);
   }
 
@@ -224,7 +217,7 @@ module _ {R A V : Type 0} (meaning : R → Meaning) (faults : V → ℕ → ℕ)
           down = two.down;
           rest = two.rest ∙ one.rest;
           log = two.log ∙ one.log;
-          journal = two.journal ∙ one.journal;
+          moments = two.moments ∙ one.moments;
           moment = two.moment ∙ one.moment;
           overrun = two.overrun ∙ one.overrun;
         };
@@ -259,12 +252,12 @@ module _ {R A V : Type 0} (meaning : R → Meaning) (faults : V → ℕ → ℕ)
 
 -- ---- what became of an event
 
--- the journals of other systems are as they were
+-- the moments of the logs of other systems are as they were
 still-other : (before after : SystemJournals) (place other : ℕ) → OnlyAt place before after → other ≢ place
-    → (slice_get after.journals other ≡ slice_get before.journals other) × (next_moment after other ≡ next_moment before other)
+    → (moments_at after other ≡ moments_at before other) × (next_moment after other ≡ next_moment before other)
 still-other before after place other only differs =
     let same = only.others other differs in (
-      same.journal,
+      ap (λ moments. unwrap_or moments []) same.moments,
       ap (λ m. later m (last_moment (unwrap_or (slice_get after.moments other) []))) only.moment
           ∙ ap (λ moments. later before.moment (last_moment (unwrap_or moments []))) same.moments,
     )
@@ -283,14 +276,14 @@ module _ {R A V : Type 0} (meaning : R → Meaning) (lawful : (r : R) → IsLawf
       both_ways (is_up before.world system) (sym (ap (is_up before.world) equal) ∙ down) up
 
   same-state : (other : ℕ) → is_up before.world other ≡ false → state_of after.world.systems other ≡ state_of before.world.systems other
-      → slice_get after.journals.journals (other - 1) ≡ slice_get before.journals.journals (other - 1)
+      → moments_at after.journals (other - 1) ≡ moments_at before.journals (other - 1)
       → next_moment after.journals (other - 1) ≡ next_moment before.journals (other - 1) → overrun_at after other ≡ overrun_at before other
       → StaysDown before after other
-  same-state other down state journal moment overrun = record {
+  same-state other down state moments moment overrun = record {
     down = ap up_or_not state ∙ down;
     rest = ap rest_or_none state;
     log = ap log_or_none state;
-    journal = journal;
+    moments = moments;
     moment = moment;
     overrun = overrun;
   }
@@ -299,15 +292,15 @@ module _ {R A V : Type 0} (meaning : R → Meaning) (lawful : (r : R) → IsLawf
   same-overrun same other = ap (λ all. overrun_in all other) same
 
   same-journals : after.journals ≡ before.journals → (other : ℕ)
-      → (slice_get after.journals.journals (other - 1) ≡ slice_get before.journals.journals (other - 1))
+      → (moments_at after.journals (other - 1) ≡ moments_at before.journals (other - 1))
       × (next_moment after.journals (other - 1) ≡ next_moment before.journals (other - 1))
-  same-journals same other = (ap (λ (j : SystemJournals). slice_get j.journals (other - 1)) same, ap (λ (j : SystemJournals). next_moment j (other - 1)) same)
+  same-journals same other = (ap (λ (j : SystemJournals). moments_at j (other - 1)) same, ap (λ (j : SystemJournals). next_moment j (other - 1)) same)
 
   -- a record leaves the journals of systems that are down
   moments-still : (e : Event) (found : Option Writing) → record_of (meaning before.world.rules) before.world e ≡ found
       → MomentsAs before.journals after.journals found
       → (other : ℕ) → 1 ≤ other → is_up before.world other ≡ false
-      → (slice_get after.journals.journals (other - 1) ≡ slice_get before.journals.journals (other - 1))
+      → (moments_at after.journals (other - 1) ≡ moments_at before.journals (other - 1))
       × (next_moment after.journals (other - 1) ≡ next_moment before.journals (other - 1))
   moments-still e None writes same other least down = same-journals same other
   moments-still e (Some it) writes more other least down =
@@ -480,7 +473,8 @@ module _ {R A V : Type 0} (meaning : R → Meaning) (lawful : (r : R) → IsLawf
               ∙ fall-committed before.world it.system up None (meaning before.world.rules) tid) unit.tid
               ∙ (step-sent (meaning before.world.rules) (lawful before.world.rules) before.world is.safe e it writes unit takes);
           size = did.size;
-          long = subst (λ (j : SystemJournals). IsTooLong j it did.size) (sym did.journals) did.long;
+          long = too_long-same before after it did.size same (ap (λ (j : SystemJournals). moments_at j (it.system - 1)) did.journals)
+              (ap (λ (j : SystemJournals). next_moment j (it.system - 1)) did.journals) did.long;
           told = did.told;
         }
 

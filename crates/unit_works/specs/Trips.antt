@@ -44,7 +44,7 @@ pub record Wholly {R : Type 0} (before after : World R) (added : List Writing) :
 pub record DidNotFit {R A V : Type 0} (after : KeptOf R A V) (next : Writing) : Type 0 where
   pub nothing : rest_of after.world next.system ≡ None
   pub size : ℕ
-  pub long : IsTooLong after.journals next size
+  pub long : IsTooLong after next size
   pub told : overrun_at after next.system ≡ Some size
 
 -- A volume failed as a record was to be appended, and its faults rose (`HasCause`): its system may find that record, and no length is kept.

@@ -1,5 +1,5 @@
 -- A landscape goes on by events.
-use Rattle.std.specs.Prelude.{◌≡◌, ◌≤◌, ◌<◌, ◌⊎◌, ◌-◌, ◌^◌, ℕ, zero, suc, Bool, true, false, Option, Some, None, List, [], ◌∷◌, ◌++◌, slice_get}
+use Rattle.std.specs.Prelude.{◌≡◌, ◌≤◌, ◌<◌, ◌⊎◌, ◌-◌, ◌^◌, ℕ, zero, suc, Bool, true, false, Option, Some, None, List, [], ◌∷◌, ◌++◌}
 use Rattle.std.specs.List.{list_all}
 use Rattle.ale_base.specs.Tid.{TidOf}
 use Rattle.unit_core.specs.declared.ale_unit.AleUnit.{AleUnit}
@@ -33,7 +33,7 @@ module _ {R A V : Type 0} (meaning : R → Meaning) (faults : V → ℕ → ℕ)
     pub may : may_follow (meaning after.world.rules) system (log_of after.world system) next ≡ true
     pub sent : (unit : AleUnit) → taken_by next ≡ Some unit → committed_unit (meaning after.world.rules) after.world unit.tid ≡ Some unit
     pub size : ℕ
-    pub long : IsTooLong after.journals (record { system = system; next = next }) size
+    pub long : IsTooLong after (record { system = system; next = next }) size
     pub told : overrun_at after system ≡ Some size
 
   -- why a system is down that was up: its volume failed as it was to write a record, which it may find, and no length is kept; or a record
@@ -42,12 +42,12 @@ module _ {R A V : Type 0} (meaning : R → Meaning) (faults : V → ℕ → ℕ)
   HasCause (Some next) = HasRisen (faults before.vols (system - 1)) (faults after.vols (system - 1)) × (overrun_at after system ≡ None)
   HasCause None = IsUnfit
 
--- a system is down as it was before, with its log, what it may find, its journal, and what is kept of its length
+-- a system is down as it was before, with its log and the moments of that, what it may find, and what is kept of its length
 pub record StaysDown {R A V : Type 0} (before after : KeptOf R A V) (system : ℕ) : Type 0 where
   pub down : is_up after.world system ≡ false
   pub rest : rest_of after.world system ≡ rest_of before.world system
   pub log : log_of after.world system ≡ log_of before.world system
-  pub journal : slice_get after.journals.journals (system - 1) ≡ slice_get before.journals.journals (system - 1)
+  pub moments : moments_at after.journals (system - 1) ≡ moments_at before.journals (system - 1)
   pub moment : next_moment after.journals (system - 1) ≡ next_moment before.journals (system - 1)
   pub overrun : overrun_at after system ≡ overrun_at before system
 

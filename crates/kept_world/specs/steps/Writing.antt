@@ -7,12 +7,11 @@ use Rattle.unit_codec.specs.Entries.{entry_with}
 use Rattle.byte_journal.specs.Log.{most_bytes}
 use Rattle.byte_journal.specs.declared.fault.AppendFault.{AppendFault}
 use Rattle.byte_journal.specs.declared.fault.AppendFault.TheVariants.{Volume as VolumeFault, Full as FullAt, OutOfMemory}
-use Rattle.unit_journal.specs.declared.journal.UnitJournal.{UnitJournal}
 use Rattle.trfc_protocol.specs.Meaning.{Meaning}
 use Rattle.trfc_protocol.specs.Worlds.{is_up, with_fall}
 use Rattle.trfc_protocol.specs.Safe.{AreApart}
 use Rattle.system_journals.specs.declared.journals.SystemJournals.{SystemJournals}
-use Rattle.system_journals.specs.OnDisk.{next_moment, moments_at, full_at, IsOnDisk, IsLeftOnDisk}
+use Rattle.system_journals.specs.OnDisk.{next_moment, moments_at, entries_at, length_with, IsOnDisk, IsLeftOnDisk}
 use Rattle.system_journals.specs.Changes.{OnlyAt}
 use Rattle.world_tables.specs.declared.world_tables.WorldTables.{WorldTables}
 use Rattle.world_tables.specs.Entered.{IsEntered, HasCount}
@@ -20,12 +19,13 @@ use Rattle.world_tables.specs.InStep.{AreInStepWith}
 use Rattle.kept_world.specs.declared.append_end.AppendEnd.{AppendEnd}
 use Rattle.kept_world.specs.declared.append_end.AppendEnd.TheVariants.{Volume, Full, Before, After}
 
--- a volume is told to be full exactly where with the record it would have this length, which is over the most that it may have; unless
--- memory ran out before
-abbrev pub IsFullAs : {T : Type 0} → ℕ → SystemJournals → Record → Result T AppendFault → UnitJournal → Type 0
-IsFullAs place before next result journal =
+-- the volume of a log is told to be full exactly where with the record it would have this length, which is over the most that it may have;
+-- unless memory ran out before
+abbrev pub IsFullAs : {T : Type 0} → ℕ → SystemJournals → List Record → Record → Result T AppendFault → Type 0
+IsFullAs place before log next result =
     (size : ℕ) → result ≢ Err OutOfMemory
-    → (result ≡ Err (FullAt size)) ↔ ((size ≡ full_at journal (entry_with (next_moment before place) next)) × (most_bytes < size))
+    → (result ≡ Err (FullAt size))
+    ↔ ((size ≡ length_with (entries_at before place log) (entry_with (next_moment before place) next)) × (most_bytes < size))
 
 -- a record was written behind the log at a place; or perhaps, where the volume failed; or not, where it is full or memory ran out
 pub record IsWriteOf {D T : Type 0} (told : Type 0) (volume : D → ℕ → OneVolume) (old new : D) (place : ℕ) (before after : SystemJournals)
@@ -33,7 +33,7 @@ pub record IsWriteOf {D T : Type 0} (told : Type 0) (volume : D → ℕ → OneV
   pub written : OnOk result (IsOnDisk told volume new place after (log ++ next ∷ []))
   pub torn : IsErrOf result VolumeFault → IsLeftOnDisk told volume new place after log (Some next)
   pub unwritten : IsErrOf result OutOfMemory → IsOnDisk told volume new place after log
-  pub full : (journal : UnitJournal) → slice_get before.journals place ≡ Some journal → IsFullAs place before next result journal
+  pub full : IsFullAs place before log next result
   pub full_same : (size : ℕ) → result ≡ Err (FullAt size) → new ≡ old
   pub err : OnErr result (after ≡ before)
   pub one : OnlyAt place before after

@@ -7,7 +7,7 @@ use Rattle.unit_codec.specs.Condition.{IsWritable}
 use Rattle.unit_codec.specs.Entries.{entry_with}
 use Rattle.unit_journal.specs.Settled.{IsBeforeOrAfter}
 use Rattle.system_journals.specs.OnDisk.{next_moment, entries_at}
-use Rattle.kept_world.specs.steps.Writing.{IsFullAs, IsWriteOf}
+use Rattle.kept_world.specs.steps.Writing.{IsWriteOf}
 use Rattle.kept_world.proofs.writing.write_last.Goals as goal
 
 pub unreachable-requires : goal.unreachable-requires
@@ -29,9 +29,7 @@ returns-clause-wrote g c = λ next log last disk.
       written = c.write.ensures.written log disk;
       torn = c.write.ensures.torn log disk;
       unwritten = c.write.ensures.unwritten log disk;
-      full = λ journal at.
-          let its : disk.journal ≡ journal = same_Some disk.journal journal (sym disk.here ∙ at) in
-          subst (IsFullAs (c.args.system - 1) c.args.journals.now c.in-Some.next.now c.write.result) its (c.write.ensures.full log disk);
+      full = c.write.ensures.full log disk;
       full_same = c.write.ensures.full_same;
       err = c.write.ensures.err;
       one = c.write.ensures.one;

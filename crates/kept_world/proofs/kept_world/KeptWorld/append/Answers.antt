@@ -1,5 +1,5 @@
 use Rattle.std.proofs.Common.{◌≡◌, ◌-◌, true, Ok, Err, sym, ap, subst, ◌∙◌}
-use Rattle.trfc_protocol.specs.Worlds.{is_up}
+use Rattle.trfc_protocol.specs.Worlds.{is_up, log_of}
 use Rattle.kept_world.specs.Appending.{IsToAppend, FullAs}
 use Rattle.kept_world.specs.Overruns.{AreOverrunsOf}
 use Rattle.kept_world.proofs.OverrunsLemmas.{overruns-written, overruns-after, overruns-ended}
@@ -54,9 +54,11 @@ invariant_of-self-in-Err-1 g c =
 
 pub returns-in-Ok-clause-full : goal.returns-in-Ok-clause-full
 returns-in-Ok-clause-full g c =
-    full-after (c.args.system - 1) c.args.self.now.journals c.args.next c.note.result c.note.ensures.after
-    (subst (λ k. FullAs {T = Unit {0}} (c.args.system - 1) k.journals c.args.next (Ok tt)) c.self.view_is c.in-Ok.ensures.full)
+    full-after (c.args.system - 1) c.args.self.now.journals (log_of c.args.self.now.world c.args.system) c.args.next c.note.result c.note.ensures.after
+    (subst (λ k. FullAs {T = Unit {0}} (c.args.system - 1) k.journals (log_of k.world c.args.system) c.args.next (Ok tt)) c.self.view_is
+    c.in-Ok.ensures.full)
 
 pub returns-in-Err-clause-full : goal.returns-in-Err-clause-full
 returns-in-Err-clause-full g c =
-    subst (λ k. FullAs {T = Unit {0}} (c.args.system - 1) k.journals c.args.next (Err c.in-Err.end)) c.self.view_is c.in-Err.ensures.full
+    subst (λ k. FullAs {T = Unit {0}} (c.args.system - 1) k.journals (log_of k.world c.args.system) c.args.next (Err c.in-Err.end)) c.self.view_is
+    c.in-Err.ensures.full

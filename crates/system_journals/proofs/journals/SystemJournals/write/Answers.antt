@@ -11,7 +11,7 @@ use Rattle.system_journals.specs.OnDisk.{moments_at, next_moment, entries_at, Is
 use Rattle.system_journals.specs.Changes.{OnlyAt}
 use Rattle.system_journals.proofs.PlaceLemmas.{got-set_at, set-got, noted-here, length-noted}
 use Rattle.system_journals.proofs.KeptLemmas.{IsOnDisk-stands}
-use Rattle.system_journals.proofs.WriteLemmas.{OnlyAt-none, OnlyAt-written, unchanged, within-place, same-journal, on-here, settled-here}
+use Rattle.system_journals.proofs.WriteLemmas.{OnlyAt-none, OnlyAt-written, unchanged, within-place, on-here, settled-here}
 use Rattle.system_journals.proofs.WriteLemmas.{IsOnDisk-written, IsOnDisk-unwritten, IsLeft-torn, full-here}
 use Rattle.system_journals.proofs.journals.SystemJournals.write.Goals as goal
 
@@ -160,8 +160,8 @@ returns-in-Err-clause-full g c = λ log disk length not_memory.
     let at : k ≡ place = ap (λ (n : ℕ). n - 1) c.get.ensures.number in
     let was = c.at_mut.result.now in
     let here : slice_get all.journals place ≡ Some was = ap (λ (i : ℕ). slice_get all.journals i) (sym at) ∙ c.at_mut.ensures.value in
-    full-here was disk.journal moment (next_moment all place) c.args.next.now length (same-journal V.told V.volume old place all log was here disk)
-    c.next_moment-moment.ensures (c.in-Err.ensures.full length not_memory)
+    full-here was (entries_at all place log) moment (next_moment all place) c.args.next.now length
+    (on-here V.told V.volume old place all log was here disk).at_end c.next_moment-moment.ensures (c.in-Err.ensures.full length not_memory)
 
 pub returns-in-Err-clause-err : goal.returns-in-Err-clause-err
 returns-in-Err-clause-err g c =
