@@ -1,6 +1,7 @@
 //! The trait of the desk that workers take works from.
 
 ghost use Rattle.std.specs.Prelude.{◌≡◌, ◌≤◌, ℕ, IfOk, IfSome, IfNone, OnOk};
+ghost use Rattle.ale_base.specs.Tid.{TidOf};
 
 use ale_base::{OutOfMemory, SystemNo, Tid};
 use std::alloc::Global;
@@ -25,6 +26,9 @@ pub trait Desk {
     // The ready is of the work.
     ghost is_of: { Self.Ready → Self.Work → Type 0 };
 
+    // The system and the unit of a work.
+    ghost name_of: { Self.Work → ℕ × TidOf };
+
     // The desk has no work.
     ghost is_idle: { Self → Type 0 };
 
@@ -34,15 +38,17 @@ pub trait Desk {
     // How many works were finished.
     ghost finishes: { Self → ℕ };
 
-    /// Takes a work of this desk. None only where the desk is idle. After an `Err` the worker has no work.
+    /// Takes a work of this desk. None exactly where the desk is idle. After an `Err` the worker has no work.
     fn take(&mut self) -> Result<Option<Self::Work>, OutOfMemory>
         ensures origin { origin self.new ≡ origin self.old }
         ensures work { IfOk result (λ taken. IfSome taken (λ work. origin_of work ≡ origin self.old)) }
         ensures idle { IfOk result (λ taken. IfNone taken (is_idle self.old)) }
+        ensures busy { IfOk result (λ taken. IfSome taken (λ work. is_idle self.old → ⊥)) }
         ensures finishes { finishes self.new ≡ finishes self.old };
 
     /// The system and the unit of a work, as a gate sees them.
-    fn name(work: &Self::Work) -> (SystemNo, Tid);
+    fn name(work: &Self::Work) -> (SystemNo, Tid)
+        ensures { result ≡ name_of work.now };
 
     /// Prepares a work. A worker calls it while it does not have the desk. After an `Err` the work is dropped.
     fn prepare(alloc: Global, work: &Self::Work) -> Result<Self::Ready, OutOfMemory>

@@ -1,5 +1,5 @@
 -- What is known of a work of a drain, wherever it is.
-use Rattle.std.specs.Prelude.{◌≡◌, false, Option, Some, IfSome}
+use Rattle.std.specs.Prelude.{◌≡◌, ℕ, false, Option, Some, IfSome}
 use Rattle.std.specs.Arc.{arc_value}
 use Rattle.ale_base.specs.Tid.{TidOf}
 use Rattle.unit_core.specs.declared.ale_unit.AleUnit.{AleUnit}
@@ -25,6 +25,11 @@ pub record SeenWork (V : Type 0) : Type 0 where
 abbrev pub tid_of : Task → TidOf
 tid_of (Ship claim) = claim.tid
 tid_of (Execute claim) = claim.tid
+
+-- the system at which a task is done, its sender or its receiver, and its unit
+abbrev pub name_of : Task → ℕ × TidOf
+name_of (Ship claim) = (claim.tid.system, claim.tid)
+name_of (Execute claim) = (claim.system, claim.tid)
 
 module _ (world : World ModelRules) where
   -- the unit of an id was committed, and this is so of it

@@ -6,7 +6,7 @@ ghost use Rattle.unit_works.specs.Drained.{IsIdle};
 ghost use Rattle.unit_works.specs.Worked.{NothingIn, NothingOut};
 ghost use Rattle.unit_works.specs.steps.Rounds.{NothingAt, NothingTo};
 ghost use Rattle.drain_desk.specs.Work.{IsBasis};
-ghost use Rattle.drain_desk.specs.steps.Claiming.{Claims, IsOffer};
+ghost use Rattle.drain_desk.specs.steps.Claiming.{Claims, IsBusy, IsOffer};
 
 use crate::work::{Basis, Task};
 use ale_base::{OutOfMemory, SystemNo, Tid};
@@ -30,6 +30,7 @@ pub(crate) fn claim_any<V: Volumes>(
     ensures claims { Claims V.faults landscape.old landscape.new (is_ok result) }
     ensures offer { IfOk result (λ found. IfSome found (IsOffer landscape.new.world)) }
     ensures none { IfOk result (λ found. IsNone found → (landscape.new ≡ landscape.old) × IsIdle landscape.old.world) }
+    ensures busy { IfOk result (λ found. IfSome found (λ offer. IsBusy landscape.old.world)) }
 {
     let found = claim_first(landscape)?;
     let _ = landscape.world();
@@ -41,6 +42,7 @@ fn claim_first<V: Volumes>(landscape: &mut Landscape<V>) -> Result<Option<Offer>
     ensures claims { Claims V.faults landscape.old landscape.new (is_ok result) }
     ensures offer { IfOk result (λ found. IfSome found (IsOffer landscape.new.world)) }
     ensures none { IfOk result (λ found. IsNone found → (landscape.new ≡ landscape.old) × NothingTo landscape.old.world 16) }
+    ensures busy { IfOk result (λ found. IfSome found (λ offer. IsBusy landscape.old.world)) }
 {
     for number in 0..SystemNo::MAX {
         let Some(system) = SystemNo::of(number + 1) else {
@@ -62,6 +64,7 @@ fn claim_at<V: Volumes>(
     ensures claims { Claims V.faults landscape.old landscape.new (is_ok result) }
     ensures offer { IfOk result (λ found. IfSome found (IsOffer landscape.new.world)) }
     ensures none { IfOk result (λ found. IsNone found → (landscape.new ≡ landscape.old) × NothingAt landscape.old.world system) }
+    ensures busy { IfOk result (λ found. IfSome found (λ offer. IsBusy landscape.old.world)) }
 {
     match claim_out(landscape, system)? {
         Some(offer) => Ok(Some(offer)),
@@ -77,6 +80,7 @@ fn claim_out<V: Volumes>(
     ensures claims { Claims V.faults landscape.old landscape.new (is_ok result) }
     ensures offer { IfOk result (λ found. IfSome found (IsOffer landscape.new.world)) }
     ensures none { IfOk result (λ found. IsNone found → (landscape.new ≡ landscape.old) × NothingOut landscape.old.world system) }
+    ensures busy { IfOk result (λ found. IfSome found (λ offer. IsBusy landscape.old.world)) }
 {
     let _ = landscape.world();
     match claim_to_ship(landscape, system)? {
@@ -99,6 +103,7 @@ fn claim_in<V: Volumes>(
     ensures claims { Claims V.faults landscape.old landscape.new (is_ok result) }
     ensures offer { IfOk result (λ found. IfSome found (IsOffer landscape.new.world)) }
     ensures none { IfOk result (λ found. IsNone found → (landscape.new ≡ landscape.old) × NothingIn landscape.old.world system) }
+    ensures busy { IfOk result (λ found. IfSome found (λ offer. IsBusy landscape.old.world)) }
 {
     let _ = landscape.world();
     match claim_to_execute(landscape, system)? {

@@ -98,7 +98,7 @@ impl<V: Volumes> Desk for DrainDesk<V> {
     ghost use Rattle.landscape.specs.Working.{IsPreparedFor};
     ghost use Rattle.unit_works.specs.Drained.{IsIdle};
     ghost use Rattle.drain_desk.specs.Done.{HasDone};
-    ghost use Rattle.drain_desk.specs.Work.{tid_of};
+    ghost use Rattle.drain_desk.specs.Work.{name_of, tid_of};
 
     type Work = Work<V>;
 
@@ -112,6 +112,8 @@ impl<V: Volumes> Desk for DrainDesk<V> {
 
     ghost is_of = { λ ready work. IfSome ready.prepared
         (λ its. IsPreparedFor work.origin.landscape.value.world (tid_of work.task) its.postings) };
+
+    ghost name_of = { λ work. name_of work.task };
 
     ghost is_idle = { λ desk. IsIdle desk.landscape.world };
 

@@ -29,10 +29,11 @@ pub struct Drained<V: Volumes> {
     pub end: Result<u64, OutOfMemory>,
 }
 
-/// Works until nothing is left to do, by so many workers, from 1 to 16. At first all claims are given up, and each unit that is done and not
-/// ended, with both its systems up, takes a letter, and is confirmed unless its confirmation is lost. Then workers claim the units that are
-/// offered, pass the gate and prepare each without the lock, and ship or execute up to 16 of them, one after the other, in one more hold of
-/// it. Once they have ended the caller gives up the claims that are left and goes round all systems until nothing is offered.
+/// Works until nothing is left to do, by so many workers, from 1 to 16. So it goes on, by design and by no clause: at first all claims are
+/// given up, and each unit that is done and not ended, with both its systems up, takes a letter, and is confirmed unless its confirmation
+/// is lost. Then workers claim the units that are offered, pass the gate and prepare each without the lock, and ship or execute up to 16
+/// of them, one after the other, in one more hold of it. Once they have ended the caller gives up the claims that are left and goes round
+/// all systems until nothing is offered.
 ///
 /// So a drain is a list of acts, one after the other, and nothing else but that claims are made and given up between them: the logs grow in
 /// each by exactly its records, or by those before the one at which a system fell. At the end no claim is left, and no confirmation is due but

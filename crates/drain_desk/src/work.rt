@@ -52,8 +52,13 @@ pub struct Ready {
 }
 
 impl Task {
+    ghost use Rattle.std.specs.Prelude.{◌≡◌};
+    ghost use Rattle.drain_desk.specs.Work.{name_of};
+
     /// The system and the unit of the task.
-    pub(crate) fn name(&self) -> (SystemNo, Tid) {
+    pub(crate) fn name(&self) -> (SystemNo, Tid)
+        ensures { result ≡ name_of self.now }
+    {
         match self {
             Task::Ship(claim) => (claim.tid().system(), claim.tid()),
             Task::Execute(claim) => (claim.system(), claim.tid()),

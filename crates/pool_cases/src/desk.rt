@@ -28,6 +28,8 @@ pub(crate) struct FakeWork {
     number: u32,
     /// How many works its desk has.
     of: u32,
+    /// The unit of that number of system 1.
+    tid: Tid,
     /// Whether memory is wanting when it is prepared.
     is_short: bool,
     meeting: Option<Arc<Meeting>>,
@@ -91,6 +93,8 @@ impl Desk for FakeDesk {
 
     ghost is_of = { λ ready work. ready.number ≡ work.number };
 
+    ghost name_of = { λ work. (work.tid.system, work.tid) };
+
     ghost is_idle = { λ desk. desk.works ≤ desk.taken };
 
     ghost has_done = { λ desk work after. desk.finished ≤ after.finished };
@@ -109,20 +113,21 @@ impl Desk for FakeDesk {
             Some(meeting) => Some(Arc::try_clone(meeting)?),
             None => None,
         };
+        let Some(system) = SystemNo::of(1) else {
+            unreachable!()
+        };
         self.taken += 1;
         Ok(Some(FakeWork {
             number,
             of: self.works,
+            tid: Tid::of(system, number % Tid::MAX_UNIT + 1),
             is_short: self.want == Some((Call::Prepare, number)),
             meeting,
         }))
     }
 
     fn name(work: &FakeWork) -> (SystemNo, Tid) {
-        match SystemNo::of(1) {
-            Some(system) => (system, Tid::of(system, work.number % Tid::MAX_UNIT + 1)),
-            None => unreachable!(),
-        }
+        (work.tid.system(), work.tid)
     }
 
     fn prepare(_alloc: Global, work: &FakeWork) -> Result<FakeReady, OutOfMemory> {

@@ -77,13 +77,17 @@ module _ {R A V : Type 0} (meaning : R → Meaning) (lawful : (r : R) → IsLawf
         ap (λ (w : World R). w.claims) world-claimed_out
         ∙ ap (λ (n : ℕ). before.world.claims ++ record { number = n; tid = claim.tid; system = claim.tid.system; kind = Out } ∷ []) (sym made.next) in
         record {
+          offered = did.1;
           first = did.2;
+          here = did.3;
+          made = made;
           stands = stands-found_out after.world claim (out_held claim)
               (ap (claim_of claim.number) claims ∙ found-last claim.number before.world.claims (out_held claim) refl fresh) refl refl;
           claims = claims;
           fresh = fresh;
           unit = did.4.0;
           committed = did.4.1;
+          receiver = did.4.2;
           may =
               let up = is_up before.world claim.tid.system && is_free_outbound (committed_by (meaning before.world.rules) before.world claim.tid.system)
               (log_of before.world claim.tid.system) claim.tid in
@@ -135,7 +139,9 @@ module _ {R A V : Type 0} (meaning : R → Meaning) (lawful : (r : R) → IsLawf
     is-executed =
         let made = did.4 in
         record {
+          offered = did.1;
           first = did.2;
+          made = made;
           claims = ap (λ (w : World R). w.claims) world-claimed_in
               ∙ ap (λ (n : ℕ). before.world.claims ++ record { number = n; tid = claim.tid; system = system; kind = In } ∷ []) (sym made.next)
               ∙ ap (λ (s : ℕ). before.world.claims ++ record { number = claim.number; tid = claim.tid; system = s; kind = In } ∷ []) (sym did.3);

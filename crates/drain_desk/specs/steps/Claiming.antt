@@ -4,6 +4,7 @@ use Rattle.trfc_protocol.specs.declared.world.World.{World}
 use Rattle.kept_world.specs.Kept.{KeptOf}
 use Rattle.document_tables.specs.declared.document_tables.DocumentTables.{DocumentTables}
 use Rattle.model_rules.specs.declared.model_rules.ModelRules.{ModelRules}
+use Rattle.unit_works.specs.Drained.{IsIdle}
 use Rattle.unit_works.specs.Events.{is_work}
 use Rattle.unit_works.specs.Worked.{HaveOnlyClaimed, Worked}
 use Rattle.drain_desk.specs.declared.claiming.Offer.{Offer}
@@ -15,6 +16,10 @@ pub record Claims {V : Type 0} (faults : V → ℕ → ℕ) (before after : Kept
   pub went : Worked faults before after is_work whole
   pub only : HaveOnlyClaimed before after
   pub runs : NoneRuns before.world.claims → NoneRuns after.world.claims
+
+-- a unit is offered at some system
+abbrev pub IsBusy : World ModelRules → Type 0
+IsBusy world = IsIdle world → ⊥
 
 -- a unit that was claimed may go, and this is what it is prepared from
 pub record IsOffer (world : World ModelRules) (offer : Offer) : Type 0 where

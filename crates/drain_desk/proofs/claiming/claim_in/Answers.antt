@@ -1,6 +1,7 @@
 use Rattle.std.specs.Prelude.{IfSome, IsNone}
 use Rattle.std.specs.Result.{is_ok}
 use Rattle.std.proofs.Common.{true, refl, sym, subst}
+use Rattle.std.proofs.lemmas.Bool.{both_ways}
 use Rattle.unit_works.specs.Events.{is_run}
 use Rattle.unit_works.specs.Claiming.{IsExecuted}
 use Rattle.unit_works.proofs.WorkedLemmas.{meaning}
@@ -48,3 +49,11 @@ returns-in_ok-basis-in-Some-clause-offer g c =
           c.in_ok-claim_to_execute.ensures.only is;
       base = subst (λ t. IsBasis c.claim_to_execute.new.landscape.world t c.in_ok-basis-in-Some.basis) c.tid.ensures c.in_ok-basis-in-Some.ensures;
     }
+
+pub returns-in_ok-basis-in-Some-clause-busy : goal.returns-in_ok-basis-in-Some-clause-busy
+returns-in_ok-basis-in-Some-clause-busy g c = λ idle.
+    let is = subst (λ found. IfSome found (IsExecuted (meaning c.args.landscape.now.world.rules) c.args.landscape.now.world
+    c.claim_to_execute.new.landscape.world
+    c.args.system))
+    c.in-Some.is c.in_ok-claim_to_execute.ensures.claim in
+    both_ways _ (idle.inbound c.args.system c.in-Some.claim.tid) is.offered

@@ -1,6 +1,7 @@
 use Rattle.std.specs.Prelude.{IfSome, IsNone}
 use Rattle.std.specs.Result.{is_ok}
 use Rattle.std.proofs.Common.{true, refl, sym, subst}
+use Rattle.std.proofs.lemmas.Bool.{both_ways}
 use Rattle.unit_works.specs.Events.{is_claim}
 use Rattle.unit_works.specs.Claiming.{IsShipped}
 use Rattle.unit_works.proofs.WorkedLemmas.{meaning}
@@ -44,3 +45,11 @@ returns-in_ok-basis-in-Some-clause-offer g c =
       may = may-out g.V.Volumes.faults c.args.landscape.now c.claim_to_ship.new.landscape c.args.system c.in-Some.claim c.in_ok-claim_to_ship.ensures.only is;
       base = subst (λ t. IsBasis c.claim_to_ship.new.landscape.world t c.in_ok-basis-in-Some.basis) c.tid.ensures c.in_ok-basis-in-Some.ensures;
     }
+
+pub returns-in_ok-basis-in-Some-clause-busy : goal.returns-in_ok-basis-in-Some-clause-busy
+returns-in_ok-basis-in-Some-clause-busy g c = λ idle.
+    let is = subst (λ found. IfSome found (IsShipped (meaning c.args.landscape.now.world.rules) c.args.landscape.now.world
+    c.claim_to_ship.new.landscape.world
+    c.args.system))
+    c.in-Some.is c.in_ok-claim_to_ship.ensures.claim in
+    both_ways _ (idle.outbound c.in-Some.claim.tid) is.offered
