@@ -1,4 +1,4 @@
--- How a run ends: why it ends so, with which status, and what it prints.
+-- How a call ends that is no run: why it ends so, with which status, and what it prints.
 use Rattle.std.specs.Prelude.{◌≡◌, ℕ, ◌≤◌, ◌⊎◌, List, [], ◌++◌, length, codes, Some, None, ⊤}
 use Rattle.std.specs.Fmt.{decimal}
 use Rattle.ale_io.specs.Told.{Told}

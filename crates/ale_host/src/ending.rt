@@ -1,4 +1,4 @@
-//! How a run ends: its status and its text.
+//! How a call ends that is no run: its status and its text.
 
 ghost use Rattle.std.specs.Prelude.{◌≡◌, ◌≢◌, ◌++◌, codes, IfOk};
 ghost use Rattle.std.specs.Fmt.{decimal};
@@ -23,7 +23,7 @@ pub enum NotRead {
     Failed,
 }
 
-/// How a run ends.
+/// How a call ends that is no run.
 #[derive(Debug, Drop)]
 pub enum Ending {
     /// The documents of the file were taken, each once and in order.
@@ -59,7 +59,7 @@ impl Ending {
         }
     }
 
-    /// What the run prints.
+    /// What the call prints.
     pub fn text(&self, alloc: Global) -> Result<Vec<u8>, OutOfMemory>
         requires { IsPrintable self.now }
         ensures { IfOk result (λ text. text.items ≡ text_of self.now) }

@@ -51,8 +51,8 @@ pub struct Ended<V> {
 ///
 /// The files of `run` are read in order, and the first one that is not read or is refused ends it. Then the clock is asked and
 /// the systems are opened over the volumes, system i on volume i - 1, with a Genesis each; and then the commands are carried
-/// out, each with the moment that the clock gives for it. A drain is done by as many dialog workers as the last word says, which pass the
-/// gate before each work. The text of each command is put behind it. A system that goes down
+/// out, each with the moment that the clock gives for it. By design, and by no clause, a drain is done by as many dialog workers as the
+/// last word says, which pass the gate before each work. The text of each command is put behind it. A system that goes down
 /// ends the run behind the command in which it did. A load is the same with the texts that it makes from its number, but for what is put:
 /// one line at its end, which tells how much the logs hold then. With each status but 6 the text that was put is exactly that of the
 /// ending, and with 6 it is a part of it that begins at its front, and that has at least the text of all commands but the last one that was

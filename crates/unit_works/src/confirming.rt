@@ -32,9 +32,9 @@ use wires::{Letter, Wires};
 
 /// Sends the confirmation of a unit that is done and not ended, and then the reply to it. Nothing changes where it is not done or ended,
 /// or one of its systems is down, or no unit has this id. Where it is done and not ended and both its systems are up, the logs grow by
-/// exactly the record of the
-/// receiver, unless it has forgotten the unit before, and that of the sender; where one of them falls as it is to append its record, the
-/// records before that one stand, and none behind it. After an `Err` the confirmation may have come to the receiver.
+/// exactly the record of the receiver, unless it has forgotten the unit before, and that of the sender; where one of them falls as it is
+/// to append its record, the records before that one stand, and none behind it. After an `Err` the confirmation may have come to the
+/// receiver.
 pub fn confirm<V: Volumes>(landscape: &mut Landscape<V>, tid: Tid) -> Result<(), OutOfMemory>
     ensures went { Worked V.faults landscape.old landscape.new is_confirmation (is_ok result) }
     ensures ended { OnOk result (HaveEnded V.faults landscape.old landscape.new 0) }

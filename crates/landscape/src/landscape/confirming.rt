@@ -15,7 +15,7 @@ impl<V: Volumes> Landscape<V> {
     ghost use Rattle.trfc_protocol.specs.Worlds.{is_up, log_of};
     ghost use Rattle.landscape.specs.Shown.{AreUnconfirmedAt};
 
-    /// The ids of a system's units that are done and not ended, in order, each once; none where the system is down. It takes the time of the ids.
+    /// The ids of a system's units that are done and not ended, each once; none where the system is down. It takes the time of the ids.
     pub fn unconfirmed(&self, system: SystemNo) -> Result<Items<Tid>, OutOfMemory>
         ensures unconfirmed { IfOk result (AreUnconfirmedAt self.now.world system) }
         ensures apart { IfOk result (IsDistinct is_tid) }
