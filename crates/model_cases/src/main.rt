@@ -5,6 +5,7 @@
 #![tactic(auto)]
 
 mod answer;
+mod growth;
 mod lookups;
 mod models;
 mod suite;

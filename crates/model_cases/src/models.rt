@@ -1,6 +1,7 @@
 //! Items on distribution models, read from their text.
 
 use crate::answer::Answer;
+use crate::growth::unkept;
 use crate::lookups::{inbound_of, message_named, outbound_of, receivers};
 use crate::text::{line_of, plain, put_line};
 use crate::told::model_told;
@@ -15,6 +16,8 @@ use std::alloc::Global;
 pub(crate) struct ModelText {
     /// Its first lines, the same for some cases.
     head: Vec<u8>,
+    /// The text of the model that is to be replaced.
+    before: Vec<u8>,
     whole: Vec<u8>,
 }
 
@@ -23,6 +26,7 @@ impl ModelText {
     pub(crate) fn new(alloc: Global) -> ModelText {
         ModelText {
             head: Vec::new(alloc),
+            before: Vec::new(alloc),
             whole: Vec::new(alloc),
         }
     }
@@ -36,9 +40,17 @@ pub(crate) fn answer(alloc: Global, text: &mut ModelText, item: &Item) -> Result
         text.head = lines_of(alloc, &[], block)?;
         return Ok(Answer::Taken);
     }
+    if word == b"before".as_slice() {
+        text.before = lines_of(alloc, text.head.as_slice(), block)?;
+        return Ok(Answer::Taken);
+    }
     if word == b"model".as_slice() {
         text.whole = lines_of(alloc, text.head.as_slice(), block)?;
         return Ok(Answer::Taken);
+    }
+    if word == b"unkept".as_slice() {
+        let found = unkept(alloc, text.before.as_slice(), text.whole.as_slice())?;
+        return Ok(Answer::Text(found));
     }
     asked(alloc, text.whole.as_slice(), word, item.rest.as_slice())
 }
@@ -124,7 +136,7 @@ fn named(alloc: Global, model: &Model, name: &[u8]) -> Result<Vec<u8>, LineEnd> 
 }
 
 /// A fault and its path.
-fn told_fault(alloc: Global, fault: ModelFault) -> Result<Vec<u8>, LineEnd> {
+pub(crate) fn told_fault(alloc: Global, fault: ModelFault) -> Result<Vec<u8>, LineEnd> {
     let told = fault_told(alloc, &fault);
     drop(fault);
     told
