@@ -2,3 +2,5 @@
 pub mod TextLemmas
 -- the items of a file, line by line
 pub mod ItemLemmas
+-- the steps of one item after another
+mod AnsweredLemmas

@@ -10,3 +10,7 @@ pub mod Rules
 pub mod Text
 -- the items of a file, and their blocks
 pub mod Items
+-- the texts that cases share
+pub mod Texts
+-- cases whose items are answered one after another
+pub mod Answered

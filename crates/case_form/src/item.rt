@@ -12,7 +12,7 @@ use ale_base::OutOfMemory;
 use std::alloc::Global;
 
 /// An item of a case: a line that begins at its first byte, and the lines of its block.
-#[derive(Debug, Drop)]
+#[derive(Drop)]
 pub struct Item {
     /// The number of its line, from 1.
     pub line: u32,
@@ -27,7 +27,7 @@ pub struct Item {
 }
 
 /// A line of a block, without the blanks before it.
-#[derive(Debug, Drop)]
+#[derive(Drop)]
 pub struct BlockLine {
     /// Its number, from 1.
     pub line: u32,

@@ -8,7 +8,10 @@
 //! and texts), `Rules`, `Verdict` (what fits, and when a case passes), `Report` (the text).
 #![tactic(auto)]
 
+mod answering;
+mod building;
 mod details;
+mod dice;
 mod folder;
 mod item;
 mod judging;
@@ -17,12 +20,17 @@ mod making;
 mod report;
 mod rule;
 mod text;
+mod texts;
 mod verdict;
 
+pub use answering::{Bench, outcome_on};
+pub use building::Text;
+pub use dice::Dice;
 pub use folder::run_folder;
 pub use item::{BlockLine, Item, read_items};
 pub use judging::{CaseFile, JudgedCase, Suite};
 pub use report::{Report, run_cases};
 pub use rule::{CaseFault, LineEnd, Rule};
 pub use text::{cut, first_word, meaning_of, number_of, put_text, put_times};
+pub use texts::Texts;
 pub use verdict::{Comparison, Outcome, Relation, Step};

@@ -4,25 +4,27 @@ ghost use Rattle.std.specs.Prelude.{◌≡◌, ◌++◌, OnOk, IfOk, string_byte
 ghost use Rattle.case_form.specs.Report.{IsReportOn, case_text, cases_text, is_passed, last_line, shown_steps};
 
 use crate::judging::{CaseFile, JudgedCase, Suite, judge_all};
+use crate::texts::Texts;
 use ale_base::OutOfMemory;
 use std::alloc::Global;
 
 /// What is printed of some cases, and whether all passed.
-#[derive(Debug, Drop)]
+#[derive(Drop)]
 pub struct Report {
     pub text: String,
     pub all_passed: bool,
 }
 
-/// Runs the cases of a suite, in order.
+/// Runs the cases of a suite, in order, beside the texts that they may use.
 pub fn run_cases<S: Suite>(
     alloc: Global,
     suite: &S,
+    texts: &Texts,
     files: &[CaseFile],
 ) -> Result<Report, OutOfMemory>
-    ensures { IfOk result (IsReportOn (S.comes_out suite.now) files.now) }
+    ensures { IfOk result (IsReportOn (S.comes_out suite.now texts.now) files.now) }
 {
-    let judged = judge_all(alloc, suite, files)?;
+    let judged = judge_all(alloc, suite, texts, files)?;
     let mut text = String::new(alloc);
     put_cases(alloc, &mut text, judged.as_slice())?;
     let passed = count_of_passed(judged.as_slice());

@@ -7,7 +7,7 @@ use ale_base::OutOfMemory;
 use std::alloc::{AllocError, AllocFailed};
 
 /// A rule of case files that a line breaks, as it is printed. Each program has rules of its own beside those here.
-#[derive(Clone, Copy, Debug, PartialEq, Eq)]
+#[derive(Clone, Copy, PartialEq, Eq)]
 pub struct Rule(pub &'static str);
 
 impl Rule {
@@ -72,7 +72,7 @@ pub(crate) fn bad_number() -> Rule
 }
 
 /// Why a case file is not read.
-#[derive(Clone, Copy, Debug, PartialEq, Eq)]
+#[derive(Clone, Copy, PartialEq, Eq)]
 pub enum CaseFault {
     /// The line of this number, from 1, breaks this rule.
     Malformed { line: u32, rule: Rule },
@@ -80,7 +80,7 @@ pub enum CaseFault {
 }
 
 /// Why a line of a case file is not read.
-#[derive(Clone, Copy, Debug, PartialEq, Eq)]
+#[derive(Clone, Copy, PartialEq, Eq)]
 pub enum LineEnd {
     Broken(Rule),
     OutOfMemory,

@@ -8,7 +8,7 @@ use crate::rule::Rule;
 use ale_base::Items;
 
 /// How the text that was found has to stand to the one that the case expects.
-#[derive(Clone, Copy, Debug, PartialEq, Eq)]
+#[derive(Clone, Copy, PartialEq, Eq)]
 pub enum Relation {
     /// It is the same.
     Whole,
@@ -21,7 +21,7 @@ pub enum Relation {
 }
 
 /// A text that a case expects, and the one that was found.
-#[derive(Debug, Drop)]
+#[derive(Drop)]
 pub struct Comparison {
     /// What is compared, as it is printed where it differs.
     pub what: Items<u8>,
@@ -47,7 +47,7 @@ impl Comparison {
 }
 
 /// A step of a case, with all that it compares.
-#[derive(Debug, Drop)]
+#[derive(Drop)]
 pub struct Step {
     /// The line of its item in the case file, from 1.
     pub line: u32,
@@ -75,7 +75,7 @@ impl Step {
 }
 
 /// What came of a case file.
-#[derive(Debug, Drop)]
+#[derive(Drop)]
 pub enum Outcome {
     /// The line of this number, from 1, breaks this rule.
     Malformed { line: u32, rule: Rule },

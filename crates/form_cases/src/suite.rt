@@ -1,7 +1,9 @@
 //! The suite: items that find what they say.
 
 use ale_base::{Items, OutOfMemory};
-use case_form::{CaseFault, Item, LineEnd, Outcome, Rule, Step, Suite, put_text, read_items};
+use case_form::{
+    CaseFault, Item, LineEnd, Outcome, Rule, Step, Suite, Texts, put_text, read_items,
+};
 use std::alloc::Global;
 
 /// The one rule of this program beside the form.
@@ -11,7 +13,13 @@ const NO_SUCH_ITEM: Rule = Rule("an item is title, finds or broken");
 pub(crate) struct Echoes;
 
 impl Suite for Echoes {
-    fn outcome(&self, alloc: Global, file: &str, bytes: &[u8]) -> Result<Outcome, OutOfMemory> {
+    fn outcome(
+        &self,
+        alloc: Global,
+        _texts: &Texts,
+        file: &str,
+        bytes: &[u8],
+    ) -> Result<Outcome, OutOfMemory> {
         Outcome::of(steps_of(alloc, file, bytes))
     }
 }

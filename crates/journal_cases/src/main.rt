@@ -1,23 +1,17 @@
 //! The acceptance program of volumes and journals: it runs the case files of a folder and prints a line a case.
 //!
-//! Contract: that of `case_form` on the verdict, and, of two journals on two volumes of one disk, what an append to both
-//! leaves of each (`append_both`). Beyond that nothing is proved but that it is safe and ends. The items of these cases are
-//! in `docs/reference/journal.md`.
+//! Contract: that of `case_form` on the verdict. Beyond that nothing is proved but that it is safe and ends. The items of
+//! these cases are in `docs/reference/journal.md`.
 #![tactic(auto)]
 
-mod answer;
 mod appends;
 mod crashes;
 mod disk;
-mod logs;
-mod records;
-mod rules;
-mod side_by_side;
-mod spellings;
+mod entries;
 mod suite;
-mod text;
 mod told;
 mod volumes;
+mod words;
 
 use case_form::run_folder;
 use std::io;

@@ -1,69 +1,152 @@
 //! The suite: a case file's items, answered one after another on one disk.
 
-use crate::answer::Answer;
+ghost use Rattle.std.specs.Prelude.{◌<◌};
+
+use crate::appends::{appends, open_one};
+use crate::crashes::{crash, logs};
 use crate::disk::disk_of;
-use crate::rules::NO_SUCH_ITEM;
-use crate::{appends, crashes, logs, records, volumes};
-use ale_base::{Items, OutOfMemory};
+use crate::entries::{enters, entry, log};
+use crate::volumes::{length, put_count, read, sync, write};
+use crate::words::volume_word;
+use ale_base::OutOfMemory;
 use ale_volumes::MemoryVolumes;
-use case_form::{CaseFault, Item, LineEnd, Outcome, Step, Suite, read_items};
+use case_form::{Bench, Item, LineEnd, Outcome, Rule, Suite, Text, Texts, meaning_of, outcome_on};
 use std::alloc::Global;
+
+const NO_SUCH_ITEM: Rule = Rule("an item is one that the program has");
 
 /// The cases of volumes and journals.
 pub(crate) struct Journals;
 
+/// The disk of a case.
+#[derive(Drop)]
+struct DiskBench {
+    vols: MemoryVolumes,
+}
+
 impl Suite for Journals {
-    fn outcome(&self, alloc: Global, file: &str, bytes: &[u8]) -> Result<Outcome, OutOfMemory> {
-        Outcome::of(steps_of(alloc, file, bytes))
+    fn outcome(
+        &self,
+        alloc: Global,
+        _texts: &Texts,
+        file: &str,
+        bytes: &[u8],
+    ) -> Result<Outcome, OutOfMemory> {
+        let vols = MemoryVolumes::new(alloc);
+        outcome_on(alloc, &mut DiskBench { vols }, file, bytes)
     }
 }
 
-/// The steps of a case file: one for each item but those that make a disk.
-fn steps_of(alloc: Global, file: &str, bytes: &[u8]) -> Result<Items<Step>, CaseFault> {
-    let items = read_items(alloc, file, bytes)?;
-    let mut vols = MemoryVolumes::new(alloc);
-    let mut steps = Items::new(alloc);
-    for item in &items {
-        put_step(alloc, &mut vols, item, &mut steps)?;
+impl Bench for DiskBench {
+    /// What an item finds. One that makes a disk finds nothing.
+    fn found(&mut self, alloc: Global, item: &Item) -> Result<Option<Vec<u8>>, LineEnd> {
+        let about = meaning_of(&WORDS, item.word.as_slice()).ok_or(NO_SUCH_ITEM)?;
+        if let About::Disk = about {
+            self.vols = disk_of(alloc, item)?;
+            return Ok(None);
+        }
+        let mut text = Text::new(alloc);
+        put_found(
+            alloc,
+            &mut self.vols,
+            about,
+            item.rest.as_slice(),
+            &mut text,
+        )?;
+        Ok(Some(text.into_bytes()))
     }
-    Ok(steps)
 }
 
-/// Makes the disk of an item that gives one, and else adds the item's step.
-fn put_step(
+/// What an item is about.
+#[derive(Clone, Copy)]
+enum About {
+    Disk,
+    Clock,
+    Calls,
+    Entry,
+    Volume(OnVolume),
+}
+
+/// What an item does or asks of one volume.
+#[derive(Clone, Copy)]
+enum OnVolume {
+    Write,
+    Sync,
+    Length,
+    Read,
+    Holds,
+    Faults,
+    Crash,
+    Logs,
+    Open,
+    Appends,
+    Log,
+    Enters,
+}
+
+/// The words of the items.
+const WORDS: [(&'static [u8], About); 16] = [
+    (b"disk", About::Disk),
+    (b"clock", About::Clock),
+    (b"calls", About::Calls),
+    (b"entry", About::Entry),
+    (b"write", About::Volume(OnVolume::Write)),
+    (b"sync", About::Volume(OnVolume::Sync)),
+    (b"length", About::Volume(OnVolume::Length)),
+    (b"read", About::Volume(OnVolume::Read)),
+    (b"holds", About::Volume(OnVolume::Holds)),
+    (b"faults", About::Volume(OnVolume::Faults)),
+    (b"crash", About::Volume(OnVolume::Crash)),
+    (b"logs", About::Volume(OnVolume::Logs)),
+    (b"open", About::Volume(OnVolume::Open)),
+    (b"appends", About::Volume(OnVolume::Appends)),
+    (b"log", About::Volume(OnVolume::Log)),
+    (b"enters", About::Volume(OnVolume::Enters)),
+];
+
+/// Puts what an item finds.
+fn put_found(
     alloc: Global,
     vols: &mut MemoryVolumes,
-    item: &Item,
-    steps: &mut Items<Step>,
-) -> Result<(), CaseFault> {
-    if item.word.as_slice() == b"disk".as_slice() {
-        *vols = disk_of(alloc, item)?;
-        return Ok(());
-    }
-    match found_by(alloc, vols, item) {
-        Ok(found) => Ok(steps.push(Step::of(alloc, item, found)?)?),
-        Err(end) => Err(end.at(item.line)),
+    about: About,
+    rest: &[u8],
+    text: &mut Text,
+) -> Result<(), LineEnd> {
+    match about {
+        About::Disk => Ok(()),
+        About::Clock => Ok(put_count(text, vols.clock())?),
+        About::Calls => Ok(put_count(text, vols.calls().made)?),
+        About::Entry => entry(alloc, rest, text),
+        About::Volume(about) => {
+            let (n, rest) = volume_word(rest)?;
+            on_volume(alloc, vols, about, n, rest, text)
+        }
     }
 }
 
-/// What an item finds.
-fn found_by(alloc: Global, vols: &mut MemoryVolumes, item: &Item) -> Result<Vec<u8>, LineEnd> {
-    let word = item.word.as_slice();
-    let rest = item.rest.as_slice();
-    if let Answer::Text(found) = volumes::answer(alloc, vols, word, rest)? {
-        return Ok(found);
-    }
-    if let Answer::Text(found) = appends::answer(alloc, vols, word, rest)? {
-        return Ok(found);
-    }
-    if let Answer::Text(found) = records::answer(alloc, word, rest)? {
-        return Ok(found);
-    }
-    if let Answer::Text(found) = logs::answer(alloc, vols, word, rest)? {
-        return Ok(found);
-    }
-    match crashes::answer(alloc, vols, word, rest)? {
-        Answer::Text(found) => Ok(found),
-        Answer::Foreign => Err(NO_SUCH_ITEM.into()),
+/// Puts what an item finds that names a volume.
+fn on_volume(
+    alloc: Global,
+    vols: &mut MemoryVolumes,
+    about: OnVolume,
+    n: u8,
+    rest: &[u8],
+    text: &mut Text,
+) -> Result<(), LineEnd>
+    requires { n < 16 }
+{
+    match about {
+        OnVolume::Write => write(alloc, vols, n, rest, text),
+        OnVolume::Sync => sync(alloc, vols, n, text),
+        OnVolume::Length => length(alloc, vols, n, text),
+        OnVolume::Read => read(alloc, vols, n, rest, text),
+        OnVolume::Holds => Ok(text.put_line(vols.contents(n))?),
+        OnVolume::Faults => Ok(put_count(text, vols.calls().faults[usize::from(n)])?),
+        OnVolume::Crash => crash(alloc, vols, n, rest, text),
+        OnVolume::Logs => logs(alloc, vols, n, rest, text),
+        OnVolume::Open => open_one(alloc, vols, n, text),
+        OnVolume::Appends => appends(alloc, vols, n, rest, text),
+        OnVolume::Log => log(alloc, vols, n, text),
+        OnVolume::Enters => enters(alloc, vols, n, rest, text),
     }
 }

@@ -1,176 +1,168 @@
-//! Records as the cases tell them.
+//! Entries as the cases tell them.
 
-use ale_base::{FieldValue, Items, Mark, QueueName, Tid, Way};
-use std::alloc::{AllocError, Global};
-use std::fmt::Display;
+use ale_base::{FieldValue, Items, Mark, OutOfMemory, QueueName, Tid, Way};
+use case_form::Text;
+use unit_codec::Entry;
 use unit_core::{AleUnit, RawUnitDoc, Record};
 
-/// The name of a record and its fields, in one line; of a document the names and data of its segments.
-pub(crate) fn told(alloc: Global, what: &Record) -> Result<Vec<u8>, AllocError> {
-    let mut line = Vec::from_slice(alloc, name_of(what).as_bytes())?;
-    put_fields(alloc, &mut line, what)?;
-    line.push(b'\n')?;
-    Ok(line)
-}
-
-fn name_of(what: &Record) -> &'static str {
-    match what {
-        Record::Genesis { .. } => "Genesis",
-        Record::Commit { .. } => "Commit",
-        Record::Dispatch => "Dispatch",
-        Record::Mark { .. } => "Mark",
-        Record::Done { .. } => "Done",
-        Record::Ended { .. } => "Ended",
-        Record::Accept { .. } => "Accept",
-        Record::Execute { .. } => "Execute",
-        Record::Direct { .. } => "Direct",
-        Record::Fail { .. } => "Fail",
-        Record::Forget { .. } => "Forget",
-        Record::Stop { .. } => "Stop",
-        Record::Start { .. } => "Start",
-        Record::Retry { .. } => "Retry",
-        Record::Put { .. } => "Put",
-        Record::App { .. } => "App",
-        Record::Repost { .. } => "Repost",
-        Record::Model { .. } => "Model",
+/// Puts the name of a record and its fields in one line, of a document the names and data of its segments; and the moment
+/// of the entry in another, if it has one.
+pub(crate) fn put_entry(text: &mut Text, entry: &Entry) -> Result<(), OutOfMemory> {
+    put_record(text, &entry.what)?;
+    text.end_line()?;
+    match entry.moment {
+        Some(moment) => {
+            text.put(b"at ")?;
+            text.put_number(moment)?;
+            text.end_line()
+        }
+        None => Ok(()),
     }
 }
 
-fn put_fields(alloc: Global, line: &mut Vec<u8>, what: &Record) -> Result<(), AllocError> {
+fn put_record(text: &mut Text, what: &Record) -> Result<(), OutOfMemory> {
     match what {
-        Record::Genesis { system, text } => {
-            put_number(alloc, line, system)?;
-            put_word(line, text.as_slice())
+        Record::Genesis {
+            system,
+            text: model,
+        } => {
+            put_numbered(text, b"Genesis", u64::from(*system))?;
+            text.put_word(model.as_slice())
         }
-        Record::Commit { origin, docs } => put_commit(line, origin, docs),
-        Record::Dispatch => Ok(()),
-        Record::Mark { tid, cause } => put_mark(line, *tid, *cause),
-        Record::Done { tid }
-        | Record::Ended { tid }
-        | Record::Execute { tid }
-        | Record::Fail { tid }
-        | Record::Forget { tid } => put_word(line, &tid.bytes()),
-        Record::Accept { unit } | Record::Direct { unit } => put_unit(alloc, line, unit),
+        Record::Commit { origin, docs } => put_commit(text, origin, docs),
+        Record::Dispatch => text.put(b"Dispatch"),
+        Record::Mark { tid, cause } => put_mark(text, *tid, *cause),
+        Record::Done { tid } => put_with_tid(text, b"Done", *tid),
+        Record::Ended { tid } => put_with_tid(text, b"Ended", *tid),
+        Record::Execute { tid } => put_with_tid(text, b"Execute", *tid),
+        Record::Fail { tid } => put_with_tid(text, b"Fail", *tid),
+        Record::Forget { tid } => put_with_tid(text, b"Forget", *tid),
+        Record::Accept { unit } => put_unit(text, b"Accept", unit),
+        Record::Direct { unit } => put_unit(text, b"Direct", unit),
         Record::Stop {
             way,
             destination,
             name,
-        }
-        | Record::Start {
+        } => put_queue(text, b"Stop", *way, *destination, name),
+        Record::Start {
             way,
             destination,
             name,
-        } => put_queue(alloc, line, *way, *destination, name),
+        } => put_queue(text, b"Start", *way, *destination, name),
         Record::Retry { way, tid } => {
-            put_way(line, *way)?;
-            put_word(line, &tid.bytes())
+            text.put(b"Retry")?;
+            put_with_tid(text, name_of(*way), *tid)
         }
-        Record::Put { kind, key, fields } => put_change(line, kind, key, fields),
-        Record::App { doc } | Record::Repost { doc } => put_number(alloc, line, &doc.0),
-        Record::Model { text } => put_word(line, text.as_slice()),
+        Record::Put { kind, key, fields } => put_change(text, kind, key, fields),
+        Record::App { doc } => put_numbered(text, b"App", doc.0),
+        Record::Repost { doc } => put_numbered(text, b"Repost", doc.0),
+        Record::Model { text: model } => {
+            text.put(b"Model")?;
+            text.put_word(model.as_slice())
+        }
     }
+}
+
+fn put_numbered(text: &mut Text, name: &[u8], number: u64) -> Result<(), OutOfMemory> {
+    text.put(name)?;
+    text.put(b" ")?;
+    text.put_number(number)
+}
+
+fn put_with_tid(text: &mut Text, name: &[u8], tid: Tid) -> Result<(), OutOfMemory> {
+    text.put(name)?;
+    text.put_word(&tid.bytes())
 }
 
 fn put_commit(
-    line: &mut Vec<u8>,
+    text: &mut Text,
     origin: &Option<Items<u8>>,
     docs: &Items<RawUnitDoc>,
-) -> Result<(), AllocError> {
+) -> Result<(), OutOfMemory> {
+    text.put(b"Commit")?;
     if let Some(name) = origin {
-        put_word(line, b"of")?;
-        put_word(line, name.as_slice())?;
+        text.put(b" of")?;
+        text.put_word(name.as_slice())?;
     }
-    put_docs(line, docs)
+    put_docs(text, docs)
 }
 
-fn put_mark(line: &mut Vec<u8>, tid: Tid, cause: Mark) -> Result<(), AllocError> {
-    put_word(line, &tid.bytes())?;
-    let cause: &[u8] = match cause {
-        Mark::Cpicerr => b"CPICERR",
-        Mark::Sysfail => b"SYSFAIL",
-    };
-    put_word(line, cause)
+fn put_mark(text: &mut Text, tid: Tid, cause: Mark) -> Result<(), OutOfMemory> {
+    put_with_tid(text, b"Mark", tid)?;
+    match cause {
+        Mark::Cpicerr => text.put(b" CPICERR"),
+        Mark::Sysfail => text.put(b" SYSFAIL"),
+    }
 }
 
-fn put_unit(alloc: Global, line: &mut Vec<u8>, unit: &AleUnit) -> Result<(), AllocError> {
-    put_word(line, &unit.tid.bytes())?;
-    put_word(line, b"from")?;
-    put_number(alloc, line, &unit.sender.get())?;
-    put_word(line, b"to")?;
-    put_number(alloc, line, &unit.receiver.get())?;
-    put_word(line, unit.function.trimmed())?;
-    put_names(line, Way::Outgoing, &unit.outq)?;
-    put_names(line, Way::Incoming, &unit.inq)?;
-    put_docs(line, &unit.docs)
+fn put_unit(text: &mut Text, name: &[u8], unit: &AleUnit) -> Result<(), OutOfMemory> {
+    put_with_tid(text, name, unit.tid)?;
+    put_numbered(text, b" from", u64::from(unit.sender.get()))?;
+    put_numbered(text, b" to", u64::from(unit.receiver.get()))?;
+    text.put_word(unit.function.trimmed())?;
+    put_names(text, Way::Outgoing, &unit.outq)?;
+    put_names(text, Way::Incoming, &unit.inq)?;
+    put_docs(text, &unit.docs)
 }
 
-fn put_names(line: &mut Vec<u8>, way: Way, names: &Items<QueueName>) -> Result<(), AllocError> {
-    put_way(line, way)?;
+fn put_names(text: &mut Text, way: Way, names: &Items<QueueName>) -> Result<(), OutOfMemory> {
+    text.put(name_of(way))?;
     for name in names {
-        put_word(line, name.bytes())?;
+        text.put_word(name.bytes())?;
     }
     Ok(())
 }
 
-fn put_docs(line: &mut Vec<u8>, docs: &Items<RawUnitDoc>) -> Result<(), AllocError> {
+fn put_docs(text: &mut Text, docs: &Items<RawUnitDoc>) -> Result<(), OutOfMemory> {
     for doc in docs {
-        put_word(line, b"document")?;
-        put_segments(line, doc)?;
+        text.put(b" document")?;
+        put_segments(text, doc)?;
     }
     Ok(())
 }
 
-fn put_segments(line: &mut Vec<u8>, doc: &RawUnitDoc) -> Result<(), AllocError> {
+fn put_segments(text: &mut Text, doc: &RawUnitDoc) -> Result<(), OutOfMemory> {
     for segment in &doc.segments {
-        put_word(line, segment.segnam.trimmed())?;
-        line.push(b'=')?;
-        line.extend_from_slice(segment.sdata.as_slice())?;
+        text.put_word(segment.segnam.trimmed())?;
+        text.put(b"=")?;
+        text.put(segment.sdata.as_slice())?;
     }
     Ok(())
 }
 
 fn put_queue(
-    alloc: Global,
-    line: &mut Vec<u8>,
+    text: &mut Text,
+    record: &[u8],
     way: Way,
     destination: u8,
     name: &QueueName,
-) -> Result<(), AllocError> {
-    put_way(line, way)?;
-    put_number(alloc, line, &destination)?;
-    put_word(line, name.bytes())
+) -> Result<(), OutOfMemory> {
+    text.put(record)?;
+    put_numbered(text, name_of(way), u64::from(destination))?;
+    text.put_word(name.bytes())
 }
 
 fn put_change(
-    line: &mut Vec<u8>,
+    text: &mut Text,
     kind: &Items<u8>,
     key: &Items<u8>,
     fields: &Items<FieldValue>,
-) -> Result<(), AllocError> {
-    put_word(line, kind.as_slice())?;
-    put_word(line, key.as_slice())?;
+) -> Result<(), OutOfMemory> {
+    text.put(b"Put")?;
+    text.put_word(kind.as_slice())?;
+    text.put_word(key.as_slice())?;
     for field in fields {
-        put_word(line, field.field.as_slice())?;
-        line.push(b'=')?;
-        line.extend_from_slice(field.value.as_slice())?;
+        text.put_word(field.field.as_slice())?;
+        text.put(b"=")?;
+        text.put(field.value.as_slice())?;
     }
     Ok(())
 }
 
-fn put_way(line: &mut Vec<u8>, way: Way) -> Result<(), AllocError> {
+/// The word of a direction, behind a blank.
+fn name_of(way: Way) -> &'static [u8] {
     match way {
-        Way::Outgoing => put_word(line, b"out"),
-        Way::Incoming => put_word(line, b"in"),
+        Way::Outgoing => b" out",
+        Way::Incoming => b" in",
     }
-}
-
-fn put_number(alloc: Global, line: &mut Vec<u8>, number: &impl Display) -> Result<(), AllocError> {
-    let word = format!(in alloc; "{number}")?;
-    put_word(line, word.as_bytes())
-}
-
-/// Appends a blank and a word.
-fn put_word(line: &mut Vec<u8>, word: &[u8]) -> Result<(), AllocError> {
-    line.push(b' ')?;
-    line.extend_from_slice(word)
 }

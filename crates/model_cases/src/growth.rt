@@ -1,52 +1,33 @@
 //! What of a model another one does not keep.
 
-use crate::models::told_fault;
-use crate::text::line_of;
-use case_form::LineEnd;
+use case_form::{LineEnd, Text};
 use dist_model::Model;
 use model_growth::{Unkept, first_unkept};
-use model_text::read;
-use std::alloc::{AllocError, Global};
+use std::alloc::Global;
 
-/// `unkept`: the first part of the model of one text that the model of another one does not keep, or the first fault of one of them.
-pub(crate) fn unkept(alloc: Global, old: &[u8], new: &[u8]) -> Result<Vec<u8>, LineEnd> {
-    match read(alloc, old) {
-        Ok(model) => {
-            let told = unkept_by(alloc, &model, new);
-            drop(model);
-            told
-        }
-        Err(fault) => told_fault(alloc, fault),
+/// `unkept`: the first part of a model that another one does not keep, with its place in its list.
+pub(crate) fn unkept(alloc: Global, old: &Model, new: &Model) -> Result<Vec<u8>, LineEnd> {
+    let (part, place) = told(first_unkept(old.as_lists(), new.as_lists()));
+    let mut text = Text::new(alloc);
+    text.put(part)?;
+    if let Some(place) = place {
+        text.put(b" ")?;
+        text.put_number(place as u64)?;
     }
+    text.end_line()?;
+    Ok(text.into_bytes())
 }
 
-/// The first part of a model that the model of a text does not keep.
-fn unkept_by(alloc: Global, old: &Model, new: &[u8]) -> Result<Vec<u8>, LineEnd> {
-    match read(alloc, new) {
-        Ok(model) => {
-            let found = first_unkept(old.as_lists(), model.as_lists());
-            drop(model);
-            Ok(told(alloc, found)?)
-        }
-        Err(fault) => told_fault(alloc, fault),
-    }
-}
-
-/// A part of a model, by its place in its list.
-fn told(alloc: Global, found: Option<Unkept>) -> Result<Vec<u8>, AllocError> {
+/// The name of a part, and its place in its list where it has one.
+fn told(found: Option<Unkept>) -> (&'static [u8], Option<usize>) {
     match found {
-        None => line_of(alloc, b"none"),
-        Some(Unkept::Releases) => line_of(alloc, b"releases"),
-        Some(Unkept::Systems) => line_of(alloc, b"systems"),
-        Some(Unkept::Segment(place)) => at_place(alloc, "segment", place),
-        Some(Unkept::IdocType(place)) => at_place(alloc, "idoctype", place),
-        Some(Unkept::Kind(place)) => at_place(alloc, "kind", place),
-        Some(Unkept::Message(place)) => at_place(alloc, "message", place),
-        Some(Unkept::Reduced(place)) => at_place(alloc, "reduced", place),
+        None => (b"none", None),
+        Some(Unkept::Releases) => (b"releases", None),
+        Some(Unkept::Systems) => (b"systems", None),
+        Some(Unkept::Segment(place)) => (b"segment", Some(place)),
+        Some(Unkept::IdocType(place)) => (b"idoctype", Some(place)),
+        Some(Unkept::Kind(place)) => (b"kind", Some(place)),
+        Some(Unkept::Message(place)) => (b"message", Some(place)),
+        Some(Unkept::Reduced(place)) => (b"reduced", Some(place)),
     }
-}
-
-fn at_place(alloc: Global, word: &str, place: usize) -> Result<Vec<u8>, AllocError> {
-    let told = format!(in alloc; "{word} {place}")?;
-    line_of(alloc, told.as_bytes())
 }

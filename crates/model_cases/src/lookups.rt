@@ -1,107 +1,112 @@
 //! What is looked up in a model.
 
-use crate::text::{line_of, put_line, put_number, put_word};
-use crate::told_profiles::{put_inbound, put_outbound};
+use crate::rules::NO_SUCH_NUMBER;
 use ale_base::SystemNo;
-use case_form::{LineEnd, Rule, number_of};
-use dist_model::{MessageNo, Model, RowNo};
-use std::alloc::{AllocError, Global};
+use case_form::{LineEnd, Text, first_word, number_of};
+use dist_model::{Inbound, InboundMode, MessageNo, Model, RowNo};
+use std::alloc::Global;
 
-const NO_SUCH_NUMBER: Rule = Rule("a number is one that its item may have");
-
-const TWO_NUMBERS: Rule = Rule("two numbers stand behind the word, with a blank between them");
+/// `system_named NAME`: the number of the system of this name.
+pub(crate) fn system_named(alloc: Global, model: &Model, name: &[u8]) -> Result<Vec<u8>, LineEnd> {
+    match model.system(name) {
+        None => none(alloc),
+        Some(system) => named(alloc, b"system", &[u64::from(system.get())]),
+    }
+}
 
 /// `message_named NAME`: the message type that a name stands for, by its place.
-pub(crate) fn message_named(
-    alloc: Global,
-    model: &Model,
-    name: &[u8],
-) -> Result<Vec<u8>, AllocError> {
+pub(crate) fn message_named(alloc: Global, model: &Model, name: &[u8]) -> Result<Vec<u8>, LineEnd> {
     match model.message(name) {
-        None => line_of(alloc, b"none"),
-        Some(message) => {
-            let mut text = Vec::from_slice(alloc, b"message")?;
-            put_number(alloc, &mut text, u32::from(message.0))?;
-            put_line(&mut text, b"")?;
-            Ok(text)
-        }
+        None => none(alloc),
+        Some(message) => named(alloc, b"message", &[u64::from(message.0)]),
     }
 }
 
 /// `receivers SENDER MESSAGE`: the rows of a system and a message type, by their places.
 pub(crate) fn receivers(alloc: Global, model: &Model, words: &[u8]) -> Result<Vec<u8>, LineEnd> {
-    let (sender, message) = pair_of(words)?;
-    if message as usize >= model.as_lists().messages.len() {
-        return Err(LineEnd::from(NO_SUCH_NUMBER));
-    }
-    let Some(sender) = system_of(sender) else {
-        return Err(LineEnd::from(NO_SUCH_NUMBER));
+    let (sender, message) = first_word(words);
+    let Some(sender) = system_of(number_of(sender)?) else {
+        return Err(NO_SUCH_NUMBER.into());
     };
-    let rows = model.receivers(alloc, sender, MessageNo(message as u16))?;
-    Ok(rows_text(alloc, rows.as_slice())?)
-}
-
-/// The places of rows, in a line.
-fn rows_text(alloc: Global, rows: &[RowNo]) -> Result<Vec<u8>, AllocError> {
-    let mut text = Vec::from_slice(alloc, b"rows")?;
-    for row in rows {
-        put_number(alloc, &mut text, u32::from(row.0))?;
+    let message = number_of(message)?;
+    if message as usize >= model.as_lists().messages.len() {
+        return Err(NO_SUCH_NUMBER.into());
     }
-    put_line(&mut text, b"")?;
-    Ok(text)
+    let rows = model.receivers(alloc, sender, MessageNo(message as u16))?;
+    let mut places = Vec::new(alloc);
+    for row in &rows {
+        places.push(u64::from(row.0))?;
+    }
+    named(alloc, b"rows", places.as_slice())
 }
 
-/// `outbound_of ROW`: the profile of a row.
+/// `outbound_of ROW`: the sender, the receiver and the message type of the profile of a row.
 pub(crate) fn outbound_of(alloc: Global, model: &Model, word: &[u8]) -> Result<Vec<u8>, LineEnd> {
     let row = number_of(word)?;
     if row as usize >= model.as_lists().rows.len() {
-        return Err(LineEnd::from(NO_SUCH_NUMBER));
+        return Err(NO_SUCH_NUMBER.into());
     }
-    let mut text = Vec::new(alloc);
-    put_outbound(alloc, &mut text, model.outbound(RowNo(row as u16)))?;
-    Ok(text)
+    let profile = model.outbound(RowNo(row as u16));
+    let sender = u64::from(profile.sender.get());
+    let receiver = u64::from(profile.receiver.get());
+    named(
+        alloc,
+        b"outbound",
+        &[sender, receiver, u64::from(profile.message.0)],
+    )
 }
 
 /// `inbound_of RECEIVER SENDER NAME`: the profile by which a system posts.
 pub(crate) fn inbound_of(alloc: Global, model: &Model, words: &[u8]) -> Result<Vec<u8>, LineEnd> {
-    let Some((receiver, rest)) = cut(words) else {
-        return Err(LineEnd::from(TWO_NUMBERS));
-    };
-    let Some((sender, name)) = cut(rest) else {
-        return Err(LineEnd::from(TWO_NUMBERS));
-    };
+    let (receiver, rest) = first_word(words);
+    let (sender, name) = first_word(rest);
     let Some(receiver) = system_of(number_of(receiver)?) else {
-        return Err(LineEnd::from(NO_SUCH_NUMBER));
+        return Err(NO_SUCH_NUMBER.into());
     };
     let Some(sender) = system_of(number_of(sender)?) else {
-        return Err(LineEnd::from(NO_SUCH_NUMBER));
+        return Err(NO_SUCH_NUMBER.into());
     };
     match model.inbound(receiver, sender, name) {
-        None => Ok(line_of(alloc, b"none")?),
-        Some(profile) => {
-            let mut text = Vec::new(alloc);
-            put_inbound(alloc, &mut text, profile)?;
-            Ok(text)
-        }
+        None => none(alloc),
+        Some(profile) => inbound_told(alloc, profile),
     }
 }
 
+/// The receiver, the sender, the name and the mode of a profile.
+fn inbound_told(alloc: Global, profile: &Inbound) -> Result<Vec<u8>, LineEnd> {
+    let mut text = Text::new(alloc);
+    text.put(b"inbound ")?;
+    text.put_number(u64::from(profile.receiver.get()))?;
+    text.put(b" ")?;
+    text.put_number(u64::from(profile.sender.get()))?;
+    text.put_word(profile.message.as_slice())?;
+    text.put_line(match profile.mode {
+        InboundMode::Immediate => b" immediate",
+        InboundMode::Background => b" background",
+    })?;
+    Ok(text.into_bytes())
+}
+
+fn none(alloc: Global) -> Result<Vec<u8>, LineEnd> {
+    named(alloc, b"none", &[])
+}
+
+/// A word and numbers, in a line.
+fn named(alloc: Global, word: &[u8], numbers: &[u64]) -> Result<Vec<u8>, LineEnd> {
+    let mut text = Text::new(alloc);
+    text.put(word)?;
+    for number in numbers {
+        text.put(b" ")?;
+        text.put_number(*number)?;
+    }
+    text.end_line()?;
+    Ok(text.into_bytes())
+}
+
+/// The system of this number, if there is one.
 fn system_of(number: u32) -> Option<SystemNo> {
-    if number > 16 {
-        return None;
-    }
-    SystemNo::of(number as u8)
-}
-
-/// The parts of a text before and behind its first blank.
-fn cut(words: &[u8]) -> Option<(&[u8], &[u8])> {
-    let place = words.iter().position(|byte| *byte == b' ')?;
-    Some((&words[..place], &words[place + 1..]))
-}
-
-fn pair_of(words: &[u8]) -> Result<(u32, u32), LineEnd> {
-    match cut(words) {
-        None => Err(LineEnd::from(TWO_NUMBERS)),
-        Some((first, second)) => Ok((number_of(first)?, number_of(second)?)),
+    match u8::try_from(number) {
+        Ok(number) => SystemNo::of(number),
+        Err(_) => None,
     }
 }

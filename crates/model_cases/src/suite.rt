@@ -1,44 +1,22 @@
-//! The suite: a case file's items, answered one after another on one text.
+//! The suite: a case file's items, answered one after another on one bench.
 
-use crate::answer::Answer;
-use crate::models::{ModelText, answer};
-use ale_base::{Items, OutOfMemory};
-use case_form::{CaseFault, Item, LineEnd, Outcome, Rule, Step, Suite, read_items};
+use crate::bench::ModelBench;
+use ale_base::OutOfMemory;
+use case_form::{Outcome, Suite, Texts, outcome_on};
 use std::alloc::Global;
 
-const NO_SUCH_ITEM: Rule = Rule("an item is one that the program has");
-
 /// The cases of models.
-pub(crate) struct Models;
+pub(crate) struct ModelCases;
 
-impl Suite for Models {
-    fn outcome(&self, alloc: Global, file: &str, bytes: &[u8]) -> Result<Outcome, OutOfMemory> {
-        Outcome::of(steps_of(alloc, file, bytes))
-    }
-}
-
-/// The steps of a case file: one for each item that finds a text.
-fn steps_of(alloc: Global, file: &str, bytes: &[u8]) -> Result<Items<Step>, CaseFault> {
-    let items = read_items(alloc, file, bytes)?;
-    let mut text = ModelText::new(alloc);
-    let mut steps = Items::new(alloc);
-    for item in &items {
-        put_step(alloc, &mut text, item, &mut steps)?;
-    }
-    Ok(steps)
-}
-
-/// Adds the step of an item, where it finds a text.
-fn put_step(
-    alloc: Global,
-    text: &mut ModelText,
-    item: &Item,
-    steps: &mut Items<Step>,
-) -> Result<(), CaseFault> {
-    match answer(alloc, text, item) {
-        Ok(Answer::Text(found)) => Ok(steps.push(Step::of(alloc, item, found)?)?),
-        Ok(Answer::Taken) => Ok(()),
-        Ok(Answer::Foreign) => Err(LineEnd::from(NO_SUCH_ITEM).at(item.line)),
-        Err(end) => Err(end.at(item.line)),
+impl Suite for ModelCases {
+    fn outcome(
+        &self,
+        alloc: Global,
+        _texts: &Texts,
+        file: &str,
+        bytes: &[u8],
+    ) -> Result<Outcome, OutOfMemory> {
+        let mut bench = ModelBench::new(alloc);
+        outcome_on(alloc, &mut bench, file, bytes)
     }
 }

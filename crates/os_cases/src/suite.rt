@@ -5,7 +5,7 @@ use crate::outside::{Adapters, found};
 use crate::volumes::RealVolumes;
 use ale_base::{Items, OutOfMemory};
 use ale_os::StdSink;
-use case_form::{CaseFault, Item, Outcome, Step, Suite, read_items};
+use case_form::{CaseFault, Item, Outcome, Step, Suite, Texts, read_items};
 use std::alloc::Global;
 use std::rt::{Clock, Files};
 
@@ -21,7 +21,13 @@ pub(crate) struct OsCases {
 }
 
 impl Suite for OsCases {
-    fn outcome(&self, alloc: Global, file: &str, bytes: &[u8]) -> Result<Outcome, OutOfMemory> {
+    fn outcome(
+        &self,
+        alloc: Global,
+        _texts: &Texts,
+        file: &str,
+        bytes: &[u8],
+    ) -> Result<Outcome, OutOfMemory> {
         match read_items(alloc, file, bytes) {
             Ok(items) => Outcome::of((self.carry_out)(items).map_err(|end| end.told())),
             Err(fault) => Outcome::of(Err(fault)),

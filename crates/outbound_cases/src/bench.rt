@@ -1,188 +1,167 @@
-//! What the items of a case work on, and what comes of one.
+//! What the items of a case work on: the text of a model, and a master.
 
-use crate::logs::{Log, NamedMaster, NamedModel};
-use crate::{committing, groups, keeping, logs, random, sending, types};
-use ale_base::Items;
-use case_form::{Item, LineEnd, meaning_of};
-use dist_model::{Group, Lists};
+ghost use Rattle.std.specs.Prelude.{◌<◌, length};
+ghost use Rattle.idoc_tree.specs.Forest.{AllNodes};
+ghost use Rattle.idoc_tree.specs.Lines.{IsNode};
+ghost use Rattle.idoc_tree.specs.Nodes.{forest_of};
+
+use crate::master::{control, model_text, records};
+use crate::rules::{NO_MODEL, NO_SUCH_ITEM, NO_SUCH_NUMBER};
+use crate::sending::{keeps, leaves, master_of, queues, sends};
+use case_form::{Bench, Item, LineEnd, Texts, first_word, meaning_of, number_of};
+use dist_model::{Model, RowNo};
 use idoc_record::{Control, Data};
-use segment_defs::{Definitions, IdocType};
+use idoc_tree::Doc;
+use model_text::{ModelFault, read};
 use std::alloc::Global;
 
-/// What came of an item.
+/// The text of a model, and a master.
 #[derive(Drop)]
-pub(crate) enum Answer {
-    /// This text was found, to be compared with the item's block.
-    Text(Vec<u8>),
-    /// The item set something up for those behind it.
-    Taken,
-    /// The item is none of this program.
-    Foreign,
-}
-
-/// What the items of a case work on.
-#[derive(Drop)]
-pub(crate) struct Bench {
-    /// The lists of a model, of which only the definitions and the filters are there.
-    pub(crate) lists: Lists,
-    pub(crate) ty: IdocType,
-    pub(crate) groups: Items<Group>,
-    /// The data records of a document.
-    pub(crate) records: Vec<Data>,
-    /// The text of a model.
-    pub(crate) model: Vec<u8>,
-    /// The control record of a master.
-    pub(crate) control: Control,
-    /// The models and the masters that a log names.
-    pub(crate) models: Vec<NamedModel>,
-    pub(crate) masters: Vec<NamedMaster>,
-    pub(crate) log: Log,
+pub(crate) struct SendingBench<'t> {
+    /// The texts of the folder.
+    texts: &'t Texts,
+    /// The text of the model.
+    model: Vec<u8>,
+    /// The control record of the master.
+    control: Control,
+    /// The data records of the master.
+    records: Vec<Data>,
 }
 
 /// What an item is about.
 #[derive(Clone, Copy)]
 enum About {
-    Definitions,
-    Idoc,
-    Filters,
-    Groups,
-    Records,
     Model,
-    Keeps,
-    Agrees,
-    Leaves,
     Control,
+    Records,
+    Keeps,
+    Leaves,
     Sends,
     Queues,
-    Master,
-    Log,
-    Documents,
-    Units,
-    Carries,
 }
 
-/// The words of the items.
-const WORDS: [(&'static [u8], About); 17] = [
-    (b"definitions", About::Definitions),
-    (b"idoc", About::Idoc),
-    (b"filters", About::Filters),
-    (b"groups", About::Groups),
+const WORDS: [(&'static [u8], About); 7] = [
+    (b"model", About::Model),
+    (b"control", About::Control),
     (b"records", About::Records),
     (b"keeps", About::Keeps),
-    (b"agrees", About::Agrees),
-    (b"model", About::Model),
     (b"leaves", About::Leaves),
-    (b"control", About::Control),
     (b"sends", About::Sends),
     (b"queues", About::Queues),
-    (b"master", About::Master),
-    (b"log", About::Log),
-    (b"documents", About::Documents),
-    (b"units", About::Units),
-    (b"carries", About::Carries),
 ];
 
-impl Bench {
-    /// Nothing is set up.
-    pub(crate) fn new(alloc: Global) -> Bench {
-        Bench {
-            lists: no_lists(alloc),
-            ty: IdocType {
-                name: Items::new(alloc),
-                segments: Items::new(alloc),
-            },
-            groups: Items::new(alloc),
-            records: Vec::new(alloc),
-            model: Vec::new(alloc),
-            control: Control::blank(),
-            models: Vec::new(alloc),
-            masters: Vec::new(alloc),
-            log: Log::new(alloc),
-        }
-    }
-
-    /// Does what an item asks for.
-    pub(crate) fn answer(&mut self, alloc: Global, item: &Item) -> Result<Answer, LineEnd> {
-        match meaning_of(&WORDS, item.word.as_slice()) {
-            None => Ok(Answer::Foreign),
-            Some(about) => match self.found(alloc, item, about)? {
-                Some(text) => Ok(Answer::Text(text)),
-                None => {
-                    self.set(alloc, item, about)?;
-                    Ok(Answer::Taken)
-                }
-            },
-        }
-    }
-
-    /// What an item finds. None where it sets something up.
-    fn found(&self, alloc: Global, item: &Item, about: About) -> Result<Option<Vec<u8>>, LineEnd> {
+impl<'t> Bench for SendingBench<'t> {
+    fn found(&mut self, alloc: Global, item: &Item) -> Result<Option<Vec<u8>>, LineEnd> {
+        let Some(about) = meaning_of(&WORDS, item.word.as_slice()) else {
+            return Err(NO_SUCH_ITEM.into());
+        };
         match about {
-            About::Keeps => Ok(Some(keeping::keeps(alloc, self)?)),
-            About::Agrees => Ok(Some(random::agrees(alloc, self, item)?)),
-            About::Leaves => Ok(Some(sending::leaves(alloc, self, item)?)),
-            About::Sends => Ok(Some(sending::sends(alloc, self, item)?)),
-            About::Queues => Ok(Some(sending::queues(alloc, self, item)?)),
-            About::Documents => Ok(Some(committing::documents(alloc, self, item)?)),
-            About::Units => Ok(Some(committing::units(alloc, self)?)),
-            About::Carries => Ok(Some(committing::carries(alloc, self, item)?)),
-            _ => Ok(None),
+            About::Model => self.model = model_text(alloc, self.texts, item)?,
+            About::Control => self.control = control(alloc, item)?,
+            About::Records => self.records = records(alloc, item)?,
+            _ => return Ok(Some(self.asked(alloc, about, item.rest.as_slice())?)),
         }
-    }
-
-    /// Sets up what an item says.
-    fn set(&mut self, alloc: Global, item: &Item, about: About) -> Result<(), LineEnd> {
-        match about {
-            About::Definitions => self.lists.definitions = types::definitions(alloc, item)?,
-            About::Idoc => self.ty = types::idoc_type(alloc, &self.lists.definitions, item)?,
-            About::Filters => {
-                self.lists.filters = groups::filters(alloc, &self.lists.definitions, item)?;
-            }
-            About::Groups => {
-                self.groups = groups::groups(alloc, self.lists.filters.as_slice(), item)?;
-            }
-            About::Records => self.records = keeping::records(alloc, item)?,
-            About::Model => self.set_model(alloc, item)?,
-            About::Control => self.control = sending::control(alloc, item)?,
-            About::Master => self.masters.push(logs::master(alloc, item)?)?,
-            About::Log => self.set_log(alloc, item)?,
-            _ => {}
-        }
-        Ok(())
-    }
-
-    /// Sets up a model, which a log can name where it has a name.
-    fn set_model(&mut self, alloc: Global, item: &Item) -> Result<(), LineEnd> {
-        let text = sending::model(alloc, item)?;
-        let named = logs::named_model(alloc, item, text.as_slice())?;
-        self.models.push(named)?;
-        self.model = text;
-        Ok(())
-    }
-
-    /// Sets up a log.
-    fn set_log(&mut self, alloc: Global, item: &Item) -> Result<(), LineEnd> {
-        let log = logs::log_of(alloc, self, item)?;
-        self.log = log;
-        Ok(())
+        Ok(None)
     }
 }
 
-/// The lists of no model.
-fn no_lists(alloc: Global) -> Lists {
-    Lists {
-        releases: Items::new(alloc),
-        systems: Items::new(alloc),
-        definitions: Definitions {
-            types: Items::new(alloc),
-        },
-        types: Items::new(alloc),
-        kinds: Items::new(alloc),
-        messages: Items::new(alloc),
-        reduced: Items::new(alloc),
-        filters: Items::new(alloc),
-        rows: Items::new(alloc),
-        outbound: Items::new(alloc),
-        inbound: Items::new(alloc),
+impl<'t> SendingBench<'t> {
+    ghost use Rattle.std.specs.Prelude.{◌<◌, IfOk, length};
+    ghost use Rattle.idoc_tree.specs.Forest.{AllNodes};
+    ghost use Rattle.idoc_tree.specs.Lines.{IsNode};
+    ghost use Rattle.idoc_tree.specs.Nodes.{forest_of};
+
+    /// No text, and an empty master.
+    pub(crate) fn new(alloc: Global, texts: &'t Texts) -> SendingBench<'t> {
+        SendingBench {
+            texts,
+            model: Vec::new(alloc),
+            control: Control::blank(),
+            records: Vec::new(alloc),
+        }
+    }
+
+    /// What an item finds.
+    fn asked(&self, alloc: Global, about: About, words: &[u8]) -> Result<Vec<u8>, LineEnd> {
+        let model = self.model_for(alloc, about, words)?;
+        let found = self.found_by(alloc, &model, about, words);
+        drop(model);
+        found
+    }
+
+    /// The model of the text; for `keeps` with a line behind it.
+    fn model_for(&self, alloc: Global, about: About, line: &[u8]) -> Result<Model, LineEnd> {
+        let mut text = Vec::from_slice(alloc, self.model.as_slice())?;
+        if matches!(about, About::Keeps) {
+            text.extend_from_slice(line)?;
+        }
+        match read(alloc, text.as_slice()) {
+            Ok(model) => Ok(model),
+            Err(ModelFault::OutOfMemory) => Err(LineEnd::OutOfMemory),
+            Err(_) => Err(NO_MODEL.into()),
+        }
+    }
+
+    /// What an item finds by a row of a model.
+    fn found_by(
+        &self,
+        alloc: Global,
+        model: &Model,
+        about: About,
+        words: &[u8],
+    ) -> Result<Vec<u8>, LineEnd> {
+        let place = place_of(model, about, words)?;
+        if usize::from(place) >= model.as_lists().rows.len() {
+            return Err(NO_SUCH_NUMBER.into());
+        }
+        let row = RowNo(place);
+        let master = self.master_of(alloc, model, row)?;
+        let (_, number) = first_word(words);
+        let found = found_of(alloc, model, row, &master, about, number);
+        drop(master);
+        found
+    }
+
+    /// The master by the message type of a row.
+    fn master_of(&self, alloc: Global, model: &Model, row: RowNo) -> Result<Doc, LineEnd>
+        requires { row < length model.now.rows }
+        ensures { IfOk result (λ doc. AllNodes (IsNode model.now.definitions) (forest_of doc.forest.items)) }
+    {
+        let control = self.control.clone()?;
+        master_of(alloc, model, row, control, self.records.as_slice())
+    }
+}
+
+/// What an item finds by a row of a model and a master.
+fn found_of(
+    alloc: Global,
+    model: &Model,
+    row: RowNo,
+    master: &Doc,
+    about: About,
+    number: &[u8],
+) -> Result<Vec<u8>, LineEnd>
+    requires row { row < length model.now.rows }
+    requires nodes { AllNodes (IsNode model.now.definitions) (forest_of master.now.forest.items) }
+{
+    match about {
+        About::Keeps => keeps(alloc, model, row, master),
+        About::Leaves => leaves(alloc, model, row, master),
+        About::Sends => sends(alloc, model, row, number, master),
+        About::Queues => queues(alloc, model, row, master),
+        _ => Err(NO_SUCH_ITEM.into()),
+    }
+}
+
+/// The place of the row that an item names, counted from 0; for `keeps` that of the last one.
+fn place_of(model: &Model, about: About, words: &[u8]) -> Result<u16, LineEnd> {
+    let (number, _) = first_word(words);
+    let place = match about {
+        About::Keeps => model.as_lists().rows.len().saturating_sub(1),
+        _ => number_of(number)? as usize,
+    };
+    match u16::try_from(place) {
+        Ok(place) => Ok(place),
+        Err(_) => Err(NO_SUCH_NUMBER.into()),
     }
 }

@@ -2,7 +2,7 @@
 
 use crate::run::{Run, read_run};
 use ale_base::{Items, OutOfMemory};
-use case_form::{CaseFault, Item, Outcome, Step, Suite, read_items};
+use case_form::{CaseFault, Item, Outcome, Step, Suite, Texts, read_items};
 use std::alloc::Global;
 
 /// Lets a pool run, and tells what came of it.
@@ -16,7 +16,13 @@ pub(crate) struct PoolCases {
 }
 
 impl Suite for PoolCases {
-    fn outcome(&self, alloc: Global, file: &str, bytes: &[u8]) -> Result<Outcome, OutOfMemory> {
+    fn outcome(
+        &self,
+        alloc: Global,
+        _texts: &Texts,
+        file: &str,
+        bytes: &[u8],
+    ) -> Result<Outcome, OutOfMemory> {
         match read_items(alloc, file, bytes) {
             Ok(items) => Outcome::of(self.steps_of(alloc, items.as_slice())),
             Err(fault) => Outcome::of(Err(fault)),

@@ -1,4 +1,5 @@
+-- rules that list each system's units, and their laws
+pub mod ListedRules
+pub mod ListedRulesLemmas
 -- a world of the rules that list units
 pub mod Worlds
--- the next commit of a system
-pub mod Commits

@@ -1,7 +1,7 @@
 -- Worlds of the rules that list each system's units.
 use Rattle.trfc_protocol.specs.declared.world.World.{World}
-use Rattle.trfc_protocol.specs.declared.listed_rules.ListedRules.{ListedRules}
-use Rattle.trfc_protocol.specs.ListedRules.{listed_meaning}
+use Rattle.protocol_scenes.specs.declared.listed_rules.ListedRules.{ListedRules}
+use Rattle.protocol_scenes.specs.ListedRules.{listed_meaning}
 use Rattle.trfc_protocol.specs.Safe.{IsSafe}
 
 -- the world is safe

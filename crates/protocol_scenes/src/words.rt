@@ -1,64 +1,11 @@
-//! The words of a line, and what they stand for. Words are looked up in tables: a match on their bytes is dear to prove.
+//! The words of a line.
 
-use crate::rules;
-use ale_base::{Items, Mark, QueueName, SystemNo, Tid, Way};
-use case_form::{CaseFault, Item, LineEnd, cut, first_word, number_of};
+use crate::fault::Fault;
+use crate::units::{Lists, unit_of};
+use ale_base::{Items, QueueName, SystemNo, Tid};
+use case_form::{cut, first_word, number_of};
 use std::alloc::Global;
-
-/// What a word stands for in a table. None where it is not there.
-pub(crate) fn meaning_of<T: Copy>(table: &[(&'static [u8], T)], word: &[u8]) -> Option<T> {
-    let (_, meaning) = table.iter().find(|entry| entry.0 == word)?;
-    Some(*meaning)
-}
-
-/// The word that begins an item.
-#[derive(Clone, Copy, PartialEq, Eq)]
-pub(crate) enum ItemWord {
-    Systems,
-    Unit,
-    Refused,
-    Event,
-    Call,
-    Fails,
-    Ask,
-    Again,
-    Law,
-    Walks,
-    Given,
-    Committed,
-    Records,
-    Legal,
-    Told,
-    Marked,
-    Stopped,
-}
-
-impl ItemWord {
-    const WORDS: [(&'static [u8], ItemWord); 17] = [
-        (b"systems", ItemWord::Systems),
-        (b"unit", ItemWord::Unit),
-        (b"refused", ItemWord::Refused),
-        (b"event", ItemWord::Event),
-        (b"call", ItemWord::Call),
-        (b"fails", ItemWord::Fails),
-        (b"ask", ItemWord::Ask),
-        (b"again", ItemWord::Again),
-        (b"law", ItemWord::Law),
-        (b"walks", ItemWord::Walks),
-        (b"given", ItemWord::Given),
-        (b"committed", ItemWord::Committed),
-        (b"records", ItemWord::Records),
-        (b"legal", ItemWord::Legal),
-        (b"told", ItemWord::Told),
-        (b"marked", ItemWord::Marked),
-        (b"stopped", ItemWord::Stopped),
-    ];
-
-    /// The word of an item. None where there is no such item.
-    pub(crate) fn of(item: &Item) -> Option<ItemWord> {
-        meaning_of(&ItemWord::WORDS, item.word.as_slice())
-    }
-}
+use unit_core::AleUnit;
 
 /// The words of a line that are not read yet.
 #[derive(Clone, Copy)]
@@ -78,6 +25,21 @@ impl<'a> Words<'a> {
         word
     }
 
+    /// What the name that comes next stands for, of one word or more.
+    pub(crate) fn choice<T: Copy>(
+        &mut self,
+        table: &[(&'static [u8], T)],
+        fault: Fault,
+    ) -> Result<T, Fault> {
+        for (name, meaning) in table {
+            if let Some(rest) = self.rest.strip_prefix(name) {
+                self.rest = rest.strip_prefix(b" ").unwrap_or(rest);
+                return Ok(*meaning);
+            }
+        }
+        Err(fault)
+    }
+
     /// All that is not read yet.
     pub(crate) fn rest(&mut self) -> &'a [u8] {
         let rest = self.rest;
@@ -91,112 +53,75 @@ impl<'a> Words<'a> {
     }
 
     /// All words have to be read.
-    pub(crate) fn end(&self) -> Result<(), LineEnd> {
+    pub(crate) fn end(&self) -> Result<(), Fault> {
         if self.rest.is_empty() {
             Ok(())
         } else {
-            Err(rules::MORE_WORDS.into())
+            Err(Fault::MoreWords)
         }
     }
 
-    pub(crate) fn number(&mut self) -> Result<u64, LineEnd> {
-        Ok(u64::from(number_of(self.word())?))
-    }
-
-    /// The system of a number, from 1 to 16.
-    pub(crate) fn system(&mut self) -> Option<SystemNo> {
-        system_of(self.word())
-    }
-
-    /// The id of a unit: its system, a dot and its number.
-    pub(crate) fn tid(&mut self) -> Option<Tid> {
-        tid_of(self.word())
+    pub(crate) fn number(&mut self) -> Result<u32, Fault> {
+        number_in(self.word()).ok_or(Fault::NoNumber)
     }
 
     /// A number of a record, of at most one byte.
-    pub(crate) fn byte(&mut self) -> Result<u8, LineEnd> {
-        match u8::try_from(self.number()?) {
-            Ok(number) => Ok(number),
-            Err(_) => Err(rules::BAD_RECORD.into()),
-        }
+    pub(crate) fn byte(&mut self) -> Result<u8, Fault> {
+        u8::try_from(self.number()?).ok().ok_or(Fault::NoNumber)
     }
 
-    pub(crate) fn way(&mut self) -> Result<Way, LineEnd> {
-        let word = self.word();
-        if word == b"outgoing".as_slice() {
-            Ok(Way::Outgoing)
-        } else if word == b"incoming".as_slice() {
-            Ok(Way::Incoming)
-        } else {
-            Err(rules::BAD_RECORD.into())
-        }
+    /// The system of a number, from 1 to 16.
+    pub(crate) fn system(&mut self) -> Result<SystemNo, Fault> {
+        system_of(self.word()).ok_or(Fault::NoSystem)
     }
 
-    pub(crate) fn cause(&mut self) -> Result<Mark, LineEnd> {
-        let word = self.word();
-        if word == b"CPICERR".as_slice() {
-            Ok(Mark::Cpicerr)
-        } else if word == b"SYSFAIL".as_slice() {
-            Ok(Mark::Sysfail)
-        } else {
-            Err(rules::BAD_RECORD.into())
-        }
+    /// The id of a unit: its system, a dot and its number.
+    pub(crate) fn tid(&mut self) -> Result<Tid, Fault> {
+        tid_of(self.word()).ok_or(Fault::NoTid)
     }
 
-    pub(crate) fn name(&mut self) -> Option<QueueName> {
-        QueueName::of(self.word()).ok()
+    /// A unit that is listed.
+    pub(crate) fn unit<'l>(&mut self, lists: &'l Lists) -> Result<&'l AleUnit, Fault> {
+        unit_of(lists, self.tid()?).ok_or(Fault::NotListed)
+    }
+
+    /// The name of a queue.
+    pub(crate) fn name(&mut self) -> Result<QueueName, Fault> {
+        queue_of(self.word())
     }
 
     /// Names of queues, with commas between them.
-    pub(crate) fn names(&mut self, alloc: Global) -> Result<Items<QueueName>, LineEnd> {
+    pub(crate) fn names(&mut self, alloc: Global) -> Result<Items<QueueName>, Fault> {
         let mut names = Items::new(alloc);
         for part in self.word().split(|byte| *byte == b',') {
-            let Ok(name) = QueueName::of(part) else {
-                return Err(rules::BAD_UNIT.into());
-            };
-            names.push(name)?;
+            names.push(queue_of(part)?)?;
         }
         Ok(names)
     }
 }
 
-/// How the reading of a line ended, as the end of its case.
-pub(crate) fn at_line(end: Result<(), LineEnd>, line: u32) -> Result<(), CaseFault> {
-    match end {
-        Ok(()) => Ok(()),
-        Err(end) => Err(end.at(line)),
-    }
-}
-
-/// The id of a unit, which ends the line.
-pub(crate) fn last_tid(words: Words) -> Result<Tid, LineEnd> {
-    let mut words = words;
-    let Some(tid) = words.tid() else {
-        return Err(rules::NO_TID.into());
-    };
-    words.end()?;
-    Ok(tid)
-}
-
-/// A number, which ends the line.
-pub(crate) fn last_number(words: Words) -> Result<u64, LineEnd> {
-    let mut words = words;
-    let number = words.number()?;
-    words.end()?;
-    Ok(number)
+fn queue_of(word: &[u8]) -> Result<QueueName, Fault> {
+    QueueName::of(word).ok().ok_or(Fault::BadUnit)
 }
 
 fn system_of(word: &[u8]) -> Option<SystemNo> {
-    let number = number_of(word).ok()?;
-    SystemNo::of(u8::try_from(number).ok()?)
+    SystemNo::of(u8::try_from(number_in(word)?).ok()?)
 }
 
 fn tid_of(word: &[u8]) -> Option<Tid> {
     let (system, unit) = cut(word, b'.')?;
-    let system = system_of(system)?;
-    let unit = number_of(unit).ok()?;
+    tid_with(system_of(system)?, number_in(unit)?)
+}
+
+/// The id of a unit of a system. None where it has no unit of this number.
+fn tid_with(system: SystemNo, unit: u32) -> Option<Tid> {
     if unit == 0 || unit > Tid::MAX_UNIT {
         return None;
     }
     Some(Tid::of(system, unit))
+}
+
+/// The number that a word spells.
+fn number_in(word: &[u8]) -> Option<u32> {
+    number_of(word).ok()
 }

@@ -1,23 +1,11 @@
-//! The acceptance program of the crates on records and trees, and of those below them: it runs the case files of a folder
-//! and prints a line a case.
+//! The acceptance program of records: it runs the case files of a folder and prints a line a case.
 //!
 //! Contract: that of `case_form` on the verdict. Beyond that nothing is proved but that it is safe and ends. The items of
 //! these cases are in `docs/reference/record_cases.md`.
 #![tactic(auto)]
 
-mod answer;
-mod bench;
-mod definitions;
-mod document_files;
-mod ground;
-mod hierarchy;
-mod lists;
-mod outside;
 mod records;
-mod rules;
 mod suite;
-mod text;
-mod trees;
 
 use case_form::run_folder;
 use std::io;

@@ -1,43 +1,95 @@
-//! The suite: a case file's items, answered one after another on one bench.
+//! The suite: a case file's items, answered one after another on one line and one control record.
 
-use crate::answer::Answer;
-use crate::bench::Bench;
-use crate::rules::NO_SUCH_ITEM;
-use ale_base::{Items, OutOfMemory};
-use case_form::{CaseFault, Item, LineEnd, Outcome, Step, Suite, read_items};
+use crate::records::{
+    made_line, put_control, put_control_bytes, put_data, put_data_bytes, put_layout,
+};
+use ale_base::OutOfMemory;
+use case_form::{Bench, Item, LineEnd, Outcome, Rule, Suite, Text, Texts, meaning_of, outcome_on};
+use idoc_record::Control;
 use std::alloc::Global;
 
-/// The cases of records and trees.
+const NO_SUCH_ITEM: Rule = Rule("an item is one that the program has");
+
+/// The cases of records.
 pub(crate) struct Records;
 
+/// What the items of a case work on.
+#[derive(Drop)]
+struct LineBench {
+    /// The line that is to be read as a record.
+    line: Vec<u8>,
+    /// The control record that was read last. It is blank at first.
+    control: Control,
+}
+
 impl Suite for Records {
-    fn outcome(&self, alloc: Global, file: &str, bytes: &[u8]) -> Result<Outcome, OutOfMemory> {
-        Outcome::of(steps_of(alloc, file, bytes))
+    fn outcome(
+        &self,
+        alloc: Global,
+        _texts: &Texts,
+        file: &str,
+        bytes: &[u8],
+    ) -> Result<Outcome, OutOfMemory> {
+        let mut bench = LineBench {
+            line: Vec::new(alloc),
+            control: Control::blank(),
+        };
+        outcome_on(alloc, &mut bench, file, bytes)
     }
 }
 
-/// The steps of a case file: one for each item that finds a text.
-fn steps_of(alloc: Global, file: &str, bytes: &[u8]) -> Result<Items<Step>, CaseFault> {
-    let items = read_items(alloc, file, bytes)?;
-    let mut bench = Bench::new(alloc)?;
-    let mut steps = Items::new(alloc);
-    for item in &items {
-        put_step(alloc, &mut bench, item, &mut steps)?;
-    }
-    Ok(steps)
+/// What an item is about.
+#[derive(Clone, Copy)]
+enum About {
+    Line,
+    Control,
+    Data,
+    WrittenControl,
+    WrittenData,
+    Layout,
 }
 
-/// Adds the step of an item, where it finds a text.
-fn put_step(
-    alloc: Global,
-    bench: &mut Bench,
-    item: &Item,
-    steps: &mut Items<Step>,
-) -> Result<(), CaseFault> {
-    match bench.answer(alloc, item) {
-        Ok(Answer::Text(found)) => Ok(steps.push(Step::of(alloc, item, found)?)?),
-        Ok(Answer::Taken) => Ok(()),
-        Ok(Answer::Foreign) => Err(LineEnd::from(NO_SUCH_ITEM).at(item.line)),
-        Err(end) => Err(end.at(item.line)),
+/// The words of the items.
+const WORDS: [(&'static [u8], About); 6] = [
+    (b"line", About::Line),
+    (b"control", About::Control),
+    (b"data", About::Data),
+    (b"written_control", About::WrittenControl),
+    (b"written_data", About::WrittenData),
+    (b"layout", About::Layout),
+];
+
+impl Bench for LineBench {
+    /// What an item finds. One that makes a line finds nothing.
+    fn found(&mut self, alloc: Global, item: &Item) -> Result<Option<Vec<u8>>, LineEnd> {
+        let about = meaning_of(&WORDS, item.word.as_slice()).ok_or(NO_SUCH_ITEM)?;
+        if let About::Line = about {
+            self.line = made_line(alloc, item)?;
+            return Ok(None);
+        }
+        let mut text = Text::new(alloc);
+        self.put_found(alloc, about, item.rest.as_slice(), &mut text)?;
+        Ok(Some(text.into_bytes()))
+    }
+}
+
+impl LineBench {
+    /// Puts what an item finds.
+    fn put_found(
+        &mut self,
+        alloc: Global,
+        about: About,
+        rest: &[u8],
+        text: &mut Text,
+    ) -> Result<(), LineEnd> {
+        let line = self.line.as_slice();
+        match about {
+            About::Line => Ok(()),
+            About::Control => put_control(text, line, &mut self.control),
+            About::Data => put_data(alloc, text, line),
+            About::WrittenControl => put_control_bytes(alloc, text, &self.control),
+            About::WrittenData => put_data_bytes(alloc, text, &self.control, line, rest),
+            About::Layout => Ok(put_layout(text)?),
+        }
     }
 }

@@ -28,23 +28,3 @@ pub trait Application: Drop {
         ensures noted { (log : List Record) → stands self.old log → goes_with self.old log next.now extra
             → OnOk result (stands self.new (log ++ next.now ∷ [])) };
 }
-
-/// No tables of an application.
-#[derive(Clone, Copy, Debug, PartialEq, Eq)]
-pub struct NoApplication;
-
-impl Application for NoApplication {
-    ghost use Rattle.std.specs.Prelude.{⊤};
-
-    type Extra = ();
-
-    ghost stands = { λ none log. ⊤ };
-
-    ghost goes_with = { λ none log next extra. ⊤ };
-
-    fn nothing() {}
-
-    fn note(&mut self, _alloc: Global, _next: &Record, _extra: ()) -> Result<(), OutOfMemory> {
-        Ok(())
-    }
-}

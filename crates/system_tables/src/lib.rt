@@ -12,5 +12,5 @@ mod ending;
 mod noting;
 mod tables;
 
-pub use application::{Application, NoApplication};
+pub use application::Application;
 pub use tables::SystemTables;

@@ -18,6 +18,3 @@ pub mod Happens
 pub mod Safe
 -- a world that begins with given logs
 pub mod Start
--- rules that list each system's units, and their laws
-pub mod ListedRules
-pub mod ListedRulesLemmas

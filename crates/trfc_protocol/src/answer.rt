@@ -1,7 +1,7 @@
 //! The answers of a receiver.
 
 /// How a receiver answers the arrival of a unit.
-#[derive(Clone, Copy, Debug, PartialEq, Eq)]
+#[derive(Clone, Copy, PartialEq, Eq)]
 pub enum Answer {
     /// The receiver is down.
     Down,

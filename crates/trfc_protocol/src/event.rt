@@ -4,7 +4,7 @@ use ale_base::{SystemNo, Tid};
 use unit_core::Record;
 
 /// What may happen. An event that is not possible leaves the world as it is.
-#[derive(Debug, Drop)]
+#[derive(Drop)]
 pub enum Event {
     /// A system commits documents: a Commit or Dispatch is appended.
     Commit {
@@ -68,7 +68,7 @@ pub enum Event {
 }
 
 /// What a reply answers.
-#[derive(Debug, Drop)]
+#[derive(Drop)]
 pub enum ReplyTo {
     /// The shipment under the claim of this number.
     Claim(u64, CoreAnswer),
@@ -77,7 +77,7 @@ pub enum ReplyTo {
 }
 
 /// What the sender learns of a shipment.
-#[derive(Clone, Copy, Debug, PartialEq, Eq)]
+#[derive(Clone, Copy, PartialEq, Eq)]
 pub enum CoreAnswer {
     /// The receiver has the unit.
     Done,
@@ -88,7 +88,7 @@ pub enum CoreAnswer {
 }
 
 /// What an operator or the application does.
-#[derive(Debug, Drop)]
+#[derive(Drop)]
 pub enum Action {
     /// Appends a Stop, Start, Retry, Put, App, Repost or Model.
     Append(SystemNo, Record),

@@ -3,7 +3,7 @@
 use ale_base::{SystemNo, Tid};
 
 /// What a claim is for.
-#[derive(Clone, Copy, Debug, PartialEq, Eq)]
+#[derive(Clone, Copy, PartialEq, Eq)]
 pub enum HeldKind {
     /// To ship a unit to its receiver.
     Out,
@@ -14,7 +14,7 @@ pub enum HeldKind {
 }
 
 /// A claim: as long as there is one, nobody else works on the unit in this way.
-#[derive(Clone, Copy, Debug, PartialEq, Eq)]
+#[derive(Clone, Copy, PartialEq, Eq)]
 pub struct Held {
     /// Its number. No two claims have one number.
     pub number: u64,

@@ -5,7 +5,7 @@
 //! executed at most once, and in the order of its queues, whatever is lost or repeated and whichever systems fall and are
 //! opened; and each step is exactly that of the definition. The definitions are in `specs/`: `Meaning` and `Legal` (the
 //! rules of a landscape, and which record may follow a log), `Worlds`, `Offered`, `SameUnit`, `RecordOf`, `Keeping` and
-//! `Happens` (the events), `Safe`, `Start` (a world that begins with given logs), `ListedRules` (rules to try it).
+//! `Happens` (the events), `Safe`, and `Start` (a world that begins with given logs).
 #![tactic(auto)]
 
 mod answer;
@@ -14,7 +14,6 @@ mod happens;
 mod held;
 mod keeping;
 mod legal;
-mod listed_rules;
 mod offered;
 mod rules;
 mod same_unit;
@@ -26,7 +25,6 @@ pub use answer::Answer;
 pub use event::{Action, CoreAnswer, Event, ReplyTo};
 pub use held::{Held, HeldKind};
 pub use legal::{is_legal, may_follow};
-pub use listed_rules::ListedRules;
 pub use rules::Rules;
 pub use steps::{run_events, step};
 pub use world::{SystemState, World};

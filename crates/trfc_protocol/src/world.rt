@@ -10,7 +10,7 @@ use std::mem;
 use unit_core::Record;
 
 /// A system: its log, whether it is up, and for one that is down the record that it may find at its opening.
-#[derive(Debug, Drop)]
+#[derive(Drop)]
 pub struct SystemState {
     /// The records, in order.
     pub log: Items<Record>,

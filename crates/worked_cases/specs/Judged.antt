@@ -1,5 +1,5 @@
 -- What a run of the program gives, and the steps that a case makes of its runs.
-use Rattle.std.specs.Prelude.{◌≡◌, ◌⊎◌, ⊤, ℕ, ◌-◌, ◌^◌, ◌<◌, List, [], ◌∷◌, ◌++◌, Option, None, Some, map, take, replicate, slice_index, codes, string_bytes}
+use Rattle.std.specs.Prelude.{◌≡◌, ◌⊎◌, ⊤, ℕ, ◌-◌, ◌^◌, ◌<◌, Bool, true, false, List, [], ◌∷◌, ◌++◌, Option, None, Some, map, take, replicate, slice_index, codes, string_bytes}
 use Rattle.std.specs.Fmt.{decimal}
 use Rattle.ale_io.specs.Told.{Told}
 use Rattle.ale_io.specs.Folder.{told_of}
@@ -45,6 +45,11 @@ pub record StartsFrom (before : MemoryOf) (failing : List ℕ) (begun : MemoryOf
   pub unwritten : begun.steps ≡ []
   pub calls : begun.calls ≡ record { failing = failing; made = 0; faults = replicate 16 0 }
 
+-- what the volumes hold on which a run starts: nothing where it starts anew, and else what these hold
+abbrev pub started : Bool → MemoryOf → MemoryOf
+started true before = empty_volumes
+started false before = before
+
 -- at an ending with this status and text a run gives this status and prints this text: the same, or 6 and a front of the text
 abbrev pub Gives : ℕ → List ℕ → ℕ → List ℕ → Type 0
 Gives ending text status printed = ((status ≡ ending) × (printed ≡ text)) ⊎ ((status ≡ 6) × ((n : ℕ) × (printed ≡ take n text)))
@@ -73,25 +78,32 @@ abbrev pub gate_compared : Option ℕ → List ℕ → List Comparison
 gate_compared None met = []
 gate_compared (Some works) met = record { what = codes "gate"; relation = Whole; expected = codes "all met\n"; found = met } ∷ []
 
--- The step of a run that gave this status and printed this text: it compares the status, all that is said of the text, and
--- how the works met at its gate
-abbrev pub step_of_run : Run → ℕ → List ℕ → List ℕ → Step
-step_of_run run status printed met = record {
+-- what is compared of the logs that a run left: nothing where it does not say how they are judged, and else what was told of them
+abbrev pub law_compared : Option (List ℕ) → List ℕ → List Comparison
+law_compared None told = []
+law_compared (Some expected) told = record { what = codes "law"; relation = Whole; expected = expected; found = told } ∷ []
+
+-- The step of a run that gave this status and printed this text: it compares the status, all that is said of the text, how the
+-- works met at its gate, and how the logs that it left are judged
+abbrev pub step_of_run : Run → ℕ → List ℕ → List ℕ → List ℕ → Step
+step_of_run run status printed met judged = record {
   line = run.line;
   differs = run.differs;
-  comparisons = status_compared run.status status ∷ map (output_compared printed) run.outputs.items ++ gate_compared run.gate met;
+  comparisons = status_compared run.status status ∷ (map (output_compared printed) run.outputs.items ++ gate_compared run.gate met) ++ law_compared run.law judged;
 }
 
 -- The step of a part of a case over these files, and the volumes that it leaves: that of the run, by what it gave on volumes
--- that hold what these hold, and by how its works met, of which nothing is said here; or that of a text that is no case
+-- that hold what these hold or, where it starts anew, nothing, and by how its works met and what was told of its logs, of which nothing is said here; or that of a
+-- text that is no case
 abbrev pub IsMadeOf : List StoredFile → MemoryOf → Part → Step → MemoryOf → Type 0
 IsMadeOf files before (RunPart run) step after =
     (told : List ℕ → Told) × ((name : List ℕ) → told name ≡ told_of files name)
-    × ((begun : MemoryOf) × StartsFrom before run.failing_calls begun
-    × ((status : ℕ) × (printed met : List ℕ) × MayGive run.words told begun after status printed × (step ≡ step_of_run run status printed met)))
+    × ((begun : MemoryOf) × StartsFrom (started run.anew before) run.failing_calls begun
+    × ((status : ℕ) × (printed met judged : List ℕ) × MayGive run.words told begun after status printed
+    × (step ≡ step_of_run run status printed met judged)))
 IsMadeOf files before (Broken item) step after = IsBrokenStepOf item.line item.differs item.rest.items step × (after ≡ before)
 
--- the steps of parts of a case, in order: each part starts from the volumes that the one before it left
+-- the steps of parts of a case, in order, with the volumes that each part left handed on to the next
 abbrev pub AreMadeFrom : List StoredFile → MemoryOf → List Part → List Step → MemoryOf → Type 0
 AreMadeFrom files before [] [] after = after ≡ before
 AreMadeFrom files before [] (step ∷ steps) after = ⊥

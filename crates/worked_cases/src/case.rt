@@ -2,13 +2,15 @@
 
 use ale_base::Items;
 use ale_io::StoredFile;
-use case_form::{Item, Relation};
+use case_form::{Item, Relation, Texts};
 
 /// A case: the files that all its runs see, and its runs and broken texts, in order. The first run starts on empty volumes,
-/// and each other one on those that the run before it left.
+/// and each other one, unless it starts anew, on those that the run before it left.
 #[derive(Drop)]
 pub(crate) struct Case {
     pub(crate) files: Items<StoredFile>,
+    /// The texts that its broken texts may use.
+    pub(crate) texts: Texts,
     pub(crate) parts: Vec<Part>,
 }
 
@@ -37,6 +39,8 @@ pub(crate) struct Run {
     pub(crate) line: u32,
     /// Whether it is marked: what it expects is wrong on purpose.
     pub(crate) differs: bool,
+    /// Whether it starts on empty volumes, and not on what the run before it left.
+    pub(crate) anew: bool,
     /// How many works meet at its gate. None where the gate is open.
     pub(crate) gate: Option<u8>,
     pub(crate) words: Words,
@@ -52,6 +56,8 @@ pub(crate) struct Run {
     pub(crate) status: u8,
     /// What is expected of the text.
     pub(crate) outputs: Vec<Output>,
+    /// How the logs that its volumes hold are expected to be judged. None where they are not.
+    pub(crate) law: Option<Items<u8>>,
 }
 
 /// What is expected of the text that a run prints.

@@ -3,7 +3,7 @@
 use crate::records::{control_record, data_record};
 use crate::rules;
 use ale_base::trimmed;
-use case_form::{LineEnd, first_word, number_of, put_text, put_times};
+use case_form::{LineEnd, Texts, first_word, number_of, put_text, put_times};
 use std::alloc::Global;
 
 /// What a file of a case holds.
@@ -41,15 +41,26 @@ impl FileText {
     }
 
     /// Adds what a line of the file's block stands for.
-    pub(crate) fn add(&mut self, alloc: Global, text: &[u8]) -> Result<(), LineEnd> {
-        let (word, count) = first_word(text);
+    pub(crate) fn add(&mut self, alloc: Global, texts: &Texts, text: &[u8]) -> Result<(), LineEnd> {
+        let (word, rest) = first_word(text);
         if word == b"repeat".as_slice() {
-            self.begin_repeat(count)
+            self.begin_repeat(rest)
+        } else if word == b"use".as_slice() {
+            self.add_shared(texts, rest)
         } else if text == b"end".as_slice() {
             self.end_repeat(alloc)
         } else {
             self.add_line(alloc, text)
         }
+    }
+
+    /// Adds the text of this name that the folder's cases share.
+    fn add_shared(&mut self, texts: &Texts, name: &[u8]) -> Result<(), LineEnd> {
+        let Some(bytes) = texts.get(name) else {
+            return Err(rules::NO_SUCH_TEXT.into());
+        };
+        self.bytes.extend_from_slice(bytes)?;
+        Ok(())
     }
 
     fn begin_repeat(&mut self, count: &[u8]) -> Result<(), LineEnd> {

@@ -3,22 +3,23 @@
 ghost use Rattle.std.specs.Prelude.{◌≡◌, ◌++◌, ℕ, List, [], map, OnOk, IfOk};
 ghost use Rattle.ale_io.specs.Folder.{told_of};
 ghost use Rattle.case_form.specs.Made.{IsBrokenStepOf};
-ghost use Rattle.worked_cases.specs.Judged.{MayGive, IsMadeOf, AreMadeOf, StartsFrom, empty_volumes, step_of_run, status_compared, output_compared, gate_compared, shown_status};
+ghost use Rattle.worked_cases.specs.Judged.{MayGive, IsMadeOf, AreMadeOf, StartsFrom, started, empty_volumes, step_of_run, status_compared, output_compared, gate_compared, law_compared, shown_status};
 
 use crate::case::{Case, Output, Part, Run, Words};
+use crate::law::law_told;
 use crate::reader::read_case;
 use ale_base::{Items, OutOfMemory};
 use ale_host::{Ended, aleflow, out_of_memory};
 use ale_io::{Calls, ListClock, MapFiles, VecSink};
 use ale_volumes::MemoryVolumes;
-use case_form::{CaseFault, Comparison, Item, Relation, Step};
+use case_form::{CaseFault, Comparison, Item, Relation, Step, Texts};
 use case_gates::{Meeting, MeetingGate};
 use std::alloc::Global;
 use std::array;
 use std::sync::Wait;
 use std::thread::Threads;
 
-/// The steps of a case, one for each of its parts, in order. The first run starts on empty volumes.
+/// The steps of a case, one for each of its parts, in order. The first run starts on empty volumes, and so does each that starts anew.
 pub(crate) fn steps_of_case<R: Threads + Wait + Sync>(
     rt: &R,
     alloc: Global,
@@ -26,7 +27,11 @@ pub(crate) fn steps_of_case<R: Threads + Wait + Sync>(
 ) -> Result<Items<Step>, CaseFault>
     ensures { IfOk result (λ steps. AreMadeOf case.files empty_volumes case.parts.items steps) }
 {
-    let Case { files, parts } = case;
+    let Case {
+        files,
+        texts,
+        parts,
+    } = case;
     let mut files = MapFiles {
         files,
         calls: Calls::without_failures(alloc),
@@ -34,7 +39,7 @@ pub(crate) fn steps_of_case<R: Threads + Wait + Sync>(
     let mut vols = MemoryVolumes::new(alloc);
     let mut steps = Items::new(alloc);
     for part in parts {
-        let (step, left) = step_of_part(rt, alloc, part, &mut files, vols)?;
+        let (step, left) = step_of_part(rt, alloc, &texts, part, &mut files, vols)?;
         vols = left;
         steps.push(step)?;
     }
@@ -45,6 +50,7 @@ pub(crate) fn steps_of_case<R: Threads + Wait + Sync>(
 fn step_of_part<R: Threads + Wait + Sync>(
     rt: &R,
     alloc: Global,
+    texts: &Texts,
     part: Part,
     files: &mut MapFiles,
     vols: MemoryVolumes,
@@ -55,7 +61,7 @@ fn step_of_part<R: Threads + Wait + Sync>(
     match part {
         Part::Run(run) => Ok(step_of_run(rt, alloc, run, files, &vols)?),
         Part::Broken(item) => {
-            let step = step_of_broken(alloc, &item)?;
+            let step = step_of_broken(alloc, texts, &item)?;
             Ok((step, vols))
         }
     }
@@ -75,6 +81,7 @@ fn step_of_run<R: Threads + Wait + Sync>(
     let Run {
         line,
         differs,
+        anew,
         gate: works,
         words,
         failing_reads,
@@ -83,9 +90,10 @@ fn step_of_run<R: Threads + Wait + Sync>(
         moments,
         status: wanted,
         outputs,
+        law,
     } = run;
     files.calls = Calls::with_failures(failing_reads);
-    let begun = begun_from(alloc, vols, failing_calls)?;
+    let begun = begun_by(alloc, anew, vols, failing_calls)?;
     let mut out = VecSink {
         bytes: Vec::new(alloc),
         calls: Calls::with_failures(failing_puts),
@@ -98,12 +106,30 @@ fn step_of_run<R: Threads + Wait + Sync>(
     comparisons.push(status_compared(alloc, wanted, status)?)?;
     put_outputs(alloc, &mut comparisons, outputs, out.bytes.as_slice())?;
     put_gate(alloc, &mut comparisons, works, &gate.meeting)?;
+    put_law(alloc, &mut comparisons, law, &vols)?;
     let step = Step {
         line,
         differs,
         comparisons,
     };
     Ok((step, vols))
+}
+
+/// The volumes that a run starts on, of which the calls of these numbers will fail: empty ones where it starts anew, and else such
+/// that hold for good what these do.
+fn begun_by(
+    alloc: Global,
+    anew: bool,
+    vols: &MemoryVolumes,
+    failing: Items<u64>,
+) -> Result<MemoryVolumes, OutOfMemory>
+    ensures { IfOk result (StartsFrom (started anew vols.now) failing) }
+{
+    if anew {
+        let empty = MemoryVolumes::new(alloc);
+        return begun_from(alloc, &empty, failing);
+    }
+    begun_from(alloc, vols, failing)
 }
 
 /// Volumes that hold for good what these do, of which the calls of these numbers will fail.
@@ -228,11 +254,33 @@ fn put_gate(
     Ok(())
 }
 
-/// The step of a text that is no case: which line breaks which rule.
-pub(crate) fn step_of_broken(alloc: Global, item: &Item) -> Result<Step, CaseFault>
+/// Adds the comparison of how the logs that volumes hold are judged, where a run says that.
+fn put_law(
+    alloc: Global,
+    comparisons: &mut Items<Comparison>,
+    law: Option<Items<u8>>,
+    vols: &MemoryVolumes,
+) -> Result<(), OutOfMemory>
+    ensures { OnOk result ((told : List ℕ) × (comparisons.new ≡ comparisons.old ++ law_compared law told)) }
+{
+    let Some(expected) = law else {
+        return Ok(());
+    };
+    let told = law_told(alloc, begun_from(alloc, vols, Items::new(alloc))?)?;
+    comparisons.push(Comparison {
+        what: Items::from_slice(alloc, b"law")?,
+        relation: Relation::Whole,
+        expected,
+        found: Items::from_vec(told),
+    })?;
+    Ok(())
+}
+
+/// The step of a text that is no case, beside these texts: which line breaks which rule.
+fn step_of_broken(alloc: Global, texts: &Texts, item: &Item) -> Result<Step, CaseFault>
     ensures { IfOk result (IsBrokenStepOf item.now.line item.now.differs item.now.rest.items) }
 {
     let text = item.text(alloc)?;
-    let fault = read_case(alloc, "broken.case", text.as_slice()).err();
+    let fault = read_case(alloc, texts, "broken.case", text.as_slice()).err();
     Step::of_broken(alloc, item, fault)
 }

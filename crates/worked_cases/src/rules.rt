@@ -3,17 +3,25 @@
 use case_form::Rule;
 
 pub(crate) const NO_SUCH_ITEM: Rule = Rule(
-    "an item is title, file, gate, run, wordless, clock, failing, status, prints or broken",
+    "an item is title, file, text, use, random, front, refused, accepted, unread, gate, run, wordless, anew, clock, failing, status, prints, law or broken",
 );
 
 pub(crate) const ONE_FILE: Rule = Rule("a file is named by one word, and given once");
 
+pub(crate) const NO_SUCH_TEXT: Rule = Rule("a text that is used is a file NAME.text of the folder");
+
+pub(crate) const BAD_RANDOM: Rule = Rule(
+    "random has a name, a seed and a count, and a command in its block",
+);
+
 pub(crate) const BAD_GATE: Rule = Rule("a gate is of 1 to 16 works, and stands before a run");
 
-pub(crate) const NO_RUN: Rule = Rule("a case ends with a run or a broken text");
+pub(crate) const NO_RUN: Rule = Rule(
+    "a case ends with a run, a text that is judged, or a broken text",
+);
 
 pub(crate) const OUT_OF_ORDER: Rule = Rule(
-    "this item belongs to a run: run, clock and failing, status and prints stand in this order",
+    "this item belongs to a run: run, anew, clock and failing, status, prints and law stand in this order",
 );
 
 pub(crate) const STATUS_AND_PRINTS: Rule = Rule("a run has one status, from 0 to 255, and prints");
@@ -30,7 +38,9 @@ pub(crate) const NO_SUCH_PRINTS: Rule = Rule(
     "prints stands alone, or before `a front of`, `first` or `last`",
 );
 
-pub(crate) const NO_MARK: Rule = Rule("a mark stands before run, wordless or broken");
+pub(crate) const NO_MARK: Rule = Rule(
+    "a mark stands before run, wordless, refused, accepted, unread or broken",
+);
 
 pub(crate) const NO_SUCH_LINE: Rule = Rule(
     "a line of a file is line, control, data, full control or full data, perhaps behind `unended` or `COUNT x`",

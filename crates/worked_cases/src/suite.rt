@@ -4,11 +4,11 @@ ghost use Rattle.std.specs.Prelude.{IfOk};
 ghost use Rattle.case_form.specs.declared.verdict.Outcome.TheVariants as outcome_is;
 ghost use Rattle.worked_cases.specs.Judged.{AreRuns};
 
-use crate::case::{Case, Part};
-use crate::performing::{step_of_broken, steps_of_case};
+use crate::case::Case;
+use crate::performing::steps_of_case;
 use crate::reader::read_case;
 use ale_base::{Items, OutOfMemory};
-use case_form::{CaseFault, Outcome, Step, Suite};
+use case_form::{CaseFault, Outcome, Step, Suite, Texts};
 use std::alloc::Global;
 use std::sync::Wait;
 use std::thread::Threads;
@@ -20,7 +20,7 @@ pub(crate) struct Carried {
     ghost runs: { ∥ AreRuns (outcome_is.Steps steps) ∥₁ },
 }
 
-/// Carries out a case whose broken texts are broken, by runs of the program with workers that the handle starts.
+/// Carries out a case, by runs of the program with workers that the handle starts.
 pub(crate) fn carry_out<R: Threads + Wait + Sync>(
     rt: &R,
     alloc: Global,
@@ -45,21 +45,24 @@ pub(crate) struct WorkedCases {
 impl Suite for WorkedCases {
     ghost use Rattle.worked_cases.specs.Judged.{AreRuns};
 
-    ghost comes_out = { λ _ _ _ outcome. ∥ AreRuns outcome ∥₁ };
+    ghost comes_out = { λ _ _ _ _ outcome. ∥ AreRuns outcome ∥₁ };
 
-    fn outcome(&self, alloc: Global, file: &str, bytes: &[u8]) -> Result<Outcome, OutOfMemory> {
-        match read_case(alloc, file, bytes) {
-            Ok(case) => match broken_texts(alloc, case.parts.as_slice()) {
-                Ok(()) => self.runs(case),
-                Err(fault) => refused(fault),
-            },
+    fn outcome(
+        &self,
+        alloc: Global,
+        texts: &Texts,
+        file: &str,
+        bytes: &[u8],
+    ) -> Result<Outcome, OutOfMemory> {
+        match read_case(alloc, texts, file, bytes) {
+            Ok(case) => self.runs(case),
             Err(fault) => refused(fault),
         }
     }
 }
 
 impl WorkedCases {
-    /// What comes of a case whose broken texts are broken.
+    /// What comes of a case that was read.
     fn runs(&self, case: Case) -> Result<Outcome, OutOfMemory>
         ensures { IfOk result (λ outcome. ∥ AreRuns outcome ∥₁) }
     {
@@ -76,17 +79,4 @@ fn refused(fault: CaseFault) -> Result<Outcome, OutOfMemory>
         CaseFault::Malformed { line, rule } => Ok(Outcome::Malformed { line, rule }),
         CaseFault::OutOfMemory => Err(OutOfMemory),
     }
-}
-
-/// Whether each text that is to be no case is none; otherwise the first that is one.
-fn broken_texts(alloc: Global, parts: &[Part]) -> Result<(), CaseFault> {
-    for part in parts {
-        match part {
-            Part::Run(_) => {}
-            Part::Broken(item) => {
-                let _ = step_of_broken(alloc, item)?;
-            }
-        }
-    }
-    Ok(())
 }

@@ -1,0 +1,63 @@
+//! Cases whose items are answered one after another.
+
+ghost use Rattle.std.specs.Prelude.{◌≡◌, ◌++◌, IfOk, OnOk};
+ghost use Rattle.case_form.specs.Answered.{AreAnswered, Follows, IsAnswered};
+
+use crate::item::{Item, read_items};
+use crate::rule::{CaseFault, LineEnd};
+use crate::verdict::{Outcome, Step};
+use ale_base::{Items, OutOfMemory};
+use std::alloc::Global;
+
+/// What the items of a case work on, one after another.
+pub trait Bench: Drop {
+    /// The text that an item finds, if it is one that finds a text; or the rule that its line breaks.
+    fn found(&mut self, alloc: Global, item: &Item) -> Result<Option<Vec<u8>>, LineEnd>;
+}
+
+/// What came of a case file whose items are answered on a bench, in order: a step for each that finds a text, which is
+/// compared with the item's block. Malformed where a line breaks a rule of the form or, at its item, one of the bench.
+pub fn outcome_on<B: Bench>(
+    alloc: Global,
+    bench: &mut B,
+    file: &str,
+    bytes: &[u8],
+) -> Result<Outcome, OutOfMemory>
+    ensures { IfOk result (IsAnswered file.now bytes.now) }
+{
+    match read_items(alloc, file, bytes) {
+        Ok(items) => Outcome::of(steps_on(alloc, bench, items.as_slice())),
+        Err(fault) => Outcome::of(Err(fault)),
+    }
+}
+
+/// The steps of items on a bench.
+fn steps_on<B: Bench>(
+    alloc: Global,
+    bench: &mut B,
+    items: &[Item],
+) -> Result<Items<Step>, CaseFault>
+    ensures { IfOk result (AreAnswered items.now) }
+{
+    let mut steps = Items::new(alloc);
+    for item in items {
+        put_step(alloc, bench, item, &mut steps)?;
+    }
+    Ok(steps)
+}
+
+/// Adds the step of an item, where it finds a text.
+fn put_step<B: Bench>(
+    alloc: Global,
+    bench: &mut B,
+    item: &Item,
+    steps: &mut Items<Step>,
+) -> Result<(), CaseFault>
+    ensures { OnOk result (Follows item.now steps.old steps.new) }
+{
+    match bench.found(alloc, item) {
+        Ok(Some(found)) => Ok(steps.push(Step::of(alloc, item, found)?)?),
+        Ok(None) => Ok(()),
+        Err(end) => Err(end.at(item.line)),
+    }
+}

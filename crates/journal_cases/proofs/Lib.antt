@@ -1,2 +1,0 @@
--- Two journals on two volumes of one disk, each through the calls on the other.
-mod SideBySide

@@ -1,2 +1,0 @@
--- what rules that list units commit
-mod CommitLemmas

@@ -1,5 +1,0 @@
-use Rattle.std.proofs.Common.{◌≡◌, take}
-use Rattle.trfc_protocol.proofs.listed_rules.ListedRulesRules.units.Given as goal
-
-abbrev pub invariant-loop-unit : goal.invariant-loop-unit
-invariant-loop-unit l = l.units.items ≡ take l.unit-index l.unit-items
