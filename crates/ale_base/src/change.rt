@@ -4,7 +4,7 @@ use crate::Items;
 use std::alloc::AllocError;
 
 /// A field of an object, and what it holds.
-#[derive(Debug, PartialEq, Eq, Drop)]
+#[derive(Drop)]
 pub struct FieldValue {
     /// The name of the field.
     pub field: Items<u8>,
@@ -26,7 +26,7 @@ impl Clone for FieldValue {
 }
 
 /// A change of an object: the fields that get a value, in the order given.
-#[derive(Debug, PartialEq, Eq, Drop)]
+#[derive(Drop)]
 pub struct Change {
     /// The name of the object's kind.
     pub kind: Items<u8>,

@@ -1,7 +1,7 @@
 //! The two directions of a system.
 
 /// A direction, seen from a system.
-#[derive(Clone, Copy, Debug, PartialEq, Eq)]
+#[derive(Clone, Copy, PartialEq, Eq)]
 pub enum Way {
     /// To another system.
     Outgoing,

@@ -13,7 +13,7 @@ use script_text::ScriptFault;
 use std::alloc::Global;
 
 /// Why a file was not read.
-#[derive(Clone, Copy, Debug, PartialEq, Eq)]
+#[derive(Clone, Copy, PartialEq, Eq)]
 pub enum NotRead {
     /// No file has the name.
     Missing,
@@ -24,7 +24,7 @@ pub enum NotRead {
 }
 
 /// How a call ends that is no run.
-#[derive(Debug, Drop)]
+#[derive(Drop)]
 pub enum Ending {
     /// The documents of the file were taken, each once and in order.
     Passed(Items<RawDoc>),

@@ -33,7 +33,7 @@ use std::thread::Threads;
 use wires::Wires;
 
 /// What is reported of what was carried out.
-#[derive(Clone, Copy, Debug, PartialEq, Eq)]
+#[derive(Clone, Copy, PartialEq, Eq)]
 pub(crate) enum Report {
     /// The text of each command, behind it.
     Commands,

@@ -5,7 +5,7 @@ ghost use Rattle.ale_base.specs.Text.{is_text};
 ghost use Rattle.ale_host.specs.Words.{form_of, pass_form, load_form, run_form, count_in, is_count, workers_in, IsFew};
 
 /// What the words of a command line ask for.
-#[derive(Clone, Copy, Debug, PartialEq, Eq)]
+#[derive(Clone, Copy, PartialEq, Eq)]
 pub(crate) enum Form {
     /// `pass DOCS`
     Pass,

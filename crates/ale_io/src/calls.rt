@@ -9,7 +9,7 @@ use std::alloc::Global;
 
 /// The calls of something in memory that stands for the outside: how many were made, and which of them are to fail,
 /// counted from 1.
-#[derive(Debug, Drop)]
+#[derive(Drop)]
 pub struct Calls {
     /// The numbers of the calls that are to fail.
     pub failing: Items<u64>,

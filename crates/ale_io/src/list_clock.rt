@@ -8,7 +8,7 @@ use ale_base::Items;
 
 /// A clock in memory. It gives the moments of a list, and then the last of them again and again; 0 where the list is
 /// empty. Once its calls have no number of 64 bits left it tells nothing.
-#[derive(Debug, Drop)]
+#[derive(Drop)]
 pub struct ListClock {
     /// The moments that it gives, the first one first.
     pub moments: Items<u64>,

@@ -6,7 +6,7 @@ use crate::{Calls, FileEnd, Files};
 use ale_base::Items;
 
 /// A file in memory.
-#[derive(Debug, Drop)]
+#[derive(Drop)]
 pub struct StoredFile {
     /// The bytes of its name.
     pub name: Items<u8>,
@@ -15,7 +15,7 @@ pub struct StoredFile {
 }
 
 /// Files in memory, of which chosen calls fail. Of several files with one name the first counts.
-#[derive(Debug, Drop)]
+#[derive(Drop)]
 pub struct MapFiles {
     /// The files. Those with no name can't be read.
     pub files: Items<StoredFile>,

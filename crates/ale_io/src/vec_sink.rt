@@ -5,7 +5,7 @@ use ale_base::Items;
 
 /// A sink in memory, of which chosen calls fail: such a call takes the first half of its bytes, rounded down. A call
 /// for which there is no memory takes none of them, and is a fault too.
-#[derive(Debug, Drop)]
+#[derive(Drop)]
 pub struct VecSink {
     /// What was put.
     pub bytes: Vec<u8>,

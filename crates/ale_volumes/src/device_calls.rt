@@ -7,7 +7,7 @@ ghost use Rattle.ale_volumes.specs.Calls.{NextFails};
 use ale_base::Items;
 
 /// The calls on volumes in memory: how many were made over all volumes, which of them are to fail, and the faults.
-#[derive(Debug, Drop)]
+#[derive(Drop)]
 pub struct DeviceCalls {
     /// The numbers of the calls that are to fail, counted from 1.
     pub failing: Items<u64>,

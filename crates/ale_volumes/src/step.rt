@@ -3,7 +3,7 @@
 use ale_base::Items;
 
 /// A call that changed what volumes in memory hold, or what a crash may leave of them.
-#[derive(Debug, Drop)]
+#[derive(Drop)]
 pub enum Step {
     /// Bytes were written to a volume from a place on.
     Write {

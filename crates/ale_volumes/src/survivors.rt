@@ -3,7 +3,7 @@
 use ale_base::Items;
 
 /// What a crash leaves of the writes since a volume's last sync.
-#[derive(Debug, Drop)]
+#[derive(Drop)]
 pub struct Survivors {
     /// How many of the first bytes of each write reach the disk, oldest write first. A write past the end of the list
     /// leaves none.

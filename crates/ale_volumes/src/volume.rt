@@ -9,7 +9,7 @@ use ale_base::{Items, OutOfMemory};
 use std::alloc::Global;
 
 /// A write since the last sync of its volume.
-#[derive(Debug, Drop)]
+#[derive(Drop)]
 pub struct UnsyncedWrite {
     /// The place of its first byte.
     pub at: u64,
@@ -18,7 +18,7 @@ pub struct UnsyncedWrite {
 }
 
 /// What is known of a volume: what a read gives, and what a crash leaves open.
-#[derive(Debug, Drop)]
+#[derive(Drop)]
 pub struct Volume {
     /// What a read gives.
     pub contents: Items<u8>,

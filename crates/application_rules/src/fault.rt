@@ -4,7 +4,7 @@ use idoc_tree::SyntaxFault;
 use thiserror::Error;
 
 /// Why a document may not be a master.
-#[derive(Debug, PartialEq, Eq, Drop, Error)]
+#[derive(Debug, Drop, Error)]
 pub enum MasterFault {
     /// MESTYP stands for no message type, or IDOCTYP names another IDoc type than that of the message type.
     #[error("MESTYP stands for no message type, or IDOCTYP names another IDoc type")]

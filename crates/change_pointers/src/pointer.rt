@@ -4,7 +4,7 @@ use ale_base::Items;
 use dist_model::MessageNo;
 
 /// A field of an object changed, and documents of a message type are to tell of it.
-#[derive(Debug, PartialEq, Eq, Drop)]
+#[derive(Drop)]
 pub struct Pointer {
     /// The name of the object's kind.
     pub kind: Items<u8>,
@@ -17,7 +17,7 @@ pub struct Pointer {
 }
 
 /// An object, by its kind and its key.
-#[derive(Debug, PartialEq, Eq, Drop)]
+#[derive(Drop)]
 pub struct ObjectKey {
     /// The name of its kind.
     pub kind: Items<u8>,

@@ -11,7 +11,7 @@ use std::marker::Model;
 
 /// The pointers that were noted and not cleared. Contracts see them in the order in which they were noted. `renumbering` has what
 /// another model makes of them.
-#[derive(Debug, Drop)]
+#[derive(Drop)]
 pub struct Pointers {
     pub(crate) pointers: Items<Pointer>,
 }

@@ -1,7 +1,7 @@
 //! How a pool ends.
 
 /// A pool found no more works.
-#[derive(Debug, Drop)]
+#[derive(Drop)]
 pub struct PoolEnd<D> {
     /// The desk that was handed in.
     pub desk: D,
@@ -10,7 +10,7 @@ pub struct PoolEnd<D> {
 }
 
 /// Memory was wanting in a pool. What was done before is done.
-#[derive(Debug, Drop)]
+#[derive(Drop)]
 pub struct PoolShort<D> {
     /// The desk that was handed in.
     pub desk: D,

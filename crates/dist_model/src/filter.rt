@@ -5,7 +5,7 @@ use ale_base::Items;
 use segment_defs::TypeNo;
 
 /// A field of a segment type.
-#[derive(Clone, Copy, Debug, PartialEq, Eq)]
+#[derive(Clone, Copy, PartialEq, Eq)]
 pub struct FieldPlace {
     /// The segment type.
     pub segment: TypeNo,
@@ -14,7 +14,7 @@ pub struct FieldPlace {
 }
 
 /// A filter of a message type: segments of one type are sent by the value of a field.
-#[derive(Debug, PartialEq, Eq, Drop)]
+#[derive(Drop)]
 pub struct Filter {
     /// The name, one of its own among the filters of the message type.
     pub name: Items<u8>,

@@ -3,7 +3,7 @@
 use ale_base::{Items, SystemNo};
 
 /// When a document that was received is posted.
-#[derive(Clone, Copy, Debug, PartialEq, Eq)]
+#[derive(Clone, Copy, PartialEq, Eq)]
 pub enum InboundMode {
     /// With its unit.
     Immediate,
@@ -12,7 +12,7 @@ pub enum InboundMode {
 }
 
 /// How a system posts what it receives of a message type from another.
-#[derive(Debug, PartialEq, Eq, Drop)]
+#[derive(Drop)]
 pub struct Inbound {
     /// The system that receives.
     pub receiver: SystemNo,

@@ -4,7 +4,7 @@ use ale_base::Items;
 use segment_defs::TypeNo;
 
 /// A kind of business objects, as materials. An object is told from the others of its kind by its key.
-#[derive(Debug, PartialEq, Eq, Drop)]
+#[derive(Drop)]
 pub struct Kind {
     /// The name.
     pub name: Items<u8>,

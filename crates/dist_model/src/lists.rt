@@ -5,7 +5,7 @@ use ale_base::Items;
 use segment_defs::{Definitions, IdocType};
 
 /// The lists of a distribution model. `IsModel` says which rules those of a model keep.
-#[derive(Debug, PartialEq, Eq, Drop)]
+#[derive(Drop)]
 pub struct Lists {
     /// The names of the releases, in order.
     pub releases: Items<Items<u8>>,

@@ -5,7 +5,7 @@ use ale_base::Items;
 use std::marker::Model;
 
 /// The number of a message type: its place from 0 among those of the model. Contracts see the number.
-#[derive(Clone, Copy, Debug, PartialEq, Eq)]
+#[derive(Clone, Copy, PartialEq, Eq)]
 pub struct MessageNo(pub u16);
 
 impl Model for MessageNo {
@@ -19,7 +19,7 @@ impl Model for MessageNo {
 }
 
 /// What a posting of a message does to the object.
-#[derive(Clone, Copy, Debug, PartialEq, Eq)]
+#[derive(Clone, Copy, PartialEq, Eq)]
 pub enum PostingMode {
     /// It makes the object, or changes it where it is there.
     Upsert,
@@ -28,7 +28,7 @@ pub enum PostingMode {
 }
 
 /// A message type: documents of one IDoc type about objects of one kind.
-#[derive(Debug, PartialEq, Eq, Drop)]
+#[derive(Drop)]
 pub struct Message {
     /// The name.
     pub name: Items<u8>,
@@ -45,7 +45,7 @@ pub struct Message {
 }
 
 /// A reduced message type: one of which some fields are not sent.
-#[derive(Debug, PartialEq, Eq, Drop)]
+#[derive(Drop)]
 pub struct Reduced {
     /// The name.
     pub name: Items<u8>,

@@ -5,7 +5,7 @@ use ale_base::{Fixed, Items, SystemNo};
 use segment_defs::TypeNo;
 
 /// How documents of a message type are sent from one system to another.
-#[derive(Debug, PartialEq, Eq, Drop)]
+#[derive(Drop)]
 pub struct Outbound {
     /// The system that sends.
     pub sender: SystemNo,
@@ -36,7 +36,7 @@ pub struct Outbound {
 }
 
 /// A value of a field that another one replaces.
-#[derive(Debug, PartialEq, Eq, Drop)]
+#[derive(Drop)]
 pub struct Convert {
     /// The segment type.
     pub segment: TypeNo,
@@ -49,7 +49,7 @@ pub struct Convert {
 }
 
 /// A rule that names a queue: a text, and behind it perhaps the value of a field.
-#[derive(Debug, PartialEq, Eq, Drop)]
+#[derive(Drop)]
 pub struct QueueRule {
     /// The text, at most 24 bytes.
     pub text: Items<u8>,

@@ -5,7 +5,7 @@ use ale_base::{Items, SystemNo};
 use std::marker::Model;
 
 /// The number of a row: its place from 0 among those of the model. Contracts see the number.
-#[derive(Clone, Copy, Debug, PartialEq, Eq)]
+#[derive(Clone, Copy, PartialEq, Eq)]
 pub struct RowNo(pub u16);
 
 impl Model for RowNo {
@@ -19,7 +19,7 @@ impl Model for RowNo {
 }
 
 /// Documents of a message type go from one system to another.
-#[derive(Debug, PartialEq, Eq, Drop)]
+#[derive(Drop)]
 pub struct Row {
     /// The system that sends.
     pub sender: SystemNo,
@@ -32,14 +32,14 @@ pub struct Row {
 }
 
 /// Conditions that a segment has to meet together.
-#[derive(Debug, PartialEq, Eq, Drop)]
+#[derive(Drop)]
 pub struct Group {
     /// A condition a filter.
     pub choices: Items<Choice>,
 }
 
 /// The condition of a filter: its field has one of these values.
-#[derive(Debug, PartialEq, Eq, Drop)]
+#[derive(Drop)]
 pub struct Choice {
     /// The filter, by its place from 0 among those of the model.
     pub filter: u16,

@@ -4,7 +4,7 @@ use ale_base::{Fixed, Items};
 
 /// A system of the landscape. Its number is one more than its place among the systems of the model. `IsSystem` says which
 /// rules it keeps.
-#[derive(Debug, PartialEq, Eq, Drop)]
+#[derive(Drop)]
 pub struct System {
     /// The name, from 1 to 10 letters, digits, `_` and `/`.
     pub name: Items<u8>,

@@ -7,7 +7,7 @@ use ale_base::OutOfMemory;
 use std::alloc::Global;
 
 /// Whether a node is in a set, and which of those below it are. Where the node is not, none of those counts.
-#[derive(Debug, Drop)]
+#[derive(Drop)]
 pub(crate) struct Member {
     /// It is in the set.
     pub(crate) kept: bool,

@@ -4,7 +4,7 @@ use ale_base::Items;
 use idoc_record::{Control, Data};
 
 /// A document of a file: its control record, and the data records of its segments in order.
-#[derive(Debug, Drop)]
+#[derive(Drop)]
 pub struct RawDoc {
     /// The control record.
     pub control: Control,

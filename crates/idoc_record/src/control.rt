@@ -14,7 +14,7 @@ pub(crate) const CONTROL_LEN: usize = 524;
 
 /// A control record EDI_DC40: 524 bytes with TABNAM `EDI_DC40`, a DOCNUM of digits or blank, and a DIRECT of `1`, `2`
 /// or blank. Contracts see the bytes.
-#[derive(Debug, PartialEq, Eq, Drop)]
+#[derive(PartialEq, Eq, Drop)]
 pub struct Control {
     bytes: [u8; 524],
 }

@@ -16,7 +16,7 @@ pub(crate) const DATA_LEN: usize = 1_063;
 
 /// The data record EDI_DD40 of one segment: a SEGNAM that is not blank and does not begin with `EDI_`, and SDATA of at
 /// most 1,000 bytes without blanks at their end. Contracts see both texts.
-#[derive(Debug, PartialEq, Eq, Drop)]
+#[derive(PartialEq, Eq, Drop)]
 pub struct Data {
     /// The name of the segment.
     pub segnam: Fixed<30>,

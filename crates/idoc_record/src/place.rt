@@ -1,7 +1,7 @@
 //! The place of a segment in its document, as its data record tells it.
 
 /// Where a segment stands in its document.
-#[derive(Clone, Copy, Debug, PartialEq, Eq)]
+#[derive(Clone, Copy, PartialEq, Eq)]
 pub struct Place {
     /// SEGNUM: its number in preorder, from 1, below 1,000,000.
     pub segnum: u32,

@@ -5,7 +5,7 @@ use thiserror::Error;
 
 /// Why data records are no document of an IDoc type. A record is told by its number, from 1. The greatest number of 32
 /// bits stands for any larger one.
-#[derive(Debug, PartialEq, Eq, Drop, Error)]
+#[derive(Debug, Drop, Error)]
 pub enum SyntaxFault {
     /// The name of this record is neither that of a segment type nor that of a definition.
     #[error("record {0} names no segment type")]

@@ -5,7 +5,7 @@ use idoc_record::Control;
 use segment_defs::{TypeNo, VersionNo};
 
 /// A segment of a document, with the segments below it.
-#[derive(Debug, Drop)]
+#[derive(Drop)]
 pub struct Node {
     /// The segment type.
     pub segment: TypeNo,
@@ -18,7 +18,7 @@ pub struct Node {
 }
 
 /// A document: its control record and its segments.
-#[derive(Debug, Drop)]
+#[derive(Drop)]
 pub struct Doc {
     /// The control record.
     pub control: Control,

@@ -4,7 +4,7 @@ use ale_base::SystemNo;
 use unit_core::RawUnitDoc;
 
 /// A document that came in, without its statuses.
-#[derive(Debug, PartialEq, Eq, Drop)]
+#[derive(Drop)]
 pub struct InboundDocument {
     /// The system that sent it.
     pub sender: SystemNo,

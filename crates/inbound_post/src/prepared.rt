@@ -4,7 +4,7 @@ use ale_base::Items;
 use object_store::Posting;
 
 /// What becomes of a document that was received.
-#[derive(Debug, PartialEq, Eq, Drop)]
+#[derive(Drop)]
 pub enum DocPosting {
     /// It is posted with its unit.
     Post(Posting),
@@ -15,7 +15,7 @@ pub enum DocPosting {
 }
 
 /// What a receiver makes of a unit.
-#[derive(Debug, PartialEq, Eq, Drop)]
+#[derive(Drop)]
 pub struct Prepared {
     /// Whether the receiver offers the function of the unit.
     pub offered: bool,

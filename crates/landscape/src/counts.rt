@@ -3,7 +3,7 @@
 use unit_core::Record;
 
 /// What came of a master that was sent.
-#[derive(Clone, Copy, Debug, PartialEq, Eq)]
+#[derive(Clone, Copy, PartialEq, Eq)]
 pub struct Sent {
     /// How many outbound documents were made.
     pub documents: u64,
@@ -12,7 +12,7 @@ pub struct Sent {
 }
 
 /// What came of objects that were gathered.
-#[derive(Clone, Copy, Debug, PartialEq, Eq)]
+#[derive(Clone, Copy, PartialEq, Eq)]
 pub struct Gathered {
     /// How many masters were made.
     pub masters: u64,
@@ -49,7 +49,7 @@ impl Gathered {
 }
 
 /// How much the logs of systems hold. Each number stops at the greatest one.
-#[derive(Clone, Copy, Debug, PartialEq, Eq)]
+#[derive(Clone, Copy, PartialEq, Eq)]
 pub struct Counts {
     /// How many masters were committed.
     pub masters: u64,

@@ -5,7 +5,7 @@ use idoc_record::Control;
 use status_log::SegmentLine;
 
 /// An outbound document: its control record, and its segments in order, each with its place.
-#[derive(Debug, Drop)]
+#[derive(Drop)]
 pub struct ShownDocument {
     /// The control record.
     pub control: Control,

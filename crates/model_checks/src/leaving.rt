@@ -14,7 +14,7 @@ use segment_defs::{Definitions, TypeNo, TypePlace};
 use std::alloc::Global;
 
 /// By which way segment types leave a document.
-#[derive(Clone, Copy, Debug, PartialEq, Eq)]
+#[derive(Clone, Copy, PartialEq, Eq)]
 pub(crate) enum By {
     /// The profile removes them.
     Removal,

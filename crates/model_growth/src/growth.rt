@@ -10,7 +10,7 @@ use ale_base::Items;
 use dist_model::Lists;
 
 /// What of a model another one does not keep. Places are from 0, in the lists of the model that is to be replaced.
-#[derive(Clone, Copy, Debug, PartialEq, Eq)]
+#[derive(Clone, Copy, PartialEq, Eq)]
 pub enum Unkept {
     /// The releases: those of the new model do not begin with them.
     Releases,

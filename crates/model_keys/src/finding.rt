@@ -10,7 +10,7 @@ use itoa::Buffer;
 use std::alloc::{AllocError, AllocFailed, Global};
 
 /// What is wrong with what stands at a key.
-#[derive(Clone, Copy, Debug, PartialEq, Eq)]
+#[derive(Clone, Copy, PartialEq, Eq)]
 pub enum Cause {
     /// The key is absent.
     Missing,
@@ -29,7 +29,7 @@ pub enum Cause {
 }
 
 /// What is wrong, and the path to it: keys joined by `.`, with the places of elements in brackets, counted from 0.
-#[derive(Debug, PartialEq, Eq, Drop)]
+#[derive(Drop)]
 pub struct Finding {
     /// What is wrong.
     pub cause: Cause,
@@ -38,7 +38,7 @@ pub struct Finding {
 }
 
 /// Why nothing was read.
-#[derive(Debug, Drop)]
+#[derive(Drop)]
 pub enum ReadError {
     /// There was not enough memory.
     Memory,

@@ -5,7 +5,7 @@ use thiserror::Error;
 
 /// The first fault of a model's text, with the path to it: keys joined by `.`, with the places of elements in brackets,
 /// counted from 0.
-#[derive(Debug, PartialEq, Eq, Drop, Error)]
+#[derive(Debug, Drop, Error)]
 pub enum ModelFault {
     /// The bytes are no UTF-8, or no TOML.
     #[error("the text is no TOML")]

@@ -6,7 +6,7 @@ use ale_base::{Mark, Tid};
 use plain_queues::QueueKey;
 
 /// A unit. It stays at its place when it is finished, and then it is in no queue.
-#[derive(Debug, Drop)]
+#[derive(Drop)]
 pub(crate) struct Entry {
     pub(crate) tid: Tid,
     /// The numbers of the queues that it is in.
@@ -18,7 +18,7 @@ pub(crate) struct Entry {
 }
 
 /// A queue. Its number is its place among all, in the order of first use.
-#[derive(Debug, Drop)]
+#[derive(Drop)]
 pub(crate) struct Lane {
     pub(crate) key: QueueKey,
     pub(crate) stopped: bool,

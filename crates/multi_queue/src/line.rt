@@ -10,7 +10,7 @@ use std::marker::{Brand, Model};
 use std::sync::ledger::{Blank, Ledger};
 
 /// The places of the units in a queue, in order. Contracts see the list.
-#[derive(Debug, Drop)]
+#[derive(Drop)]
 pub(crate) struct Line {
     places: VecDeque<usize>,
 }

@@ -18,7 +18,7 @@ use std::sync::ledger::Ledger;
 
 /// The units that were added and are not finished, in the order in which they were added, with their claims and marks, and the
 /// stopped queues.
-#[derive(Debug, Drop)]
+#[derive(Drop)]
 pub struct Queues {
     alloc: Global,
     units: Items<Entry>,

@@ -3,7 +3,7 @@
 use ale_base::{FieldValue, Items};
 
 /// An object with its fields that are not blank, in byte order of their names.
-#[derive(Debug, PartialEq, Eq, Drop)]
+#[derive(Drop)]
 pub struct Object {
     /// The name of its kind.
     pub kind: Items<u8>,

@@ -3,7 +3,7 @@
 use ale_base::{FieldValue, Items};
 
 /// What a document is to make of an object.
-#[derive(Debug, PartialEq, Eq, Drop)]
+#[derive(Drop)]
 pub struct Posting {
     /// The name of the object's kind.
     pub kind: Items<u8>,
@@ -18,7 +18,7 @@ pub struct Posting {
 }
 
 /// What comes of a posting.
-#[derive(Clone, Copy, Debug, PartialEq, Eq)]
+#[derive(Clone, Copy, PartialEq, Eq)]
 pub enum Outcome {
     /// The object was made or changed.
     Posted,

@@ -6,7 +6,7 @@ use std::alloc::AllocError;
 use unit_core::{AleUnit, RawUnitDoc};
 
 /// What becomes of a document when it is committed.
-#[derive(Clone, Copy, Debug, PartialEq, Eq)]
+#[derive(Clone, Copy, PartialEq, Eq)]
 pub enum Fate {
     /// A unit carries it at once.
     Sent,
@@ -17,7 +17,7 @@ pub enum Fate {
 }
 
 /// A document that was made of a master for one receiver.
-#[derive(Debug, PartialEq, Eq, Drop)]
+#[derive(Drop)]
 pub struct OutDocument {
     /// Its number, from 1, among the outbound documents of its system.
     pub number: DocNum,
@@ -30,7 +30,7 @@ pub struct OutDocument {
 }
 
 /// A unit, and which documents it carries.
-#[derive(Debug, PartialEq, Eq, Drop)]
+#[derive(Drop)]
 pub struct OutUnit {
     /// The unit.
     pub unit: AleUnit,
@@ -39,7 +39,7 @@ pub struct OutUnit {
 }
 
 /// What a record adds to the outbound documents and to the units of its log.
-#[derive(Debug, PartialEq, Eq, Drop)]
+#[derive(Drop)]
 pub struct Added {
     /// The documents that it makes, in the order of their numbers.
     pub documents: Items<OutDocument>,
@@ -48,7 +48,7 @@ pub struct Added {
 }
 
 /// A document that waits for a Dispatch.
-#[derive(Debug, PartialEq, Eq, Drop)]
+#[derive(Drop)]
 pub struct Waiting {
     /// Its number.
     pub number: DocNum,

@@ -26,7 +26,7 @@ use std::alloc::Global;
 use unit_core::{RawUnitDoc, Shared};
 
 /// What a record adds, while its units have no numbers yet.
-#[derive(Debug, Drop)]
+#[derive(Drop)]
 pub(crate) struct Batch {
     /// The documents.
     pub(crate) documents: Items<OutDocument>,

@@ -16,7 +16,7 @@ use std::alloc::Global;
 use unit_core::{AleUnit, Record};
 
 /// What is kept behind some records of a log.
-#[derive(Debug, Drop)]
+#[derive(Drop)]
 pub(crate) struct Behind {
     /// How many models there were.
     pub(crate) models: usize,

@@ -18,7 +18,7 @@ use std::alloc::Global;
 use unit_core::RawUnitDoc;
 
 /// A master that was read: its message type, and the document.
-#[derive(Debug, Drop)]
+#[derive(Drop)]
 pub(crate) struct MasterDoc {
     /// The message type.
     pub(crate) message: MessageNo,

@@ -15,7 +15,7 @@ use unit_core::Record;
 
 /// What is to be known of the outbound documents and units of a log, so that one more record can be added: how many there
 /// are, and which documents wait. The documents and units themselves are not kept.
-#[derive(Debug, PartialEq, Eq, Drop)]
+#[derive(Drop)]
 pub struct Outbox {
     /// How many documents there are.
     pub documents: u64,

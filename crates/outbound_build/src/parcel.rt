@@ -5,7 +5,7 @@ use ale_base::{DocNum, Fixed, Items, SystemNo};
 use unit_core::RawUnitDoc;
 
 /// A unit that has no number yet: to which system it goes, what executes it, its queues and its documents.
-#[derive(Debug, Drop)]
+#[derive(Drop)]
 pub(crate) struct Parcel {
     /// The system that is to execute it.
     pub(crate) receiver: SystemNo,

@@ -15,7 +15,7 @@ use idoc_tree::{Doc, Node};
 use std::alloc::Global;
 
 /// The queues that a unit is in.
-#[derive(Debug, PartialEq, Eq, Drop)]
+#[derive(Drop)]
 pub struct QueueLists {
     /// Those of its sender.
     pub outq: Items<QueueName>,

@@ -3,7 +3,7 @@
 use crate::{QueueKey, QueueStatus};
 
 /// How many units a queue holds, and its status.
-#[derive(Clone, Copy, Debug, PartialEq, Eq)]
+#[derive(Clone, Copy, PartialEq, Eq)]
 pub struct QueueCount {
     /// Which queue it is.
     pub key: QueueKey,

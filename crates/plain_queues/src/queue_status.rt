@@ -1,7 +1,7 @@
 //! Statuses of queues.
 
 /// The status of a queue that is not empty, by the unit that heads it: the first of these that applies, in this order.
-#[derive(Clone, Copy, Debug, PartialEq, Eq)]
+#[derive(Clone, Copy, PartialEq, Eq)]
 pub enum QueueStatus {
     /// The queue is stopped.
     Stop,

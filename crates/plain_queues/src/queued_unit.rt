@@ -4,7 +4,7 @@ use crate::QueueKey;
 use ale_base::{Items, Mark, Tid};
 
 /// A unit that was added and is not finished.
-#[derive(Debug, PartialEq, Eq, Drop)]
+#[derive(Drop)]
 pub(crate) struct QueuedUnit {
     /// Its id.
     pub(crate) tid: Tid,

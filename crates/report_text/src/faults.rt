@@ -11,7 +11,7 @@ use status_log::Cause;
 use std::alloc::Global;
 
 /// What is printed last where a run read its model and documents and did not end well.
-#[derive(Debug, Drop)]
+#[derive(Drop)]
 pub enum FaultLine {
     /// `script refused: LINE`: this line of the script is no command.
     Script(u32),

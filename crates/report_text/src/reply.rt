@@ -3,7 +3,7 @@
 use status_log::{Refusal, Status};
 
 /// What a command replies.
-#[derive(Debug, Drop)]
+#[derive(Drop)]
 pub enum Reply {
     /// `documents D units U`: of a master that was sent.
     Sent {

@@ -11,7 +11,7 @@ use report_text::Reply;
 use status_log::{Listing, Refusal};
 
 /// How a command is answered: its reply, and what it lists.
-#[derive(Debug, Drop)]
+#[derive(Drop)]
 pub struct Answered {
     /// The reply.
     pub reply: Reply,

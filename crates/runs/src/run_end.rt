@@ -3,7 +3,7 @@
 use ale_base::SystemNo;
 
 /// Why a run ends.
-#[derive(Clone, Copy, Debug, PartialEq, Eq)]
+#[derive(Clone, Copy, PartialEq, Eq)]
 pub enum RunEnd {
     /// Each command was done, and all systems are up.
     Whole,

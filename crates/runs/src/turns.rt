@@ -29,7 +29,7 @@ pub struct Ran<V: Volumes> {
 }
 
 /// How a command ends.
-#[derive(Clone, Copy, Debug, PartialEq, Eq)]
+#[derive(Clone, Copy, PartialEq, Eq)]
 pub(crate) enum TurnEnd {
     /// It was answered, and its text was put.
     Done,

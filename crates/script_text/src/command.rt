@@ -3,7 +3,7 @@
 use crate::Form;
 
 /// A command, and where it is written.
-#[derive(Debug, Drop)]
+#[derive(Drop)]
 pub struct Command {
     /// The number of its line, counted from 1.
     pub line: u32,

@@ -7,7 +7,7 @@ use ale_base::{Change, DocNum, Items, Tid};
 
 /// What a command asks for, by its words. Names are as they are written: whether there is such a system, queue, object or
 /// document is not looked at. A system of a landscape is meant by `sys`.
-#[derive(Debug, Drop)]
+#[derive(Drop)]
 pub enum Form {
     /// `send SYS K`: commit the K-th document of the document file as a master.
     Send {

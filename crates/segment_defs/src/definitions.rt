@@ -7,7 +7,7 @@ use crate::{SegmentType, TypeNo, Version, VersionNo};
 use ale_base::{Items, trimmed};
 
 /// All segment types of a landscape.
-#[derive(Debug, PartialEq, Eq, Drop)]
+#[derive(Drop)]
 pub struct Definitions {
     /// The segment types. The place of one, from 0, is its number.
     pub types: Items<SegmentType>,

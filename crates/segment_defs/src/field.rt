@@ -6,7 +6,7 @@ ghost use Rattle.ale_base.specs.Blanks.{trimmed};
 use ale_base::{Items, OutOfMemory, trimmed};
 
 /// A field of a segment. The rules are told by `is_valid`.
-#[derive(Debug, PartialEq, Eq, Drop)]
+#[derive(PartialEq, Eq, Drop)]
 pub struct Field {
     /// The name, from 1 to 30 letters, digits, `_` and `/`.
     pub name: Items<u8>,

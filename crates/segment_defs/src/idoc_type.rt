@@ -5,7 +5,7 @@ use ale_base::Items;
 
 /// An entry of an IDoc type: where a segment type stands in its hierarchy, and how often. The rules are told by
 /// `IdocType::is_valid`.
-#[derive(Clone, Copy, Debug, PartialEq, Eq)]
+#[derive(Clone, Copy, PartialEq, Eq)]
 pub struct TypePlace {
     /// The segment type.
     pub segment: TypeNo,
@@ -20,7 +20,7 @@ pub struct TypePlace {
 }
 
 /// A hierarchy of segment types, of which documents are made. The rules are told by `is_valid`.
-#[derive(Debug, PartialEq, Eq, Drop)]
+#[derive(Drop)]
 pub struct IdocType {
     /// The name of the IDoc type.
     pub name: Items<u8>,

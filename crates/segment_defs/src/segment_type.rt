@@ -4,7 +4,7 @@ use crate::{Version, VersionNo};
 use ale_base::Items;
 
 /// A segment type with its definitions, the oldest first. The rules are told by `is_valid`.
-#[derive(Debug, PartialEq, Eq, Drop)]
+#[derive(Drop)]
 pub struct SegmentType {
     /// The name of the type.
     pub name: Items<u8>,

@@ -3,7 +3,7 @@
 use std::marker::Model;
 
 /// The number of a segment type: its place from 0 among the types of a landscape. Contracts see the number.
-#[derive(Clone, Copy, Debug, PartialEq, Eq)]
+#[derive(Clone, Copy, PartialEq, Eq)]
 pub struct TypeNo(pub u16);
 
 impl Model for TypeNo {

@@ -6,7 +6,7 @@ use crate::Field;
 use ale_base::{Items, trimmed};
 
 /// A definition of a segment type: the fields that it has from a release on. The rules are told by `is_valid`.
-#[derive(Debug, PartialEq, Eq, Drop)]
+#[derive(PartialEq, Eq, Drop)]
 pub struct Version {
     /// The name of the definition.
     pub name: Items<u8>,

@@ -4,7 +4,7 @@ use std::marker::Model;
 
 /// The number of a definition: its place from 0 among those of its segment type, the oldest first. Contracts see the
 /// number.
-#[derive(Clone, Copy, Debug, PartialEq, Eq)]
+#[derive(Clone, Copy, PartialEq, Eq)]
 pub struct VersionNo(pub u8);
 
 impl Model for VersionNo {

@@ -6,7 +6,7 @@ use idoc_record::{Data, Place};
 use plain_queues::QueueStatus;
 
 /// A document and its statuses.
-#[derive(Debug, Drop)]
+#[derive(Drop)]
 pub struct DocLine {
     /// Whether it was sent or received.
     pub way: Way,
@@ -21,7 +21,7 @@ pub struct DocLine {
 }
 
 /// A segment of a document.
-#[derive(Debug, Drop)]
+#[derive(Drop)]
 pub struct SegmentLine {
     /// Where it stands in the document.
     pub place: Place,
@@ -30,7 +30,7 @@ pub struct SegmentLine {
 }
 
 /// What became of a unit, at one of its two systems.
-#[derive(Clone, Copy, Debug, PartialEq, Eq)]
+#[derive(Clone, Copy, PartialEq, Eq)]
 pub enum UnitState {
     /// Sent by this system and neither done nor marked.
     Unsent,
@@ -49,7 +49,7 @@ pub enum UnitState {
 }
 
 /// A unit and its state.
-#[derive(Debug, Drop)]
+#[derive(Drop)]
 pub struct UnitLine {
     /// Whether it was sent or received.
     pub way: Way,
@@ -64,7 +64,7 @@ pub struct UnitLine {
 }
 
 /// A queue and its status.
-#[derive(Debug, Drop)]
+#[derive(Drop)]
 pub struct QueueLine {
     /// Whether it is outbound or inbound.
     pub way: Way,
@@ -79,7 +79,7 @@ pub struct QueueLine {
 }
 
 /// An object and its fields.
-#[derive(Debug, Drop)]
+#[derive(Drop)]
 pub struct ObjectLine {
     /// The name of its kind.
     pub kind: Items<u8>,

@@ -5,7 +5,7 @@ use ale_base::Items;
 use idoc_record::Control;
 
 /// What is shown, line by line in its order.
-#[derive(Debug, Drop)]
+#[derive(Drop)]
 pub enum Listing {
     /// Outbound documents by number, and then inbound ones.
     Docs(Items<DocLine>),

@@ -5,52 +5,37 @@ ghost use Rattle.status_log.specs.Refusal.{number_of};
 
 use ale_base::OutOfMemory;
 use idoc_tree::SyntaxFault;
-use thiserror::Error;
 
 /// Why a command was not carried out. One that is refused by a number appended no record and changed nothing.
-#[derive(Debug, Drop, Error)]
+#[derive(Drop)]
 pub enum Refusal {
     /// 1: the system is unknown.
-    #[error("unknown system")]
     N1,
     /// 2: the system is down.
-    #[error("system down")]
     N2,
     /// 3: the document is unknown.
-    #[error("unknown document")]
     N3,
     /// 4: the segments are no document of their IDoc type.
-    #[error("syntax: {0}")]
     N4(SyntaxFault),
     /// 5: the name is none of a queue, or the destination is the system itself.
-    #[error("no such queue")]
     N5,
     /// 6: the unit is not outstanding there, or, for `late`, not committed.
-    #[error("no such unit")]
     N6,
     /// 7: the unit is not marked CPICERR since its last retry, or is done.
-    #[error("the unit does not wait for an answer")]
     N7,
     /// 8: the last status of the document is not that which the command takes.
-    #[error("the document does not wait for this")]
     N8,
     /// 9: the system is up already.
-    #[error("system up")]
     N9,
     /// 10: the journal is full; it would have this length.
-    #[error("the journal would be {0} bytes long")]
     N10(u64),
     /// 11: there would be too many units; this is their count.
-    #[error("there would be {0} units")]
     N11(u64),
     /// 12: a name is unknown, or a value does not fit.
-    #[error("unknown name, or a value that does not fit")]
     N12,
     /// The volume of the system failed.
-    #[error("the volume failed")]
     Volume,
     /// A request for memory was refused.
-    #[error("out of memory")]
     OutOfMemory,
 }
 

@@ -3,7 +3,7 @@
 use ale_base::{DocNum, SystemNo};
 
 /// A listing that is asked for, of a system.
-#[derive(Clone, Copy, Debug, PartialEq, Eq)]
+#[derive(Clone, Copy, PartialEq, Eq)]
 pub enum Show {
     /// Its documents and their statuses.
     Docs(SystemNo),

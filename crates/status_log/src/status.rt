@@ -3,7 +3,7 @@
 /// A status that a document got. The codes are SAP's: 01 generated, 03 passed to the port, 12 dispatched, 29 error in the
 /// ALE service, 30 ready for dispatch, 50 added, 51 not posted, 53 posted, 56 with errors, 62 passed to the application,
 /// 64 ready for the application. Source: SAP Library, IDoc statuses.
-#[derive(Clone, Copy, Debug, PartialEq, Eq)]
+#[derive(Clone, Copy, PartialEq, Eq)]
 pub struct Status {
     /// The code, below 100.
     pub code: u8,

@@ -10,7 +10,7 @@ use std::marker::Model;
 
 /// The statuses that documents got, by the numbers of the documents, which are those of one direction. Contracts see a table that
 /// has the statuses of a document at the place of its number; a document that is behind its end has none.
-#[derive(Debug, Drop)]
+#[derive(Drop)]
 pub struct StatusLog {
     alloc: Global,
     table: Items<Items<Status>>,

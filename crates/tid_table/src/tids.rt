@@ -9,7 +9,7 @@ use std::marker::Model;
 
 /// The ids that were entered and are not forgotten. Contracts see a list of them, whose order says nothing: calls tell what is in
 /// it. Each call takes time as the logarithm of their number.
-#[derive(Debug, Drop)]
+#[derive(Drop)]
 pub struct Tids {
     numbers: BTreeSet<(u8, u32)>,
 }

@@ -5,7 +5,7 @@ use unit_core::Record;
 
 /// A record of a log, with the moment at which it was written, or without one: a moment counts the seconds since
 /// 1970-01-01 UTC.
-#[derive(Debug, PartialEq, Eq, Drop)]
+#[derive(Drop)]
 pub struct Entry {
     /// The moment.
     pub moment: Option<u64>,

@@ -20,7 +20,7 @@ pub enum CodecFault {
 }
 
 /// Why a field is not read.
-#[derive(Clone, Copy, Debug, PartialEq, Eq)]
+#[derive(Clone, Copy, PartialEq, Eq)]
 pub(crate) enum FieldFault {
     /// A field that begins where so many bytes are left does not follow its rule.
     Bad(usize),

@@ -6,7 +6,7 @@ use std::alloc::AllocError;
 
 /// A unit of work: the documents that one system sends to another in one call, under one transaction id. It is in
 /// outbound queues of its sender, and in inbound queues of its receiver.
-#[derive(Debug, PartialEq, Eq, Drop)]
+#[derive(PartialEq, Eq, Drop)]
 pub struct AleUnit {
     /// The transaction id.
     pub tid: Tid,

@@ -9,7 +9,7 @@ use ale_base::{QueueName, SystemNo, Tid};
 
 /// A queue of units. An outbound one belongs to a sender and a destination, an inbound one to the system at which it is
 /// looked at.
-#[derive(Clone, Copy, Debug, PartialEq, Eq)]
+#[derive(Clone, Copy, PartialEq, Eq)]
 pub enum Queue {
     Outbound {
         sender: SystemNo,

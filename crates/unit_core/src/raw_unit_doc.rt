@@ -6,7 +6,7 @@ use idoc_record::{Control, ControlField, Data};
 use std::alloc::AllocError;
 
 /// A document as a unit carries it: its control record, and the data records of its segments in order.
-#[derive(Debug, PartialEq, Eq, Drop)]
+#[derive(PartialEq, Eq, Drop)]
 pub struct RawUnitDoc {
     /// The control record, which copies of the document share.
     pub control: Shared<Control>,

@@ -4,7 +4,7 @@ use crate::{AleUnit, RawUnitDoc};
 use ale_base::{DocNum, FieldValue, Items, Mark, OutOfMemory, QueueName, Tid, Way};
 
 /// A record of a system's log.
-#[derive(Clone, Debug, PartialEq, Eq, Drop)]
+#[derive(Clone, Drop)]
 pub enum Record {
     /// The first record of a log: the number of the system, and the text of its model.
     Genesis {

@@ -4,7 +4,7 @@ use crate::{InClaim, Receipt};
 use thiserror::Error;
 
 /// How a receiver answers the arrival of a unit.
-#[derive(Debug, Drop)]
+#[derive(Drop)]
 pub enum Arrival {
     /// The unit was taken in, to be executed in the order of its queues.
     New(Receipt),
@@ -21,7 +21,7 @@ pub enum Arrival {
 }
 
 /// How the work of a claim ended.
-#[derive(Debug, Drop)]
+#[derive(Drop)]
 pub enum Finished {
     /// The unit was executed.
     Executed(Receipt),
@@ -32,7 +32,7 @@ pub enum Finished {
 }
 
 /// What the sender of a unit is told of its shipment.
-#[derive(Debug, Drop)]
+#[derive(Drop)]
 pub enum Reply {
     /// The receiver has the unit.
     Done(Receipt),
@@ -45,7 +45,7 @@ pub enum Reply {
 }
 
 /// What the sender of a unit did with a reply.
-#[derive(Clone, Copy, Debug)]
+#[derive(Clone, Copy)]
 pub enum Replied {
     /// It recorded the reply, or its loss.
     Recorded,
@@ -68,7 +68,7 @@ pub enum WorkEnd {
 }
 
 /// What the receiver of a unit did with its confirmation.
-#[derive(Clone, Copy, Debug)]
+#[derive(Clone, Copy)]
 pub enum Confirmed {
     /// It has forgotten the transaction id.
     Forgotten,
@@ -79,7 +79,7 @@ pub enum Confirmed {
 }
 
 /// What the sender of a unit did with the reply to its confirmation.
-#[derive(Clone, Copy, Debug)]
+#[derive(Clone, Copy)]
 pub enum Closed {
     /// It recorded that the transaction id is forgotten.
     Recorded,
@@ -110,7 +110,7 @@ pub enum OperatorEnd {
 }
 
 /// What came of an earlier request of a unit that came to its receiver now.
-#[derive(Clone, Copy, Debug)]
+#[derive(Clone, Copy)]
 pub enum Late {
     /// The unit was taken in, or it has no inbound queue and was run.
     New,

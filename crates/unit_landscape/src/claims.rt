@@ -5,7 +5,7 @@ ghost use Rattle.std.specs.Prelude.{◌≡◌};
 use ale_base::{SystemNo, Tid};
 
 /// A claim to ship a unit. Only a landscape makes one.
-#[derive(Debug, Drop)]
+#[derive(Drop)]
 pub struct OutClaim {
     pub(crate) number: u64,
     pub(crate) tid: Tid,
@@ -44,7 +44,7 @@ impl OutClaim {
 }
 
 /// A claim to execute a unit that was taken in, or to run one as it arrives. Only a landscape makes one.
-#[derive(Debug, Drop)]
+#[derive(Drop)]
 pub struct InClaim {
     pub(crate) number: u64,
     pub(crate) tid: Tid,
@@ -83,7 +83,7 @@ impl InClaim {
 }
 
 /// Tells a sender that its unit was received. Only a landscape makes one.
-#[derive(Debug, Drop)]
+#[derive(Drop)]
 pub struct Receipt {
     pub(crate) tid: Tid,
 }

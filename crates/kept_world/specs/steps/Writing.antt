@@ -1,5 +1,5 @@
 -- (a step of `EndedAs` and `IsWritten`) What the write of a record on a volume gives, and how it ends.
-use Rattle.std.specs.Prelude.{◌≡◌, ◌≢◌, ◌↔◌, ◌<◌, ℕ, ◌-◌, true, Some, List, [], ◌∷◌, ◌++◌, Result, Ok, Err, OnOk, OnErr, IsErrOf, slice_get}
+use Rattle.std.specs.Prelude.{◌≡◌, ◌≢◌, ◌↔◌, ◌<◌, ℕ, ◌-◌, true, Some, List, [], ◌∷◌, ◌++◌, Result, Ok, Err, OnOk, OnErr, IsErrOf}
 use Rattle.ale_volumes.specs.declared.volume.Volume.{Volume as OneVolume}
 use Rattle.unit_core.specs.declared.ale_unit.AleUnit.{AleUnit}
 use Rattle.unit_core.specs.declared.records.Record.{Record}
