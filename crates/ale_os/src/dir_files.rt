@@ -4,11 +4,12 @@ ghost use Rattle.std.specs.Prelude.{◌≡◌, ◌≢◌, [], ◌++◌, ◌+◌,
 ghost use Rattle.std.specs.Io.{StartsWith};
 ghost use Rattle.ale_base.specs.Faults.{Rose};
 
+use crate::failure::{ReadCause, ReadFailure};
 use crate::open_file::OpenFile;
 use ale_io::{FileEnd, Files};
 use std::alloc::Global;
 use std::io::{ErrorKind, Read};
-use std::{fs, rt};
+use std::{fs, io, rt};
 
 /// The files of the current folder, or those that their paths name. It tells nothing of what they hold. The file of the
 /// last piece stays open, so that the next piece of it is read on from there.
@@ -18,6 +19,7 @@ pub struct DirFiles<'a, R: rt::Files> {
     alloc: Global,
     faults: u64,
     open: Option<OpenFile<R::File>>,
+    failure: Option<ReadFailure>,
 }
 
 impl<'a, R: rt::Files> DirFiles<'a, R> {
@@ -30,22 +32,71 @@ impl<'a, R: rt::Files> DirFiles<'a, R> {
             alloc,
             faults: 0,
             open: None,
+            failure: None,
         }
     }
 
+    /// Why the system did not read the last file that it did not read; nothing where memory ran out for its name. It is for
+    /// people: no clause says that it is so.
+    pub fn failure(&self) -> Option<&ReadFailure> {
+        self.failure.as_ref()
+    }
+
     /// Appends the bytes of a file. After an `Err` some of them may have been appended.
-    fn append(&self, name: &str, limit: usize, into: &mut Vec<u8>) -> Result<(), FileEnd>
+    fn append(&mut self, name: &str, limit: usize, into: &mut Vec<u8>) -> Result<(), FileEnd>
         ensures kept { StartsWith into.new.items into.old.items }
         ensures within { OnOk result (length into.new.items ≤ length into.old.items + limit) }
         ensures no_name { name.now ≡ [] → IsErrOf result FileEnd.Failed }
+        ensures faults { self.new.faults ≡ self.old.faults }
+    {
+        let file = self.open_named(name)?;
+        match append_front(file, limit, into) {
+            Ok(count) if count > limit => Err(FileEnd::TooLong),
+            Ok(_) => Ok(()),
+            Err(error) => Err(self.not_read(name, error)),
+        }
+    }
+
+    /// The file of this name, opened.
+    fn open_named(&mut self, name: &str) -> Result<R::File, FileEnd>
+        ensures not_too_long { result ≢ Err FileEnd.TooLong }
+        ensures no_name { name.now ≡ [] → IsErrOf result FileEnd.Failed }
+        ensures faults { self.new.faults ≡ self.old.faults }
     {
         // The system says of an empty name what it says of a file that is not there.
         if name.is_empty() {
+            self.note(name, ReadCause::NoName);
             return Err(FileEnd::Failed);
         }
         match fs::open(self.rt, name) {
-            Ok(file) => append_all(file, limit, into),
-            Err(error) => Err(end_of_opening(error.kind() == ErrorKind::NotFound)),
+            Ok(file) => Ok(file),
+            Err(error) => {
+                self.note(name, ReadCause::System(error));
+                Err(end_of_opening(error.kind() == ErrorKind::NotFound))
+            }
+        }
+    }
+
+    /// Notes why the system did not read a file.
+    fn note(&mut self, name: &str, cause: ReadCause)
+        ensures faults { self.new.faults ≡ self.old.faults }
+    {
+        self.failure = match String::from_str(self.alloc, name) {
+            Ok(name) => Some(ReadFailure { name, cause }),
+            Err(_) => None,
+        };
+    }
+
+    /// Notes why a file that was opened is not read, and tells how the read ends.
+    fn not_read(&mut self, name: &str, error: io::Error) -> FileEnd
+        ensures not_too_long { result ≢ FileEnd.TooLong }
+        ensures faults { self.new.faults ≡ self.old.faults }
+    {
+        self.note(name, ReadCause::System(error));
+        if error.kind() == ErrorKind::OutOfMemory {
+            FileEnd::OutOfMemory
+        } else {
+            FileEnd::Failed
         }
     }
 
@@ -71,11 +122,11 @@ impl<'a, R: rt::Files> DirFiles<'a, R> {
         ensures no_name { name.now ≡ [] → IsErrOf result FileEnd.Failed }
         ensures faults { self.new.faults ≡ self.old.faults }
     {
-        if name.is_empty() {
-            return Err(FileEnd::Failed);
-        }
         let file = self.take_open(name, at)?;
-        let (file, count) = file.append_piece(at, most, into)?;
+        let (file, count) = match file.append_piece(at, most, into) {
+            Ok(read) => read,
+            Err(error) => return Err(self.not_read(name, error)),
+        };
         // Behind the last piece nothing is left to be read.
         if count > 0 {
             self.open = Some(file);
@@ -87,16 +138,18 @@ impl<'a, R: rt::Files> DirFiles<'a, R> {
     /// first byte on begins anew.
     fn take_open(&mut self, name: &str, at: u64) -> Result<OpenFile<R::File>, FileEnd>
         ensures not_too_long { result ≢ Err FileEnd.TooLong }
+        ensures no_name { name.now ≡ [] → IsErrOf result FileEnd.Failed }
         ensures faults { self.new.faults ≡ self.old.faults }
     {
         if let Some(file) = self.open.take() {
-            if at > 0 && file.has_name(name) {
+            if at > 0 && !name.is_empty() && file.has_name(name) {
                 return Ok(file);
             }
         }
-        match fs::open(self.rt, name) {
-            Ok(file) => OpenFile::at_start(self.alloc, name, file),
-            Err(error) => Err(end_of_opening(error.kind() == ErrorKind::NotFound)),
+        let file = self.open_named(name)?;
+        match OpenFile::at_start(self.alloc, name, file) {
+            Ok(file) => Ok(file),
+            Err(_) => Err(FileEnd::OutOfMemory),
         }
     }
 }
@@ -151,18 +204,14 @@ fn end_of_opening(is_not_found: bool) -> FileEnd
     }
 }
 
-/// Appends what is left to read, at most `limit` bytes. After an `Err` some of them may have been appended.
-fn append_all<F: Read + Drop>(file: F, limit: usize, into: &mut Vec<u8>) -> Result<(), FileEnd>
+/// Appends what is left to read, but no more than one byte over the limit, and gives the number of bytes. After an `Err` some
+/// of them may have been appended.
+fn append_front<F: Read + Drop>(reader: F, limit: usize, into: &mut Vec<u8>) -> io::Result<usize>
     ensures kept { StartsWith into.new.items into.old.items }
-    ensures within { OnOk result (length into.new.items ≤ length into.old.items + limit) }
-    ensures read { OnOk result (IfSome (F.remaining file) (λ left. into.new.items ≡ into.old.items ++ left)) }
-    ensures too_long { IsErrOf result FileEnd.TooLong → IfSome (F.remaining file) (λ left. limit < length left) }
+    ensures counted { IfOk result (λ count. length into.new.items ≡ length into.old.items + count) }
+    ensures read { IfOk result (λ count. count ≤ limit → IfSome (F.remaining reader) (λ left. into.new.items ≡ into.old.items ++ left)) }
+    ensures too_long { IfOk result (λ count. limit < count → IfSome (F.remaining reader) (λ left. limit < length left)) }
 {
-    let mut head = file.take((limit as u64).saturating_add(1));
-    match head.read_to_end(into) {
-        Ok(count) if count > limit => Err(FileEnd::TooLong),
-        Ok(_) => Ok(()),
-        Err(error) if error.kind() == ErrorKind::OutOfMemory => Err(FileEnd::OutOfMemory),
-        Err(_) => Err(FileEnd::Failed),
-    }
+    let mut head = reader.take((limit as u64).saturating_add(1));
+    head.read_to_end(into)
 }

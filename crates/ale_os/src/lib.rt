@@ -6,14 +6,18 @@
 #![tactic(auto)]
 
 mod dir_files;
+mod failure;
 mod file_volumes;
+mod journal_folder;
 mod open_file;
 mod open_volumes;
+mod shown;
 mod std_sink;
 mod volume_file;
 mod wall_clock;
 
 pub use dir_files::DirFiles;
+pub use failure::{JournalFailure, ReadFailure};
 pub use file_volumes::FileVolumes;
 pub use std_sink::StdSink;
 pub use wall_clock::WallClock;

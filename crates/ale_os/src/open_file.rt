@@ -1,10 +1,11 @@
 //! A file of the system that is open, and where the next read of it begins.
 
-ghost use Rattle.std.specs.Prelude.{◌≡◌, ◌≢◌, ◌++◌, ◌+◌, ◌≤◌, length, take, Err, IfOk, IfSome};
+ghost use Rattle.std.specs.Prelude.{◌≡◌, ◌++◌, ◌+◌, ◌≤◌, length, take, IfOk, IfSome};
 ghost use Rattle.std.specs.Io.{StartsWith};
 
-use ale_io::FileEnd;
+use ale_base::OutOfMemory;
 use std::alloc::Global;
+use std::io;
 use std::io::{ErrorKind, Read, Seek, SeekFrom};
 
 /// A file of the system that is open, and where the next read of it begins.
@@ -17,13 +18,9 @@ pub(crate) struct OpenFile<F> {
 
 impl<F: Read + Seek + Drop> OpenFile<F> {
     /// The file of this name, of which nothing was read.
-    pub(crate) fn at_start(alloc: Global, name: &str, file: F) -> Result<OpenFile<F>, FileEnd>
-        ensures not_too_long { result ≢ Err FileEnd.TooLong }
-    {
-        match String::from_str(alloc, name) {
-            Ok(name) => Ok(OpenFile { name, file, at: 0 }),
-            Err(_) => Err(FileEnd::OutOfMemory),
-        }
+    pub(crate) fn at_start(alloc: Global, name: &str, file: F) -> Result<OpenFile<F>, OutOfMemory> {
+        let name = String::from_str(alloc, name)?;
+        Ok(OpenFile { name, file, at: 0 })
     }
 
     /// Whether it is the file of this name.
@@ -38,10 +35,9 @@ impl<F: Read + Seek + Drop> OpenFile<F> {
         at: u64,
         most: usize,
         into: &mut Vec<u8>,
-    ) -> Result<(OpenFile<F>, usize), FileEnd>
+    ) -> io::Result<(OpenFile<F>, usize)>
         ensures kept { StartsWith into.new.items into.old.items }
         ensures counted { IfOk result (λ read. (length into.new.items ≡ length into.old.items + read.1) × (read.1 ≤ most)) }
-        ensures not_too_long { result ≢ Err FileEnd.TooLong }
 
         // A piece that goes on where the last one ended has the next bytes, where the file tells them.
         ensures read { at ≡ self.at → IfOk result (λ _. IfSome (F.remaining self.file) (λ left.
@@ -53,8 +49,8 @@ impl<F: Read + Seek + Drop> OpenFile<F> {
             at: place,
         } = self;
         // A piece that goes on where the last one ended needs no seek.
-        if place != at && file.seek(SeekFrom::Start(at)).is_err() {
-            return Err(FileEnd::Failed);
+        if place != at {
+            file.seek(SeekFrom::Start(at))?;
         }
         let (file, count) = append_front(file, most, into)?;
         let at = at.saturating_add(count as u64);
@@ -64,22 +60,16 @@ impl<F: Read + Seek + Drop> OpenFile<F> {
 
 /// Appends the next bytes of a file, at most so many, and gives the file back with their number. After an `Err` some of
 /// them may have been appended.
-fn append_front<F: Read + Drop>(
-    file: F,
-    most: usize,
-    into: &mut Vec<u8>,
-) -> Result<(F, usize), FileEnd>
+fn append_front<F: Read + Drop>(file: F, most: usize, into: &mut Vec<u8>) -> io::Result<(F, usize)>
     ensures kept { StartsWith into.new.items into.old.items }
     ensures counted { IfOk result (λ read. (length into.new.items ≡ length into.old.items + read.1) × (read.1 ≤ most)) }
-    ensures not_too_long { result ≢ Err FileEnd.TooLong }
     ensures read { IfOk result (λ _. IfSome (F.remaining file) (λ left. into.new.items ≡ into.old.items ++ take most left)) }
 {
     let mut head = file.take(most as u64);
-    match head.read_to_end(into) {
-        Ok(count) if count <= most => Ok((head.into_inner(), count)),
+    let count = head.read_to_end(into)?;
+    if count > most {
         // More than was asked for is never read, which no contract says.
-        Ok(_) => Err(FileEnd::Failed),
-        Err(error) if error.kind() == ErrorKind::OutOfMemory => Err(FileEnd::OutOfMemory),
-        Err(_) => Err(FileEnd::Failed),
+        return Err(io::Error::from(ErrorKind::InvalidData));
     }
+    Ok((head.into_inner(), count))
 }

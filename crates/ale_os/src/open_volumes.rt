@@ -1,6 +1,6 @@
 //! The files of volumes that are open.
 
-use ale_volumes::VolumeEnd;
+use ale_base::OutOfMemory;
 use std::alloc::Global;
 
 /// The file of a volume, which is open.
@@ -32,11 +32,9 @@ impl<F: Drop> OpenVolumes<F> {
     }
 
     /// Makes room for one more file, so that a file that is opened is kept.
-    pub(crate) fn make_room(&mut self) -> Result<(), VolumeEnd> {
-        match self.files.reserve(1) {
-            Ok(()) => Ok(()),
-            Err(_) => Err(VolumeEnd::OutOfMemory),
-        }
+    pub(crate) fn make_room(&mut self) -> Result<(), OutOfMemory> {
+        self.files.reserve(1)?;
+        Ok(())
     }
 
     /// Keeps the file of a volume open. There is room for it: it was taken out, or room was made before it was opened.

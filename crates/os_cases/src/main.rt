@@ -6,6 +6,7 @@
 #![tactic(auto)]
 
 mod call_end;
+mod names;
 mod outside;
 mod paths;
 mod pieces;
@@ -21,6 +22,9 @@ use std::io;
 use std::process::ExitCode;
 use suite::{OsCases, steps_of};
 
+/// What the first byte of a volume of more than one byte may be in these cases.
+const FIRST_BYTES: [u8; 2] = [b'O', 0];
+
 /// The status is 0 where all cases of the folder that the first word names pass, and else 1.
 fn main(rt: HostRuntime) -> io::Result<ExitCode> {
     let alloc = rt.alloc();
@@ -28,8 +32,8 @@ fn main(rt: HostRuntime) -> io::Result<ExitCode> {
         carry_out: Box::new(alloc, move |items: Vec<Item>| {
             let adapters = Adapters {
                 files: DirFiles::new(&rt, alloc),
-                volumes: FileVolumes::new(&rt, alloc),
-                later: Some(FileVolumes::new(&rt, alloc)),
+                volumes: FileVolumes::new(&rt, alloc, FIRST_BYTES),
+                later: Some(FileVolumes::new(&rt, alloc, FIRST_BYTES)),
             };
             steps_of(&rt, alloc, adapters, items.as_slice())
         })?,

@@ -4,6 +4,7 @@ use crate::call_end::{Broken, CallEnd};
 use crate::text::line;
 use case_form::{first_word, put_text};
 use std::alloc::Global;
+use std::io::ErrorKind;
 use std::rt::Files;
 use std::{fs, io, str};
 
@@ -19,7 +20,7 @@ pub(crate) fn make<R: Files>(rt: &R, alloc: Global, rest: &[u8]) -> Result<Vec<u
     }
 }
 
-/// `remove PATH`: the file, or the folder with all that is in it. It is well if there is none.
+/// `remove PATH`: the file or link, or the folder with all that is in it. It is well if there is none.
 pub(crate) fn remove<R: Files + AllocGlobal>(
     rt: &R,
     alloc: Global,
@@ -42,14 +43,13 @@ pub(crate) fn there<R: Files>(rt: &R, alloc: Global, rest: &[u8]) -> Result<Vec<
     }
 }
 
-/// Removes a file, or a folder with all that is in it.
+/// Removes a file or link, or a folder with all that is in it.
 fn removed<R: Files + AllocGlobal>(rt: &R, path: &str) -> io::Result<()> {
-    if !fs::exists(rt, path)? {
-        return Ok(());
-    }
-    match fs::remove_file(rt, path) {
-        Ok(()) => Ok(()),
-        Err(_) => fs::remove_dir_all(rt, path),
+    match fs::symlink_metadata(rt, path) {
+        Ok(found) if found.is_dir() => fs::remove_dir_all(rt, path),
+        Ok(_) => fs::remove_file(rt, path),
+        Err(error) if error.kind() == ErrorKind::NotFound => Ok(()),
+        Err(error) => Err(error),
     }
 }
 

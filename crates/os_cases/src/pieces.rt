@@ -4,15 +4,39 @@ ghost use Rattle.std.specs.Prelude.{◌≤◌};
 
 use crate::call_end::{Broken, CallEnd};
 use crate::paths::path_of;
-use crate::text::two_lines;
+use crate::text::{line, told_line, two_lines};
+use ale_base::OutOfMemory;
 use ale_io::{FileEnd, Files};
-use case_form::{first_word, number_of};
+use ale_os::DirFiles;
+use case_form::{first_word, number_of, put_text};
 use std::alloc::Global;
+use std::rt;
+
+/// Files that tell why the last one was not read.
+pub(crate) trait WhyUnread {
+    /// What is told of the last file that was not read, if any was not.
+    fn told(&self, alloc: Global) -> Result<Vec<u8>, OutOfMemory>;
+}
+
+impl<R: rt::Files> WhyUnread for DirFiles<'_, R> {
+    fn told(&self, alloc: Global) -> Result<Vec<u8>, OutOfMemory> {
+        match self.failure() {
+            Some(failure) => told_line(alloc, failure),
+            None => line(alloc, "nothing failed"),
+        }
+    }
+}
+
+/// `unread`: what the system said of the last file that it did not read.
+pub(crate) fn why_unread<F: WhyUnread>(alloc: Global, files: &F) -> Result<Vec<u8>, CallEnd> {
+    Ok(files.told(alloc)?)
+}
 
 /// What is there before a read appends to it.
 const SO_FAR: &[u8] = b"so far ";
 
 /// `read LIMIT PATH`: the file is read whole, behind what is there before. It tells how that ended and what is there then.
+/// The path is a text, so that it may have any bytes.
 pub(crate) fn read<F: Files>(
     alloc: Global,
     files: &mut F,
@@ -20,7 +44,9 @@ pub(crate) fn read<F: Files>(
 ) -> Result<Vec<u8>, CallEnd> {
     let (limit, path) = first_word(rest);
     let limit = limit_of(limit)?;
-    let path = path_of(path)?;
+    let mut name = Vec::new(alloc);
+    put_text(&mut name, path)?;
+    let path = path_of(name.as_slice())?;
     let mut into = Vec::from_slice(alloc, SO_FAR)?;
     match files.read_file(path, limit, &mut into) {
         Ok(()) => Ok(two_lines(alloc, "read", into.as_slice())?),

@@ -2,6 +2,7 @@
 
 use crate::call_end::{Broken, CallEnd, StepsEnd};
 use crate::outside::{Adapters, found};
+use crate::pieces::WhyUnread;
 use crate::volumes::RealVolumes;
 use ale_base::{Items, OutOfMemory};
 use ale_os::StdSink;
@@ -38,7 +39,7 @@ impl Suite for OsCases {
 /// The steps of a case: calls one after the other, on adapters on which nothing was called.
 pub(crate) fn steps_of<
     R: Files + Clock + AllocGlobal,
-    F: ale_io::Files + Drop,
+    F: ale_io::Files + WhyUnread + Drop,
     V: RealVolumes + Drop,
 >(
     rt: &R,
@@ -58,7 +59,7 @@ pub(crate) fn steps_of<
 }
 
 /// The step of an item.
-fn step_of<R: Files + Clock + AllocGlobal, F: ale_io::Files, V: RealVolumes + Drop>(
+fn step_of<R: Files + Clock + AllocGlobal, F: ale_io::Files + WhyUnread, V: RealVolumes + Drop>(
     rt: &R,
     alloc: Global,
     adapters: &mut Adapters<F, V>,

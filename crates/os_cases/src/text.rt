@@ -2,6 +2,7 @@
 
 use ale_base::OutOfMemory;
 use std::alloc::Global;
+use std::fmt::Display;
 
 /// A line of a text.
 pub(crate) fn line(alloc: Global, text: &str) -> Result<Vec<u8>, OutOfMemory> {
@@ -10,9 +11,9 @@ pub(crate) fn line(alloc: Global, text: &str) -> Result<Vec<u8>, OutOfMemory> {
     Ok(line)
 }
 
-/// A number, in a line of its own.
-pub(crate) fn number_line(alloc: Global, number: u64) -> Result<Vec<u8>, OutOfMemory> {
-    let text = format!(in alloc; "{number}\n")?;
+/// What something is shown as, in a line of its own.
+pub(crate) fn told_line<D: Display>(alloc: Global, shown: &D) -> Result<Vec<u8>, OutOfMemory> {
+    let text = format!(in alloc; "{shown}\n")?;
     Ok(Vec::from_slice(alloc, text.as_bytes())?)
 }
 

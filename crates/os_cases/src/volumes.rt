@@ -4,11 +4,13 @@ ghost use Rattle.std.specs.Prelude.{◌<◌, IfOk};
 
 use crate::call_end::{Broken, CallEnd};
 use crate::outside::{Adapters, VolumeCall};
-use crate::text::{line, number_line};
+use crate::text::{line, told_line};
+use ale_base::OutOfMemory;
 use ale_os::FileVolumes;
 use ale_volumes::{VolumeEnd, VolumeFailed, Volumes};
 use case_form::{first_word, number_of, put_text};
 use std::alloc::Global;
+use std::fs::File;
 use std::rt::Files;
 
 /// Volumes that tell nothing, so that any bytes may be asked for, and that say how many calls on them have failed.
@@ -16,6 +18,9 @@ pub(crate) trait RealVolumes: Volumes {
     /// How many calls on a volume have failed.
     fn faults_of(&self, n: u8) -> u64
         requires { n < 16 };
+
+    /// What is told of the first call that failed, if one did.
+    fn told(&self, alloc: Global) -> Result<Vec<u8>, OutOfMemory>;
 
     /// Reads bytes of a volume from a place on.
     fn read_from(&mut self, n: u8, at: u64, into: &mut [u8]) -> Result<(), VolumeFailed>
@@ -26,9 +31,16 @@ pub(crate) trait RealVolumes: Volumes {
         requires { n < 16 };
 }
 
-impl<R: Files> RealVolumes for FileVolumes<'_, R> {
+impl<R: Files<File = File>> RealVolumes for FileVolumes<'_, R> {
     fn faults_of(&self, n: u8) -> u64 {
         self.faults(n)
+    }
+
+    fn told(&self, alloc: Global) -> Result<Vec<u8>, OutOfMemory> {
+        match self.failure() {
+            Some(failure) => told_line(alloc, &failure),
+            None => line(alloc, "nothing failed"),
+        }
     }
 
     fn read_from(&mut self, n: u8, at: u64, into: &mut [u8]) -> Result<(), VolumeFailed> {
@@ -54,7 +66,7 @@ pub(crate) fn on_volume<V: RealVolumes>(
         VolumeCall::Write => write(alloc, volumes, volume, rest),
         VolumeCall::Read => read(alloc, volumes, volume, rest),
         VolumeCall::Sync => sync(alloc, volumes, volume),
-        VolumeCall::Faults => Ok(number_line(alloc, volumes.faults_of(volume))?),
+        VolumeCall::Faults => Ok(told_line(alloc, &volumes.faults_of(volume))?),
     }
 }
 
@@ -63,7 +75,7 @@ fn length<V: Volumes>(alloc: Global, volumes: &mut V, volume: u8) -> Result<Vec<
     requires { volume < 16 }
 {
     match volumes.length(volume) {
-        Ok(length) => Ok(number_line(alloc, length)?),
+        Ok(length) => Ok(told_line(alloc, &length)?),
         Err(_) => Ok(line(alloc, "failed")?),
     }
 }
