@@ -2,7 +2,8 @@
 use Rattle.std.proofs.Common.{◌≡◌, ◌≢◌, ◌⊎◌, inl, inr, ◌↔◌, ℕ, ◌+◌, ◌-◌, ◌<◌, ◌≤◌, min, List, [], ◌∷◌, ◌++◌, length, take, drop, get_or, refl, sym, ◌∙◌, ap}
 use Rattle.std.proofs.Common.{subst, arith, length-append, append_assoc, take-append-drop}
 use Rattle.std.proofs.lemmas.Bool.{cases_lt}
-use Rattle.std.proofs.lemmas.List.{take_at, take_min, nil_from_length, length-take, length-drop, get_or-take}
+use Rattle.std.specs.Prelude.{replicate}
+use Rattle.std.proofs.lemmas.List.{take_all, take_at, take_min, drop-take, nil_from_length, length-take, length-drop, get_or-take}
 use Rattle.std.proofs.Math.Seq.{take-append-add}
 use Rattle.byte_journal.specs.Log.{open_gate, most_bytes, framed, records, front_of, BeginsWithLastGate, BeginsWithRecord, Stands, DamagedAt}
 use Rattle.byte_journal.specs.steps.Reading.{ReadsTo}
@@ -130,3 +131,44 @@ front-read bytes n is =
   where
     swapped : (a b : ℕ) → min a b ≡ min b a
     swapped a b = omega arith
+
+-- the front has as many bytes as there are, up to the most that decide a log
+pub front-length : (bytes : List ℕ) (n : ℕ) → n ≡ min (length bytes) (most_bytes + 1) → length (front_of bytes) ≡ n
+unfolding front_of
+front-length bytes n is = omega (arith, length-take (most_bytes + 1) bytes, is)
+
+-- bytes of the front that are as many as there are, are the front
+pub front-all : (bytes so_far : List ℕ) → so_far ≡ take (length so_far) (front_of bytes) → min (length bytes) (most_bytes + 1) ≤ length so_far →
+    so_far ≡ front_of bytes
+unfolding front_of
+front-all bytes so_far is enough = is ∙ take_all (length so_far) (take (most_bytes + 1) bytes) (omega (arith, length-take (most_bytes + 1) bytes, enough))
+
+-- all of the front is a part of it
+pub front-again : (bytes all : List ℕ) → all ≡ front_of bytes → all ≡ take (length all) (front_of bytes)
+front-again bytes all is = is ∙ sym (ap (λ (l : List ℕ). take (length all) l) (sym is) ∙ take_all (length all) all (omega arith) ∙ is)
+
+-- a part of the front and what is read behind it, as far as there is more, are the front
+pub front-behind : (bytes so_far : List ℕ) (n : ℕ) → n ≡ min (length bytes) (most_bytes + 1) → length so_far ≤ n →
+    so_far ≡ take (length so_far) (front_of bytes) → so_far ++ take (n - length so_far) (drop (length so_far) bytes) ≡ front_of bytes
+front-behind bytes so_far n is long has =
+    let k = length so_far in
+    let m = n - k in
+    let sum : n ≡ k + m = omega (arith, long) in
+    let read : take (k + m) bytes ≡ front_of bytes = ap (λ (i : ℕ). take i bytes) (sym sum) ∙ front-read bytes n is in
+    ap (λ (l : List ℕ). l ++ take m (drop k bytes)) (has ∙ ap (λ (l : List ℕ). take k l) (sym read))
+    ∙ ap (λ (l : List ℕ). take k (take (k + m) bytes) ++ l) (sym (drop-take k m bytes))
+    ∙ take-append-drop k (take (k + m) bytes)
+    ∙ read
+
+-- The same of a list of bytes that was made as long as the front, and filled from behind that part on.
+pub front-filled : (bytes old items part into behind : List ℕ) (n : ℕ) → n ≡ min (length bytes) (most_bytes + 1) → length old ≤ n →
+    items ≡ take n old ++ replicate (n - length old) 0 → part ≡ take (length old) items
+    → into ≡ take (n - length old) (drop (length old) bytes) → old ≡ take (length old) (front_of bytes)
+    → take n ((part ++ into) ++ behind) ≡ front_of bytes
+front-filled bytes old items part into behind n is long filled is_part read has =
+    let same : part ≡ old =
+    is_part ∙ ap (λ (l : List ℕ). take (length old) l) (filled ∙ ap (λ (l : List ℕ). l ++ replicate (n - length old) 0) (take_all n old long))
+    ∙ take_at old (replicate (n - length old) 0) (length old) refl in
+    let whole : part ++ into ≡ front_of bytes =
+    ap (λ (l : List ℕ). l ++ into) same ∙ ap (λ (l : List ℕ). old ++ l) read ∙ front-behind bytes old n is long has in
+    take_at (part ++ into) behind n (ap length whole ∙ front-length bytes n is) ∙ whole

@@ -1,6 +1,6 @@
 //! Reading what decides the log of a volume, once it is on the disk for good.
 
-ghost use Rattle.std.specs.Prelude.{◌≡◌, ◌≢◌, ℕ, List, ◌<◌, IfOk, OnOk, IsErrOf};
+ghost use Rattle.std.specs.Prelude.{◌≡◌, ◌≢◌, ℕ, List, ◌<◌, length, take, IfOk, OnOk, IsErrOf};
 ghost use Rattle.ale_volumes.specs.Volume.{IsImage, settled};
 ghost use Rattle.ale_volumes.specs.Clock.{LeavesOnly, KeepsOthers};
 ghost use Rattle.ale_volumes.specs.Faults.{CountsFault};
@@ -43,8 +43,36 @@ fn read_front<V: Volumes>(alloc: Global, vols: &mut V, n: u8) -> Result<Vec<u8>,
     ensures undamaged { (place : ℕ) → result ≡ Err (OpenFault.Damaged place) → ⊥ }
     ensures faults { CountsFault (IsErrOf result OpenFault.Volume) (V.faults vols.old) (V.faults vols.new) n }
 {
-    let length = vols.length(n)?.min(Journal::MOST_BYTES + 1);
-    let mut bytes = vec![in alloc; 0; length as usize]?;
-    vols.read_at(n, 0, bytes.as_mut_slice())?;
+    let mut bytes = Vec::new(alloc);
+    read_on(vols, n, &mut bytes)?;
     Ok(bytes)
+}
+
+/// Reads on behind the bytes that were read of a volume, up to its end or to the last byte that decides its log.
+///
+/// An open gate is the last byte where a run was cut off. But where another run is at work it may be the gate of a record
+/// that it has written since the length was asked for; so the length is asked for again, and that record read.
+fn read_on<V: Volumes>(vols: &mut V, n: u8, bytes: &mut Vec<u8>) -> Result<(), OpenFault>
+    requires { n < 16 }
+    ensures read { V.told → bytes.old.items ≡ take (length bytes.old.items) (front_of (V.volume vols.old n).contents) →
+        OnOk result (bytes.new.items ≡ front_of (V.volume vols.old n).contents) }
+    ensures same { V.told → V.volume vols.new n ≡ V.volume vols.old n }
+    ensures any_moment { V.told → LeavesOnly V.moment V.images_since vols.old vols.new n (IsImage (V.volume vols.old n)) }
+    ensures others { V.told → KeepsOthers V.volume V.moment V.images_since vols.old vols.new n }
+    ensures undamaged { (place : ℕ) → result ≡ Err (OpenFault.Damaged place) → ⊥ }
+    ensures faults { CountsFault (IsErrOf result OpenFault.Volume) (V.faults vols.old) (V.faults vols.new) n }
+{
+    let length = vols.length(n)?.min(Journal::MOST_BYTES + 1) as usize;
+    let so_far = bytes.len();
+    if length < so_far {
+        return Ok(());
+    }
+    bytes.resize(length, 0)?;
+    let (_, behind) = bytes.as_mut_slice().split_at_mut(so_far);
+    vols.read_at(n, so_far as u64, behind)?;
+    if length > so_far && bytes[length - 1] == Journal::OPEN_GATE {
+        read_on(vols, n, bytes)
+    } else {
+        Ok(())
+    }
 }
