@@ -6,3 +6,5 @@ pub mod WritableLemmas
 pub mod RoomLemmas
 -- a log replayed from its first record
 pub mod ReplayLemmas
+-- the rules at the tables of a log
+pub mod LogRulesLemmas

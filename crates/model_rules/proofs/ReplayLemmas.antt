@@ -146,7 +146,7 @@ made-same (Sent added) = refl
 made-same _ = refl
 
 -- what was made for a record has the units that it adds
-made-units : (records : List Record) (next : Record) (made : Made) → GoesWith records next made
+pub made-units : (records : List Record) (next : Record) (made : Made) → GoesWith records next made
     → units_made made ≡ map (λ (one : OutUnit). one.unit) (added_behind records next).units
 made-units records next made goes =
     made-same made

@@ -8,8 +8,10 @@
 #![tactic(auto)]
 
 mod allowing;
+mod log_rules;
 mod model_rules;
 mod replay;
 
 pub use allowing::is_allowed;
+pub use log_rules::read_log;
 pub use model_rules::ModelRules;

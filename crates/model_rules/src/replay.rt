@@ -70,7 +70,7 @@ fn take_up(
 }
 
 /// What goes with a record that may follow a legal log.
-fn made_for(
+pub(crate) fn made_for(
     alloc: Global,
     tables: &DocumentTables,
     system: SystemNo,
@@ -132,7 +132,7 @@ fn received_unit(log: &[Record], tid: Tid) -> Option<&AleUnit>
 }
 
 /// Adds the units that were made for a record to those before.
-fn push_made(units: &mut Items<AleUnit>, made: &Made) -> Result<(), OutOfMemory>
+pub(crate) fn push_made(units: &mut Items<AleUnit>, made: &Made) -> Result<(), OutOfMemory>
     ensures { OnOk result (units.new ≡ units.old ++ units_made made.now) }
 {
     match made {

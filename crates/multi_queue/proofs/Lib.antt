@@ -10,6 +10,8 @@ pub mod FlagLemmas
 pub mod OfferLemmas
 -- why a unit is not offered
 pub mod ReasonLemmas
+-- which units are free
+pub mod FreeLemmas
 -- the status of a queue
 pub mod StatusLemmas
 -- the lines of the queues

@@ -4,7 +4,7 @@ use Rattle.std.specs.List.{filter_map, list_all, cons_option}
 use Rattle.std.specs.Option.{option_map, option_map_or, option_and_then, is_none}
 use Rattle.std.proofs.Common.{◌≡◌, ◌<◌, ◌≤◌, ◌+◌, ◌-◌, ℕ, zero, suc, Bool, true, false, ◌||◌, eqb, cond, Option, Some, None, List, [], ◌∷◌, length, map, inl}
 use Rattle.std.proofs.Common.{inr, refl, sym, ap, subst, ◌∙◌, arith}
-use Rattle.std.proofs.lemmas.Bool.{cases_Bool, both_ways, and_parts, false_from_ne_true, cond-true, cond-false, eqb-true, eq-eqb}
+use Rattle.std.proofs.lemmas.Bool.{cases_Bool, both_ways, false_from_ne_true, cond-true, cond-false, eq-eqb}
 use Rattle.std.proofs.lemmas.Bool.Decides.{eqb_tells, nat_tests}
 use Rattle.std.proofs.lemmas.Option.{same_Some, slice_get_within}
 use Rattle.ale_base.specs.Tid.{TidOf, is_tid}
@@ -18,7 +18,7 @@ use Rattle.plain_queues.specs.Offered.{is_ready as may_go}
 use Rattle.plain_queues.proofs.OfferedLemmas.{is_key-same}
 use Rattle.multi_queue.specs.declared.entry.Entry.{Entry}
 use Rattle.multi_queue.specs.declared.entry.Lane.{Lane}
-use Rattle.multi_queue.specs.Counted.{has, HeadsAll, is_live, is_in, is_first, tells, count_but, standing, is_ready}
+use Rattle.multi_queue.specs.Counted.{has, is_live, is_in, is_first, tells, count_but, standing, is_ready}
 use Rattle.multi_queue.specs.Seen.{key_at, seen_unit, seen, number_of, IsNamed, IsQueues, IsNowhere}
 use Rattle.multi_queue.proofs.CountedLemmas.{slice_get_some, first-stands, first-seen, skip-find, first-is, count-le}
 use Rattle.multi_queue.proofs.SeenLemmas.{find-map, one_number, head_of-seen, unit_of-here, unit_of-gone}
@@ -237,57 +237,6 @@ pub offered-nowhere : {units : List Entry} {lanes : List Lane} {counts : List �
     → IsQueues units lanes counts nodes height places names → (tid : TidOf) → IsNowhere tid units places → is_offered tid (seen units lanes) ≡ false
 offered-nowhere {units} {lanes} {places = places} it tid none =
     ap (λ (o : Option QueuedUnit). option_map_or (may_go (seen units lanes)) o false) (unit_of-gone tid units lanes places it.placed none.nowhere)
-
--- each queue counts where all are counted
-full-count : (lanes : List Lane) (p q : ℕ) (qs : List ℕ) → count_but None lanes p qs ≡ length qs → has q qs ≡ true → tells p (slice_get lanes q) ≡ true
-full-count lanes p q [] full h = cc
-full-count lanes p q (x ∷ xs) full h =
-    let most = count-le None lanes p xs in
-    let both = counted-both (tells p (slice_get lanes x)) (count_but None lanes p xs) (length xs) most full in
-    elim (eqb_tells q x) [
-      | inl same ↦ ap (λ i. tells p (slice_get lanes i)) same.1 ∙ both.0
-      | inr other ↦ full-count lanes p q xs both.1 (sym (ap (λ b. b || has q xs) other.0) ∙ h)
-    ]
-  where
-    counted-both : (t : Bool) (n m : ℕ) → n ≤ m → cond t 1 0 + n ≡ suc m → (t ≡ true) × (n ≡ m)
-    counted-both true n m le e = (refl, omega arith)
-    counted-both false n m le e = absurd (omega arith)
-
-first-told : (w : Lane) (p : ℕ) → tells p (Some w) ≡ true → slice_get w.line 0 ≡ Some p
-first-told w p told = by w.line (and_parts (not w.stopped) (is_first p w.line) told).1
-  where
-    by : (line : List ℕ) → is_first p line ≡ true → slice_get line 0 ≡ Some p
-    by [] first = absurd (cc)
-    by (x ∷ xs) first = ap (λ i. Some i) (sym (eqb-true p x first))
-
-heads-told : {units : List Entry} {lanes : List Lane} {counts : List ℕ} {nodes : List Bool} {height : ℕ} {places : ℕ × ℕ → Option ℕ}
-    {names : ℕ × List ℕ → Option ℕ}
-    → IsQueues units lanes counts nodes height places names → (p q : ℕ) → q < length lanes → tells p (slice_get lanes q) ≡ true →
-    slice_get (standing q 0 units) 0 ≡ Some p
-heads-told {units} {lanes} it p q known told = by (slice_get_some lanes q known)
-  where
-    by : (w : Lane) × (slice_get lanes q ≡ Some w) → slice_get (standing q 0 units) 0 ≡ Some p
-    by (w, at_q) = ap (λ (l : List ℕ). slice_get l 0) (sym (it.counted.lines q w at_q)) ∙ first-told w p (ap (λ (o : Option Lane). tells p o) (sym at_q) ∙ told)
-
--- a unit that may be claimed heads all its queues
-pub ready-heads : {units : List Entry} {lanes : List Lane} {counts : List ℕ} {nodes : List Bool} {height : ℕ} {places : ℕ × ℕ → Option ℕ}
-    {names : ℕ × List ℕ → Option ℕ}
-    → IsQueues units lanes counts nodes height places names → (p : ℕ) (u : Entry) → slice_get units p ≡ Some u →
-    is_ready (slice_get units p) (slice_get counts p) ≡ true
-    → HeadsAll p units
-ready-heads {units} {lanes} {counts} it p u at_p ready =
-    let within = slice_get_within units p u at_p in
-    let at = slice_get_some counts p (omega (arith, within, it.counted.all)) in
-    let h : ℕ = at.0 in
-    let count = it.counted.counts p u h at_p at.1 in
-    let here : is_ready (Some u) (Some h) ≡ true = ap (λ o. is_ready (Some u) o) (sym at.1) ∙ ap (λ o. is_ready o (slice_get counts p)) (sym at_p) ∙ ready in
-    let full = eqb-true h (length u.queues) (and_parts (u.live && is_none u.claim && is_none u.mark) (eqb h (length u.queues)) here).1 in
-    record {
-      first = λ v q at_v has_q.
-          let same : v ≡ u = cc (at_p, at_v) in
-          let has_u : has q u.queues ≡ true = ap (λ (x : Entry). has q x.queues) (sym same) ∙ has_q in
-          heads-told it p q (it.counted.known p u q at_p has_u) (full-count lanes p q u.queues (sym count ∙ full) has_u);
-    }
 
 -- ---- the first offer
 

@@ -1,5 +1,5 @@
 -- What is seen of the counting body: the list of units and stops of the plain definitions, and what its lists keep.
-use Rattle.std.specs.Prelude.{◌≡◌, ℕ, ◌*◌, ◌^◌, ◌<◌, ◌==◌, Bool, false, true, Option, Some, None, List, [], ◌∷◌, map, filter, length, slice_get, if◌then◌else◌}
+use Rattle.std.specs.Prelude.{◌≡◌, ℕ, ◌*◌, ◌^◌, ◌<◌, ◌==◌, ◌&&◌, Bool, false, true, Option, Some, None, List, [], ◌∷◌, map, filter, length, slice_get, if◌then◌else◌}
 use Rattle.std.specs.List.{filter_map}
 use Rattle.std.specs.Option.{option_map, option_map_or, option_and_then, option_or, is_none, is_some}
 use Rattle.std.specs.declared.cmp.Ordering.{Ordering}
@@ -19,7 +19,7 @@ use Rattle.plain_queues.specs.Queues.{QueuesOf}
 use Rattle.plain_queues.specs.Status.{status_of_mark}
 use Rattle.multi_queue.specs.declared.entry.Entry.{Entry}
 use Rattle.multi_queue.specs.declared.entry.Lane.{Lane}
-use Rattle.multi_queue.specs.Counted.{has, IsCounted, IsBoardBut, HeadsAll, is_live}
+use Rattle.multi_queue.specs.Counted.{has, is_first, IsCounted, IsBoardBut, HeadsAll, is_live}
 
 -- the key of the queue of a number
 abbrev pub key_at : List Lane → ℕ → Option QueueKey
@@ -124,6 +124,19 @@ why_not_of units lanes p u =
     (option_or (option_map Failed u.mark)
     (option_or (first_stopped_of lanes u.queues)
     (first_behind_of units lanes p u.queues)))
+
+-- whether the unit at a place heads a queue, and all these queues, by the first places of their lines
+abbrev pub heads_lane : ℕ → Option Lane → Bool
+heads_lane p None = false
+heads_lane p (Some w) = is_first p w.line
+
+abbrev pub heads_all_of : List Lane → ℕ → List ℕ → Bool
+heads_all_of lanes p [] = true
+heads_all_of lanes p (q ∷ qs) = heads_lane p (slice_get lanes q) && heads_all_of lanes p qs
+
+-- whether a unit at a place is free
+abbrev pub is_free_of : List Lane → ℕ → Entry → Bool
+is_free_of lanes p u = is_none u.claim && is_none u.mark && heads_all_of lanes p u.queues
 
 -- the status by the queues of the unit that heads the queue, and its count
 abbrev pub status_by_count : List Lane → List ℕ → ℕ → QueueStatus

@@ -49,7 +49,7 @@ impl Queues {
     ghost use Rattle.std.specs.Result.{result_err};
     ghost use Rattle.plain_queues.specs.Keys.{keys_differ};
     ghost use Rattle.plain_queues.specs.Queues.{no_queues, unit_of, claim_of};
-    ghost use Rattle.plain_queues.specs.Offered.{is_offered, why_not};
+    ghost use Rattle.plain_queues.specs.Offered.{is_offered, is_free, why_not};
     ghost use Rattle.plain_queues.specs.Changes.{added, changed, claimed, marked, released, finished, retried, Stops, Starts, most_looks};
 
     /// No units, and no queue is stopped. It takes no memory.
@@ -119,6 +119,15 @@ impl Queues {
                 Ok(Claim { number, tid })
             }
         }
+    }
+
+    /// Claims the unit of this id, which is free, under a number. Its queues may be stopped: so a log has its claims, since a record that
+    /// ends one may stand behind a Stop.
+    pub fn hold(&mut self, tid: Tid, number: u64)
+        requires free { is_free tid self.old ≡ true }
+        ensures { self.new ≡ claimed number tid self.old }
+    {
+        self.write_claim(tid, Some(number));
     }
 
     /// Gives a claim up. All else stays.
@@ -204,9 +213,9 @@ impl Queues {
         }
     }
 
-    /// Writes the claim of the unit of this id, where there is one. Only an offered unit gets one.
+    /// Writes the claim of the unit of this id, where there is one. Only a free unit gets one.
     fn write_claim(&mut self, tid: Tid, claim: Option<u64>)
-        requires offered { is_none claim ≡ false → is_offered tid self.old ≡ true }
+        requires free { is_none claim ≡ false → is_free tid self.old ≡ true }
         ensures { self.new ≡ changed (λ unit. record unit { claim = claim }) tid self.old }
     {
         match place_of(&self.units, &self.places, tid) {

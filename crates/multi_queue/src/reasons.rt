@@ -2,7 +2,7 @@
 
 ghost use Rattle.std.specs.Prelude.{◌≡◌, ◌<◌, ℕ, Some, length, slice_get};
 ghost use Rattle.multi_queue.specs.declared.entry.Entry.{Entry};
-ghost use Rattle.multi_queue.specs.Seen.{AreKnown, AreHeaded, stopped_reason, behind_reason, first_stopped_of, first_behind_of, why_not_of};
+ghost use Rattle.multi_queue.specs.Seen.{AreKnown, AreHeaded, stopped_reason, behind_reason, first_stopped_of, first_behind_of, why_not_of, heads_lane, heads_all_of, is_free_of};
 
 use crate::entry::{Entry, Lane};
 use ale_base::Items;
@@ -28,6 +28,37 @@ pub(crate) fn why_not_at(
     match first_stopped(lanes, unit.queues.as_slice()) {
         Some(why) => Some(why),
         None => first_behind(units, lanes, place, unit.queues.as_slice()),
+    }
+}
+
+/// Whether the unit at a place, which is this one, is free.
+pub(crate) fn free_at(lanes: &Items<Lane>, place: usize, unit: &Entry) -> bool
+    requires known { AreKnown unit.now.queues lanes.now }
+    ensures { result ≡ is_free_of lanes.now place unit.now }
+{
+    unit.claim.is_none() && unit.mark.is_none() && heads_all(lanes, place, unit.queues.as_slice())
+}
+
+/// Whether the unit at a place heads all these queues.
+fn heads_all(lanes: &Items<Lane>, place: usize, queues: &[usize]) -> bool
+    requires known { AreKnown queues.now lanes.now }
+    ensures { result ≡ heads_all_of lanes.now place queues.now }
+{
+    for queue in queues {
+        if !heads_lane(place, &lanes[*queue]) {
+            return false;
+        }
+    }
+    true
+}
+
+/// Whether the unit at a place heads a queue.
+fn heads_lane(place: usize, lane: &Lane) -> bool
+    ensures { result ≡ heads_lane place (Some lane.now) }
+{
+    match lane.line.head() {
+        Some(head) => head == place,
+        None => false,
     }
 }
 

@@ -22,8 +22,8 @@ use Rattle.plain_queues.specs.declared.queue_key.QueueKey.{QueueKey}
 use Rattle.plain_queues.specs.declared.queued_unit.QueuedUnit.{QueuedUnit}
 use Rattle.plain_queues.specs.Keys.{is_key, has_key, keys_differ}
 use Rattle.plain_queues.specs.Queues.{QueuesOf, unit_of, claim_of, is_stopped}
-use Rattle.plain_queues.specs.Offered.{has_tid, heads, lets_go, is_ready, is_offered, first_offered}
-use Rattle.plain_queues.specs.LogQueues.{AreQueuesOver, through, keys_of, queued, names_of, heads_all, is_held_up, may_go, HaveOneSender}
+use Rattle.plain_queues.specs.Offered.{has_tid, heads, lets_go, is_ready, is_offered, is_free_unit, is_free, first_offered}
+use Rattle.plain_queues.specs.LogQueues.{AreQueuesOver, through, keys_of, queued, names_of, heads_all, is_held_up, may_go, is_free_by, HaveOneSender}
 use Rattle.plain_queues.proofs.OfferedLemmas.{has_key-Contains}
 
 -- ---- lists
@@ -228,6 +228,62 @@ offered-log way all log claims queues tid one are =
               ap (λ b. option_map_or (is_ready queues) (option_map (queued way log claims) (cond (not b) (Some unit) None)) false) fresh
               ∙ sym (ap (λ b. b && is_ready queues (queued way log claims unit)) (ap (λ t. not (is_listed t tids)) same ∙ ap not fresh))
               ∙ ready-log way all log claims queues unit one there.0 are
+        ]
+
+-- ---- what is free
+
+-- a unit heads all its queues exactly where it does so by the log
+heads_all-log : (way : Way) (all : List AleUnit) (log : List Record) (claims : TidOf → Option ℕ) (queues : QueuesOf) (unit : AleUnit) → HaveOneSender way all →
+    Contains all unit
+    → AreQueuesOver way all log claims queues
+    → list_all (heads unit.tid queues) (keys_of way unit) ≡ heads_all way (through way log) all unit
+heads_all-log Outgoing all log claims queues unit one has are =
+    let key_of : List ℕ → QueueKey = λ name. record { partner = unit.receiver; name = name } in
+    list_all-map (heads unit.tid queues) key_of unit.outq
+    ∙ ap (λ f. list_all f unit.outq) (λ i name.
+    heads-log Outgoing all log claims queues unit.tid (key_of name) (Outbound unit.sender unit.receiver name) are
+    (λ u among. outbound_keys u unit.sender unit.receiver name (one.1 u among ∙ sym (one.1 unit has))) i)
+heads_all-log Incoming all log claims queues unit one has are =
+    let key_of : List ℕ → QueueKey = λ name. record { partner = 0; name = name } in
+    list_all-map (heads unit.tid queues) key_of unit.inq
+    ∙ ap (λ f. list_all f unit.inq) (λ i name.
+    heads-log Incoming all log claims queues unit.tid (key_of name) (Inbound name) are (λ u among. inbound_keys u name) i)
+
+free_unit-log : (way : Way) (all : List AleUnit) (log : List Record) (claims : TidOf → Option ℕ) (queues : QueuesOf) (unit : AleUnit) → HaveOneSender way all →
+    Contains all unit
+    → AreQueuesOver way all log claims queues
+    → (is_outstanding (through way log) unit && is_free_unit queues (queued way log claims unit)) ≡ is_free_by way all log claims unit
+free_unit-log way all log claims queues unit one has are =
+    ap (λ b. is_outstanding (through way log) unit && (is_none (claims unit.tid) && b && list_all (heads unit.tid queues) (keys_of way unit)))
+    (none_some (mark_of way unit.tid log))
+    ∙ ap (λ b. is_outstanding (through way log) unit && (is_none (claims unit.tid) && not (is_marked way unit.tid log) && b))
+    (heads_all-log way all log claims queues unit one has are)
+
+-- a unit is free exactly where it is there and free by the log
+pub free-log : (way : Way) (all : List AleUnit) (log : List Record) (claims : TidOf → Option ℕ) (queues : QueuesOf) (tid : TidOf) → HaveOneSender way all
+    → AreQueuesOver way all log claims queues → is_free tid queues ≡ option_map_or (is_free_by way all log claims) (unit_named tid all) false
+free-log way all log claims queues tid one are =
+    ap (λ found. option_map_or (is_free_unit queues) found false) (unit_of-log way all log claims queues tid are)
+    ∙ by_named (unit_named tid all) refl
+  where
+    by_named : (found : Option AleUnit) → unit_named tid all ≡ found
+        → option_map_or (is_free_unit queues) (option_map (queued way log claims) (cond (not (is_listed tid (through way log))) found None)) false
+        ≡ option_map_or (is_free_by way all log claims) found false
+    by_named None at = ap (λ found. option_map_or (is_free_unit queues) (option_map (queued way log claims) found) false)
+        (none_of (not (is_listed tid (through way log))))
+    by_named (Some unit) at =
+        let there = find-Some (λ (u : AleUnit). is_tid u.tid tid) all unit at in
+        let same : unit.tid ≡ tid = is_tid-true unit.tid tid there.1 in
+        let tids = through way log in
+        elim (cases_Bool (is_listed tid tids)) [
+          | inl listed ↦
+              ap (λ b. option_map_or (is_free_unit queues) (option_map (queued way log claims) (cond (not b) (Some unit) None)) false) listed
+              ∙ sym (ap (λ b. b && is_free_unit queues (queued way log claims unit)) (ap (λ t. not (is_listed t tids)) same ∙ ap not listed))
+              ∙ free_unit-log way all log claims queues unit one there.0 are
+          | inr fresh ↦
+              ap (λ b. option_map_or (is_free_unit queues) (option_map (queued way log claims) (cond (not b) (Some unit) None)) false) fresh
+              ∙ sym (ap (λ b. b && is_free_unit queues (queued way log claims unit)) (ap (λ t. not (is_listed t tids)) same ∙ ap not fresh))
+              ∙ free_unit-log way all log claims queues unit one there.0 are
         ]
 
 same_first : (way : Way) (log : List Record) (claims : TidOf → Option ℕ) (found : Option AleUnit)

@@ -18,7 +18,7 @@ use Rattle.plain_queues.specs.declared.not_offered.NotOffered.TheVariants.{Unkno
 use Rattle.plain_queues.specs.declared.queue_status.QueueStatus.{QueueStatus}
 use Rattle.plain_queues.specs.Keys.{is_key, has_key}
 use Rattle.plain_queues.specs.Queues.{QueuesOf, tids_of, unit_of, head_of, in_queue, is_stopped}
-use Rattle.plain_queues.specs.Offered.{lets_go, is_ready, is_offered, heads, has_tid, behind_head, first_behind, first_stopped, why_not, why_not_unit}
+use Rattle.plain_queues.specs.Offered.{lets_go, is_ready, is_offered, is_free_unit, is_free, heads, has_tid, behind_head, first_behind, first_stopped, why_not, why_not_unit}
 
 -- ---- keys
 
@@ -250,3 +250,24 @@ has_key-without key other (k ∷ ks) =
     kept b false r apart = refl
     kept true true r apart = apart refl
     kept false true r apart = refl
+
+-- ---- an offered unit is free
+
+-- queues that let a unit go are headed by it
+heads-let_go : (tid : TidOf) (queues : QueuesOf) (keys : List QueueKey) → list_all (lets_go tid queues) keys ≡ true → list_all (heads tid queues) keys ≡ true
+heads-let_go tid queues [] all = refl
+heads-let_go tid queues (key ∷ keys) all =
+    let parts = and_parts (lets_go tid queues key) (list_all (lets_go tid queues) keys) all in
+    and_from (heads tid queues key) (list_all (heads tid queues) keys)
+    (and_parts (heads tid queues key) (not (is_stopped key queues)) parts.0).0 (heads-let_go tid queues keys parts.1)
+
+-- a unit that is offered is free
+pub offered-free : (tid : TidOf) (queues : QueuesOf) → is_offered tid queues ≡ true → is_free tid queues ≡ true
+offered-free tid queues offered = by (unit_of tid queues) offered
+  where
+    by : (found : Option QueuedUnit) → option_map_or (is_ready queues) found false ≡ true → option_map_or (is_free_unit queues) found false ≡ true
+    by None ready = absurd (cc)
+    by (Some unit) ready =
+        let parts = and_parts (is_none unit.claim && is_none unit.mark) (list_all (lets_go unit.tid queues) unit.keys) ready in
+        and_from (is_none unit.claim && is_none unit.mark) (list_all (heads unit.tid queues) unit.keys) parts.0
+        (heads-let_go unit.tid queues unit.keys parts.1)

@@ -75,6 +75,13 @@ may_go way all log claims unit =
     && (is_none (claims unit.tid) && not (is_marked way unit.tid log)
     && (heads_all way (through way log) all unit && not (is_held_up way log unit)))
 
+-- whether a unit is free, by the log and the claims: it is outstanding, not claimed, not marked, and heads each of its queues. Stops are
+-- not asked
+abbrev pub is_free_by : Way → List AleUnit → List Record → (TidOf → Option ℕ) → AleUnit → Bool
+is_free_by way all log claims unit =
+    is_outstanding (through way log) unit
+    && (is_none (claims unit.tid) && not (is_marked way unit.tid log) && heads_all way (through way log) all unit)
+
 -- outbound units have one sender: the system that committed them
 abbrev pub HaveOneSender : Way → List AleUnit → Type 0
 HaveOneSender Outgoing all = (sender : ℕ) × ((unit : AleUnit) → Contains all unit → unit.sender ≡ sender)

@@ -29,6 +29,14 @@ is_ready queues unit = is_none unit.claim && is_none unit.mark && list_all (lets
 abbrev pub is_offered : TidOf → QueuesOf → Bool
 is_offered tid queues = option_map_or (is_ready queues) (unit_of tid queues) false
 
+-- whether a unit is free: it is not claimed, it is not marked, and it heads each of its queues. Stops are not asked
+abbrev pub is_free_unit : QueuesOf → QueuedUnit → Bool
+is_free_unit queues unit = is_none unit.claim && is_none unit.mark && list_all (heads unit.tid queues) unit.keys
+
+-- whether the unit of an id is free: it is there, and free
+abbrev pub is_free : TidOf → QueuesOf → Bool
+is_free tid queues = option_map_or (is_free_unit queues) (unit_of tid queues) false
+
 -- the id of the offered unit that was added first
 abbrev pub first_offered : QueuesOf → Option TidOf
 first_offered queues = option_map (λ (unit : QueuedUnit). unit.tid) (find (is_ready queues) queues.units)

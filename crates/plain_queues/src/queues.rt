@@ -43,7 +43,7 @@ impl Queues {
     ghost use Rattle.std.specs.Result.{result_err};
     ghost use Rattle.plain_queues.specs.Keys.{keys_differ};
     ghost use Rattle.plain_queues.specs.Queues.{no_queues, unit_of, claim_of};
-    ghost use Rattle.plain_queues.specs.Offered.{is_offered, why_not};
+    ghost use Rattle.plain_queues.specs.Offered.{is_offered, is_free, why_not};
     ghost use Rattle.plain_queues.specs.Changes.{added, claimed, released, marked, finished, retried, Stops, Starts, most_looks};
 
     /// No units, and no queue is stopped. It takes no memory.
@@ -91,6 +91,15 @@ impl Queues {
                 Ok(Claim { number, tid })
             }
         }
+    }
+
+    /// Claims the unit of this id, which is free, under a number. Its queues may be stopped: so a log has its claims, since a record that
+    /// ends one may stand behind a Stop.
+    pub fn hold(&mut self, tid: Tid, number: u64)
+        requires free { is_free tid self.old ≡ true }
+        ensures { self.new ≡ claimed number tid self.old }
+    {
+        set_claim(&mut self.units, tid, Some(number));
     }
 
     /// Gives a claim up. All else stays.

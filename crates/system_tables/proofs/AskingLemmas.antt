@@ -13,9 +13,9 @@ use Rattle.unit_core.proofs.TidLemmas.{unit_named-Some}
 use Rattle.tid_table.specs.LogTids.{is_known}
 use Rattle.plain_queues.specs.declared.queued_unit.QueuedUnit.{QueuedUnit}
 use Rattle.plain_queues.specs.Queues.{QueuesOf, unit_of, claim_of, mark_on}
-use Rattle.plain_queues.specs.Offered.{is_offered, first_offered}
-use Rattle.plain_queues.specs.LogQueues.{AreQueuesOver, AreQueuesOf, units_of, through, queued, may_go, HaveOneSender}
-use Rattle.plain_queues.proofs.GoesLemmas.{unit_of-log, offered-log, first_offered-log}
+use Rattle.plain_queues.specs.Offered.{is_offered, is_free, first_offered}
+use Rattle.plain_queues.specs.LogQueues.{AreQueuesOver, AreQueuesOf, units_of, through, queued, may_go, is_free_by, HaveOneSender}
+use Rattle.plain_queues.proofs.GoesLemmas.{unit_of-log, offered-log, free-log, first_offered-log}
 use Rattle.system_tables.specs.Tables.{TablesOf, queues_of}
 use Rattle.system_tables.specs.OfLog.{AreTablesOf, is_unconfirmed, claims_of}
 use Rattle.system_tables.specs.Joins.{Ends}
@@ -46,6 +46,16 @@ pub offered-tables : {A : Type 0} (stands : A → List Record → Type 0) (way :
     ≡ option_map_or (may_go way (units_of way committed log) log (claims_of way sent arrived)) (unit_named tid (units_of way committed log)) false
 offered-tables stands way committed log sent arrived tables tid one are =
     offered-log way (units_of way committed log) log (claims_of way sent arrived) (queues_of way tables) tid one
+    (AreTablesOf-queues stands way committed log sent arrived tables are)
+
+-- a unit is free exactly where it is there and free by the log and the claims
+pub free-tables : {A : Type 0} (stands : A → List Record → Type 0) (way : Way) (committed : List AleUnit) (log : List Record)
+    (sent arrived : TidOf → Option ℕ) (tables : TablesOf A) (tid : TidOf) → HaveOneSender way (units_of way committed log)
+    → AreTablesOf stands committed log sent arrived tables
+    → is_free tid (queues_of way tables)
+    ≡ option_map_or (is_free_by way (units_of way committed log) log (claims_of way sent arrived)) (unit_named tid (units_of way committed log)) false
+free-tables stands way committed log sent arrived tables tid one are =
+    free-log way (units_of way committed log) log (claims_of way sent arrived) (queues_of way tables) tid one
     (AreTablesOf-queues stands way committed log sent arrived tables are)
 
 -- the offered unit that is found first is the first one of the log that may go

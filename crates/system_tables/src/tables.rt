@@ -47,7 +47,7 @@ impl<A: Application> SystemTables<A> {
     ghost use Rattle.std.specs.Prelude.{◌≡◌, ◌↔◌, Some, true, IsOk, OnOk, OnErr};
     ghost use Rattle.std.specs.Result.{result_err};
     ghost use Rattle.plain_queues.specs.Queues.{claim_of};
-    ghost use Rattle.plain_queues.specs.Offered.{is_offered, why_not};
+    ghost use Rattle.plain_queues.specs.Offered.{is_offered, is_free, why_not};
     ghost use Rattle.plain_queues.specs.Changes.{claimed, released};
     ghost use Rattle.system_tables.specs.Tables.{no_tables, entered, left, queues_of, with_queues};
     ghost use Rattle.system_tables.specs.Noted.{Noted};
@@ -128,6 +128,17 @@ impl<A: Application> SystemTables<A> {
         match claimed {
             Ok(_) => Ok(()),
             Err(why) => Err(why),
+        }
+    }
+
+    /// Claims the unit of this id, which is free in a direction, under a number. All else stays.
+    pub fn hold(&mut self, way: Way, tid: Tid, number: u64)
+        requires free { is_free tid (queues_of way self.old) ≡ true }
+        ensures { self.new ≡ with_queues way (claimed number tid (queues_of way self.old)) self.old }
+    {
+        match way {
+            Way::Outgoing => self.outgoing.hold(tid, number),
+            Way::Incoming => self.incoming.hold(tid, number),
         }
     }
 

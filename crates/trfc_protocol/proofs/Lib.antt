@@ -4,6 +4,8 @@
 pub mod WorldLemmas
 -- legal logs, and the records that may join them
 pub mod LegalLemmas
+-- what a legal log says of its units, by legality alone
+pub mod LegalFacts
 -- claims, where one goes and where one more is made
 pub mod ClaimLemmas
 -- sound logs, and a record that joins one of them

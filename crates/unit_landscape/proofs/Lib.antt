@@ -6,8 +6,6 @@ pub mod HappenedLemmas
 pub mod OfferedLemmas
 -- the record of an event: what becomes of the world, that its system may append it, and that it can be written
 pub mod EventLemmas
--- a mark of an id in a legal log says that its unit is there
-pub mod MarksLemmas
 -- the claim that goes with the record of an event is one on the record's unit
 pub mod ClaimEndsLemmas
 -- a record of an event joins

@@ -5,7 +5,7 @@ use crate::board::{next_place, ready_at};
 use crate::listing::lines;
 use crate::names::queue_of;
 use crate::places::place_of;
-use crate::reasons::why_not_at;
+use crate::reasons::{free_at, why_not_at};
 use crate::status::status_at;
 use ale_base::{Items, Mark, OutOfMemory, Tid};
 use plain_queues::{Claim, NotOffered, QueueCount, QueueKey, QueueStatus};
@@ -15,7 +15,7 @@ impl Queues {
     ghost use Rattle.std.specs.Prelude.{◌≡◌, ◌↔◌, true, false, Some, IsTrue, IsNone, IsSome, IfSome, IfOk, []};
     ghost use Rattle.ale_base.specs.Tid.{TidOf};
     ghost use Rattle.plain_queues.specs.Queues.{unit_of, claim_of, mark_on, in_queue};
-    ghost use Rattle.plain_queues.specs.Offered.{is_offered, first_offered, why_not};
+    ghost use Rattle.plain_queues.specs.Offered.{is_offered, is_free, first_offered, why_not};
     ghost use Rattle.plain_queues.specs.Status.{status_of};
     ghost use Rattle.plain_queues.specs.Lines.{AreLinesOf};
 
@@ -26,6 +26,16 @@ impl Queues {
     {
         match place_of(&self.units, &self.places, tid) {
             Some(place) => ready_at(&self.units, &self.heads, place),
+            None => false,
+        }
+    }
+
+    /// Whether the unit of this id is free: it is here, not claimed, not marked, and heads each of its queues, which may be stopped.
+    pub fn is_free(&self, tid: Tid) -> bool
+        ensures { result ≡ is_free tid self.now }
+    {
+        match place_of(&self.units, &self.places, tid) {
+            Some(place) => free_at(&self.lanes, place, &self.units[place]),
             None => false,
         }
     }

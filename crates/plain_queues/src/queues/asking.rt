@@ -14,7 +14,7 @@ impl Queues {
     ghost use Rattle.std.specs.Option.{option_copied};
     ghost use Rattle.ale_base.specs.Tid.{TidOf};
     ghost use Rattle.plain_queues.specs.Queues.{unit_of, claim_of, mark_on, head_of, in_queue, is_stopped};
-    ghost use Rattle.plain_queues.specs.Offered.{heads, lets_go, is_ready, is_offered, first_offered, first_stopped, behind_head, first_behind, why_not_unit, why_not};
+    ghost use Rattle.plain_queues.specs.Offered.{heads, lets_go, is_ready, is_offered, is_free, is_free_unit, first_offered, first_stopped, behind_head, first_behind, why_not_unit, why_not};
     ghost use Rattle.plain_queues.specs.Status.{status_of, status_by_head, status_of_free};
 
     /// Whether the unit of this id is offered: it is here, not claimed, not marked, heads each of its queues, and none of these is
@@ -24,6 +24,16 @@ impl Queues {
     {
         match self.unit_of(tid) {
             Some(unit) => self.is_ready(unit),
+            None => false,
+        }
+    }
+
+    /// Whether the unit of this id is free: it is here, not claimed, not marked, and heads each of its queues, which may be stopped.
+    pub fn is_free(&self, tid: Tid) -> bool
+        ensures { result ≡ is_free tid self.now }
+    {
+        match self.unit_of(tid) {
+            Some(unit) => self.is_free_unit(unit),
             None => false,
         }
     }
@@ -137,6 +147,15 @@ impl Queues {
         unit.claim.is_none()
             && unit.mark.is_none()
             && self.all_let_go(unit.tid, unit.keys.as_slice())
+    }
+
+    /// Whether a unit is free.
+    fn is_free_unit(&self, unit: &QueuedUnit) -> bool
+        ensures { result ≡ is_free_unit self.now unit.now }
+    {
+        unit.claim.is_none()
+            && unit.mark.is_none()
+            && self.heads_all(unit.tid, unit.keys.as_slice())
     }
 
     /// Whether all these queues let the unit of this id go.

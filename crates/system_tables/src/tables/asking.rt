@@ -13,7 +13,7 @@ impl<A: Application> SystemTables<A> {
     ghost use Rattle.std.specs.Option.{option_copied};
     ghost use Rattle.unit_core.specs.Queues.{is_listed};
     ghost use Rattle.plain_queues.specs.Queues.{unit_of, mark_on};
-    ghost use Rattle.plain_queues.specs.Offered.{is_offered, first_offered, why_not};
+    ghost use Rattle.plain_queues.specs.Offered.{is_offered, is_free, first_offered, why_not};
     ghost use Rattle.plain_queues.specs.Status.{status_of};
     ghost use Rattle.plain_queues.specs.Lines.{AreLinesOf};
     ghost use Rattle.system_tables.specs.Tables.{unit_numbered, queues_of};
@@ -75,6 +75,14 @@ impl<A: Application> SystemTables<A> {
         ensures { result ≡ is_offered tid (queues_of way self.now) }
     {
         self.queues(way).offered(tid)
+    }
+
+    /// Whether the unit of this id is free in a direction: it is in its queues, not claimed, not marked, and heads each of them. Stops are
+    /// not asked.
+    pub fn is_free(&self, way: Way, tid: Tid) -> bool
+        ensures { result ≡ is_free tid (queues_of way self.now) }
+    {
+        self.queues(way).is_free(tid)
     }
 
     /// The id of the offered unit of a direction that was added first. None exactly where no unit is offered.

@@ -8,9 +8,9 @@ use Rattle.multi_queue.specs.declared.entry.Entry.{Entry}
 use Rattle.multi_queue.specs.Counted.{IsBoardBut}
 use Rattle.multi_queue.specs.Seen.{numbers_cmp, names_cmp, seen, IsQueues}
 use Rattle.multi_queue.proofs.SeenLemmas.{seen-flag, seen-nowhere, tid-at}
-use Rattle.plain_queues.specs.Offered.{is_offered}
+use Rattle.plain_queues.specs.Offered.{is_free}
 use Rattle.multi_queue.proofs.FlagLemmas.{flag-keeps}
-use Rattle.multi_queue.proofs.OfferLemmas.{ready-heads, offered-at}
+use Rattle.multi_queue.proofs.FreeLemmas.{free-heads, free-at}
 use Rattle.multi_queue.proofs.queues.Queues.write_claim.Goals as goal
 
 pub invariant_of-self : goal.invariant_of-self
@@ -25,9 +25,9 @@ invariant_of-self c =
     (get names_cmp c.self.inside.names) c.in-Some.place at.unit v at.stands (record { tid = refl; queues = refl; live = refl })
     (λ busy. (
       at.live,
-      ready-heads c.self.invariant c.in-Some.place at.unit at.stands
-          (sym (offered-at c.self.invariant c.args.tid c.in-Some.place at.unit at.names at.stands at.live)
-          ∙ ap (λ (queues : QueuesOf). is_offered c.args.tid queues) c.self.view_is ∙ c.requires.offered busy),
+      free-heads c.self.invariant c.in-Some.place at.unit at.stands
+          (sym (free-at c.self.invariant c.args.tid c.in-Some.place at.unit at.names at.stands at.live)
+          ∙ ap (λ (queues : QueuesOf). is_free c.args.tid queues) c.self.view_is ∙ c.requires.free busy),
     )) c.self.invariant
     (subst (λ (l : List Entry). IsBoardBut None c.self.inside.height l c.self.inside.heads c.set_claim.new.nodes) new c.set_claim.ensures.board))
 
