@@ -42,7 +42,7 @@ use Rattle.change_pointers.specs.Master.{type_name as master_type}
 use Rattle.change_pointers.specs.Pointers.{pending_of}
 use Rattle.change_pointers.proofs.MasterLemmas.{blank-room}
 use Rattle.change_pointers.proofs.ReadLemmas.{master-of_message}
-use Rattle.trfc_protocol.specs.SameUnit.{is_same_doc, is_same_segment}
+use Rattle.unit_core.specs.SameUnit.{is_same_doc, is_same_segment}
 use Rattle.application_rules.specs.declared.commits.TheConstants.{MOST_SEGMENTS}
 use Rattle.application_rules.specs.declared.fault.MasterFault.TheVariants.{Unknown}
 use Rattle.application_rules.specs.Masters.{fault_as, master_fault, syntax_fault}

@@ -9,7 +9,7 @@ use Rattle.dist_model.specs.declared.lists.Lists.{Lists}
 use Rattle.unit_core.specs.declared.raw_unit_doc.RawUnitDoc.{RawUnitDoc}
 use Rattle.object_store.specs.Objects.{ObjectsOf}
 use Rattle.change_pointers.specs.declared.pointer.Pointer.{Pointer}
-use Rattle.trfc_protocol.specs.SameUnit.{is_same_doc}
+use Rattle.unit_core.specs.SameUnit.{is_same_doc}
 use Rattle.application_rules.specs.declared.commits.TheConstants.{MOST_SEGMENTS}
 use Rattle.application_rules.specs.Masters.{master_fault}
 use Rattle.application_rules.specs.Gathered.{gathered}

@@ -5,7 +5,7 @@ ghost use Rattle.std.specs.List.{list_all};
 ghost use Rattle.std.specs.Cmp.Lexicographic.{pointwise};
 ghost use Rattle.ale_base.specs.Text.{is_text};
 ghost use Rattle.dist_model.specs.Model.{IsModel};
-ghost use Rattle.trfc_protocol.specs.SameUnit.{is_same_doc};
+ghost use Rattle.unit_core.specs.SameUnit.{is_same_doc};
 ghost use Rattle.application_rules.specs.Commits.{are_gathered, are_of, may_be_committed, may_commit, own_named};
 
 use crate::MasterFault;

@@ -29,7 +29,8 @@ use Rattle.trfc_protocol.specs.Meaning.{Meaning}
 use Rattle.trfc_protocol.specs.Legal.{IsLegal, IsLawful}
 use Rattle.trfc_protocol.specs.Worlds.{state_of, log_or_none, up_or_not, log_of}
 use Rattle.trfc_protocol.specs.Safe.{AreApart, Sound, IsSafe}
-use Rattle.trfc_protocol.specs.Start.{log_in, first_state, genesis_log}
+use Rattle.trfc_protocol.specs.Start.{first_state, genesis_log}
+use Rattle.unit_core.specs.Systems.{of_system}
 use Rattle.trfc_protocol.proofs.WorldLemmas.{less_one}
 use Rattle.trfc_protocol.proofs.StartLemmas.{Safe-of_logs}
 use Rattle.system_journals.specs.declared.journals.SystemJournals.{SystemJournals}
@@ -174,8 +175,8 @@ begun_within [] a k small none = omega arith
 begun_within (text ∷ texts) a zero small none = cc
 begun_within (text ∷ texts) a (suc k) small none = begun_within texts (suc a) k (omega arith) none
 
-begun_or_none : (texts : List (List ℕ)) (system : ℕ) → (log_in (begun_logs 1 texts 0) system ≡ [])
-    ⊎ ((text : List ℕ) × (log_in (begun_logs 1 texts 0) system ≡ genesis_log text system))
+begun_or_none : (texts : List (List ℕ)) (system : ℕ) → (of_system (begun_logs 1 texts 0) system ≡ [])
+    ⊎ ((text : List ℕ) × (of_system (begun_logs 1 texts 0) system ≡ genesis_log text system))
 begun_or_none texts zero = inl refl
 begun_or_none texts (suc k) =
     let moved : 1 + k ≡ suc k = omega arith in
@@ -184,7 +185,7 @@ begun_or_none texts (suc k) =
       | inr some ↦ inr (some.0, some.1 ∙ ap (genesis_log some.0) moved)
     ]
 
-begun_known : (texts : List (List ℕ)) (system : ℕ) → 1 ≤ system → system ≤ length texts → log_in (begun_logs 1 texts 0) system ≢ []
+begun_known : (texts : List (List ℕ)) (system : ℕ) → 1 ≤ system → system ≤ length texts → of_system (begun_logs 1 texts 0) system ≢ []
 begun_known texts zero least most none = omega arith
 begun_known texts (suc k) least most none = begun_within texts 1 k (omega arith) none
 
@@ -200,7 +201,7 @@ nothing_taken (suc n) = All-nil _
 
 module _ (texts : List (List ℕ)) (rules : Meaning) (all : length texts ≡ rules.systems) where
   abbrev logs : ℕ → List Record
-  logs = log_in (begun_logs 1 texts 0)
+  logs = of_system (begun_logs 1 texts 0)
 
   -- what holds of no records and of a Genesis alone holds of each log
   each_log : (P : ℕ → List Record → Type 0) → ((s : ℕ) → P s []) → ((s : ℕ) (text : List ℕ) → P s (genesis_log text s)) → (s : ℕ) → P s (logs s)

@@ -13,7 +13,7 @@ use Rattle.unit_core.specs.Filters.{received, executed, is_marked}
 use Rattle.unit_core.specs.Queues.{is_listed, is_among, unit_named, heads_inbound}
 use Rattle.ale_base.proofs.MemberLemmas.{Contains-filter_back}
 use Rattle.unit_core.proofs.TidLemmas.{is_among-Contains, unit_named-Some}
-use Rattle.unit_core.proofs.OnceLemmas.{MayExecute}
+use Rattle.unit_core.proofs.InsideLemmas.{MayExecute}
 use Rattle.trfc_protocol.specs.declared.world.World.{World}
 use Rattle.trfc_protocol.specs.declared.held.Held.{Held}
 use Rattle.trfc_protocol.specs.declared.held.HeldKind.{HeldKind}

@@ -26,7 +26,7 @@ use Rattle.trfc_protocol.specs.Meaning.{Meaning}
 use Rattle.trfc_protocol.specs.Legal.{is_commit, is_empty, may_follow, IsLawful}
 use Rattle.trfc_protocol.specs.Worlds.{log_of, is_up, offers_now, committed_unit, is_claimed_at}
 use Rattle.trfc_protocol.specs.Offered.{may_arrive, answer_to, offers_received_now}
-use Rattle.trfc_protocol.specs.SameUnit.{is_same_unit}
+use Rattle.unit_core.specs.SameUnit.{is_same_unit}
 use Rattle.trfc_protocol.specs.RecordOf.{Writing, record_if, may_operate, record_of_answer, record_of_arrival, record_of_run, record_of_work, record_of_failure}
 use Rattle.trfc_protocol.specs.RecordOf.{record_of_answered, record_of_reply, record_of_loss, record_of_confirmation, record_of_ending, record_of_claim}
 use Rattle.trfc_protocol.specs.RecordOf.{record_of}
@@ -35,7 +35,7 @@ use Rattle.trfc_protocol.specs.Safe.{Safe}
 use Rattle.trfc_protocol.proofs.ClaimLemmas.{claim_of-Contains, is_claimed_at-Contains, claim_at}
 use Rattle.trfc_protocol.proofs.SafeLemmas.{MayWrite, committed_unit-is}
 use Rattle.trfc_protocol.proofs.RecordLemmas.{EachRecord, each-record, MayWrite-record}
-use Rattle.trfc_protocol.proofs.SameUnitLemmas.{is_same_unit-self, is_same_unit-true}
+use Rattle.unit_core.proofs.SameUnitLemmas.{is_same_unit-self, is_same_unit-true}
 
 -- what is asked of a unit that is there
 found_so : (test : AleUnit → Bool) (found : Option AleUnit) → option_map_or test found false ≡ true

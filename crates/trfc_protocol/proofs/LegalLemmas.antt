@@ -23,7 +23,8 @@ use Rattle.unit_core.specs.Once.{NoneTwice}
 use Rattle.ale_base.proofs.MemberLemmas.{find-longer}
 use Rattle.unit_core.proofs.TidLemmas.{is_tid-other, is_listed-one, is_listed-append, unit_named-Some}
 use Rattle.unit_core.proofs.QueueLemmas.{heads_outbound-keeps, heads_inbound-keeps}
-use Rattle.unit_core.proofs.OnceLemmas.{MayTake, MayExecute, MayJoin, WasTaken, WasForgotten}
+use Rattle.unit_core.proofs.InsideLemmas.{MayExecute}
+use Rattle.unit_core.proofs.OnceLemmas.{MayTake, MayJoin, WasTaken, WasForgotten}
 use Rattle.trfc_protocol.specs.Meaning.{Meaning}
 use Rattle.trfc_protocol.specs.Legal.{is_free, is_free_outbound, is_free_inbound, may_follow, may_follow_others, AllFollow, IsLegal, is_commit, is_operators}
 use Rattle.trfc_protocol.specs.Legal.{is_model, may_change_offers, IsUnitAt, IsLawful}

@@ -6,6 +6,8 @@ pub mod WorldLemmas
 pub mod LegalLemmas
 -- what a legal log says of its units, by legality alone
 pub mod LegalFacts
+-- what legality gives of one log by itself, and numbered units
+pub mod InsideLemmas
 -- claims, where one goes and where one more is made
 pub mod ClaimLemmas
 -- sound logs, and a record that joins one of them
@@ -24,8 +26,6 @@ pub mod ReplyingLemmas
 pub mod ConfirmingLemmas
 -- the record of an event
 pub mod RecordLemmas
--- units that are the same
-pub mod SameUnitLemmas
 -- which record a system may be writing as it falls
 pub mod KeepingLemmas
 -- falls and openings

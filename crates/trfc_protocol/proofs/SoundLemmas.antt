@@ -16,7 +16,8 @@ use Rattle.unit_core.specs.Once.{NoneTwice}
 use Rattle.ale_base.proofs.PrefixLemmas.{IsPrefix-same, IsPrefix-Contains, IsPrefix-filter_map}
 use Rattle.unit_core.proofs.TidLemmas.{Contains-is_listed, is_among-Contains, same_unit}
 use Rattle.unit_core.proofs.QueueLemmas.{heads_outbound-keeps}
-use Rattle.unit_core.proofs.OnceLemmas.{Joins, MayTake, MayExecute, MayRun, WasTaken, MayJoin, at_each, Once-joins}
+use Rattle.unit_core.proofs.InsideLemmas.{MayExecute, MayRun}
+use Rattle.unit_core.proofs.OnceLemmas.{Joins, MayTake, WasTaken, MayJoin, at_each, Once-joins}
 use Rattle.trfc_protocol.specs.Meaning.{Meaning}
 use Rattle.trfc_protocol.specs.Legal.{IsLegal, may_follow, IsLawful}
 use Rattle.trfc_protocol.specs.Safe.{Sound}

@@ -18,13 +18,14 @@ use Rattle.trfc_protocol.specs.Meaning.{Meaning}
 use Rattle.trfc_protocol.specs.Legal.{IsLegal}
 use Rattle.trfc_protocol.specs.Worlds.{state_of, log_or_none, rest_or_none, log_under}
 use Rattle.trfc_protocol.specs.Safe.{Holds, Sound, Safe, IsSafe}
-use Rattle.trfc_protocol.specs.Start.{log_in, first_state, first_world, genesis_log, genesis_logs}
+use Rattle.trfc_protocol.specs.Start.{first_state, first_world, genesis_log, genesis_logs}
+use Rattle.unit_core.specs.Systems.{of_system}
 use Rattle.trfc_protocol.proofs.WorldLemmas.{log_found-settled}
 use Rattle.trfc_protocol.proofs.SoundLemmas.{Sound-same}
 
 -- a system that begins with a log has that log, and nothing to find
 begins : (logs : List (List Record)) (system : ℕ)
-    → (log_or_none (state_of (map first_state logs) system) ≡ log_in logs system) × (rest_or_none (state_of (map first_state logs) system) ≡ None)
+    → (log_or_none (state_of (map first_state logs) system) ≡ of_system logs system) × (rest_or_none (state_of (map first_state logs) system) ≡ None)
 begins logs zero = (refl, refl)
 begins logs (suc k) = at logs k
   where
@@ -36,13 +37,13 @@ begins logs (suc k) = at logs k
 
 -- a world that begins with sound logs is safe
 pub Safe-of_logs : {R : Type 0} (meaning : R → Meaning) (rules : R) (logs : List (List Record)) (world : World R) → world ≡ first_world rules logs
-    → length logs ≡ (meaning rules).systems → Sound (meaning rules) (log_in logs) → IsSafe meaning world
+    → length logs ≡ (meaning rules).systems → Sound (meaning rules) (of_system logs) → IsSafe meaning world
 Safe-of_logs {R} meaning rules logs world same all sound =
     let first : World R = first_world rules logs in
     subst (λ (w : World R). Safe (meaning w.rules) w) (sym same)
     (record {
       systems = length-map logs first_state ∙ all;
-      sound = λ choice. Sound-same (meaning rules) (log_in logs) (log_under choice first)
+      sound = λ choice. Sound-same (meaning rules) (of_system logs) (log_under choice first)
           (λ s. log_found-settled (choice s) (state_of (map first_state logs) s) (begins logs s).1 ∙ (begins logs s).0) sound;
       settled = λ s up. (begins logs s).1;
       hold = All-nil (Holds (meaning rules) first);
@@ -69,7 +70,7 @@ module _ (text : List ℕ) where
       let moved : a + 1 + k ≡ a + suc k = omega arith in genesis_within (a + 1) n k (omega arith) ∙ ap (genesis_log text) moved
 
   -- a log is empty or the Genesis of its system
-  genesis_or_none : (n system : ℕ) → (log_in (genesis_logs text n) system ≡ []) ⊎ (log_in (genesis_logs text n) system ≡ genesis_log text system)
+  genesis_or_none : (n system : ℕ) → (of_system (genesis_logs text n) system ≡ []) ⊎ (of_system (genesis_logs text n) system ≡ genesis_log text system)
   genesis_or_none n zero = inl refl
   genesis_or_none n (suc k) =
       let moved : 1 + k ≡ suc k = omega arith in
@@ -79,7 +80,7 @@ module _ (text : List ℕ) where
       ]
 
   -- that of a system of the landscape is its Genesis
-  genesis_known : (n system : ℕ) → 1 ≤ system → system ≤ n → log_in (genesis_logs text n) system ≡ genesis_log text system
+  genesis_known : (n system : ℕ) → 1 ≤ system → system ≤ n → of_system (genesis_logs text n) system ≡ genesis_log text system
   genesis_known n zero least most = absurd (omega arith)
   genesis_known n (suc k) least most =
       let moved : 1 + k ≡ suc k = omega arith in genesis_within 1 n k (omega arith) ∙ ap (genesis_log text) moved
@@ -95,7 +96,7 @@ module _ (text : List ℕ) where
 
   module _ (rules : Meaning) where
     abbrev logs : ℕ → List Record
-    logs = log_in (genesis_logs text rules.systems)
+    logs = of_system (genesis_logs text rules.systems)
 
     -- what holds of no records and of a Genesis alone holds of each log
     each_log : (P : ℕ → List Record → Type 0) → ((s : ℕ) → P s []) → ((s : ℕ) → P s (genesis_log text s)) → (s : ℕ) → P s (logs s)

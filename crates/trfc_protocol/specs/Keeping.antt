@@ -20,7 +20,7 @@ use Rattle.trfc_protocol.specs.Meaning.{Meaning}
 use Rattle.trfc_protocol.specs.Legal.{is_commit, is_empty, may_follow}
 use Rattle.trfc_protocol.specs.Worlds.{log_of, is_up, offers_now, committed_unit, is_claimed_at}
 use Rattle.trfc_protocol.specs.Offered.{may_arrive, answer_to, offers_received_now}
-use Rattle.trfc_protocol.specs.SameUnit.{is_same_unit}
+use Rattle.unit_core.specs.SameUnit.{is_same_unit}
 use Rattle.trfc_protocol.specs.RecordOf.{record_of, may_operate}
 
 -- an event that is possible now appends this record at this system

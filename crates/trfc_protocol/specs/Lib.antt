@@ -6,8 +6,6 @@ pub mod Legal
 pub mod Worlds
 -- which unit is offered, and how its arrival is answered
 pub mod Offered
--- whether two units are the same
-pub mod SameUnit
 -- which record an event appends
 pub mod RecordOf
 -- which record a system may be writing as it falls

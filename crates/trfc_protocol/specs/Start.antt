@@ -1,15 +1,10 @@
 -- A world that begins with given logs.
-use Rattle.std.specs.Prelude.{ℕ, zero, suc, true, None, List, [], ◌∷◌, map, slice_index_or}
+use Rattle.std.specs.Prelude.{ℕ, true, None, List, [], ◌∷◌, map}
 use Rattle.std.specs.List.{range_with_len}
 use Rattle.unit_core.specs.declared.records.Record.{Record}
 use Rattle.unit_core.specs.declared.records.Record.TheVariants.{Genesis}
 use Rattle.trfc_protocol.specs.declared.world.World.{World}
 use Rattle.trfc_protocol.specs.declared.world.SystemState.{SystemState}
-
--- the log of a system among those of all, which are numbered from 1
-abbrev pub log_in : List (List Record) → ℕ → List Record
-log_in logs zero = []
-log_in logs (suc k) = slice_index_or logs k []
 
 -- a system that begins with a log: it is up
 abbrev pub first_state : List Record → SystemState

@@ -1,17 +1,16 @@
 //! Which record a system may be writing as it falls: one that an event which is possible now appends there.
 
 use crate::legal::{is_commit, may_end};
-use crate::same_unit::is_same_unit;
 use crate::{Answer, HeldKind, Rules, World};
 use ale_base::{Mark, OutOfMemory, SystemNo, Tid};
 use std::alloc::Global;
-use unit_core::{AleUnit, Record};
+use unit_core::{AleUnit, Record, is_same_unit};
 
 impl<R: Rules> World<R> {
     ghost use Rattle.std.specs.Prelude.{◌≡◌, ◌↔◌, IsTrue, IfOk};
     ghost use Rattle.unit_core.specs.declared.records.Record.TheVariants.{Done, Ended, Accept, Execute, Direct, Fail, Forget};
     ghost use Rattle.trfc_protocol.specs.Keeping.{IsWritten, may_keep, may_mark, of_committed};
-    ghost use Rattle.trfc_protocol.specs.SameUnit.{is_same_unit};
+    ghost use Rattle.unit_core.specs.SameUnit.{is_same_unit};
     ghost use Rattle.trfc_protocol.specs.Safe.{IsSafe};
 
     /// Whether a record may be the one that a system was writing as it fell: exactly where there is an event that is possible

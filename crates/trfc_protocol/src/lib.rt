@@ -4,7 +4,7 @@
 //! Contract: from a world that is safe every list of events gives a world that is safe, so each unit is taken and
 //! executed at most once, and in the order of its queues, whatever is lost or repeated and whichever systems fall and are
 //! opened; and each step is exactly that of the definition. The definitions are in `specs/`: `Meaning` and `Legal` (the
-//! rules of a landscape, and which record may follow a log), `Worlds`, `Offered`, `SameUnit`, `RecordOf`, `Keeping` and
+//! rules of a landscape, and which record may follow a log), `Worlds`, `Offered`, `RecordOf`, `Keeping` and
 //! `Happens` (the events), `Safe`, and `Start` (a world that begins with given logs).
 #![tactic(auto)]
 
@@ -16,7 +16,6 @@ mod keeping;
 mod legal;
 mod offered;
 mod rules;
-mod same_unit;
 mod start;
 mod steps;
 mod world;

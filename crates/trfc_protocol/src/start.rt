@@ -10,7 +10,8 @@ use unit_core::Record;
 
 impl<R: Rules> World<R> {
     ghost use Rattle.std.specs.Prelude.{◌≡◌, [], length, IfOk};
-    ghost use Rattle.trfc_protocol.specs.Start.{log_in, first_world, genesis_logs};
+    ghost use Rattle.trfc_protocol.specs.Start.{first_world, genesis_logs};
+    ghost use Rattle.unit_core.specs.Systems.{of_system};
     ghost use Rattle.trfc_protocol.specs.Safe.{Sound, IsSafe};
 
     /// The world that begins with these logs, that of system 1 first: all systems are up, and there is no claim. Claims are
@@ -22,7 +23,7 @@ impl<R: Rules> World<R> {
         logs: Items<Items<Record>>,
     ) -> Result<World<R>, OutOfMemory>
         requires all { length logs ≡ (R.meaning rules).systems }
-        requires sound { Sound (R.meaning rules) (log_in logs) }
+        requires sound { Sound (R.meaning rules) (of_system logs) }
         ensures world { IfOk result (λ world. world ≡ first_world rules logs) }
         ensures safe { IfOk result (IsSafe R.meaning) }
     {

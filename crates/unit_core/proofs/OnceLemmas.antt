@@ -22,7 +22,9 @@ use Rattle.ale_base.proofs.MemberLemmas.{filter-left_out, filter_map-agree, filt
 use Rattle.ale_base.proofs.PrefixLemmas.{IsPrefix-same, IsPrefix-trans, IsPrefix-filter, IsPrefix-Contains, IsPrefix-filter_map}
 use Rattle.unit_core.proofs.TidLemmas.{is_listed-Contains, Contains-is_listed, is_among-listed, is_among-Contains, Contains-is_among, unit_named-Some}
 use Rattle.unit_core.proofs.TidLemmas.{unit_named-Contains, NoneTwice-push, same_unit}
-use Rattle.unit_core.proofs.QueueLemmas.{is_head-outbound, is_head-inbound, next_of_queue}
+use Rattle.unit_core.proofs.QueueLemmas.{is_head-outbound, next_of_queue}
+use Rattle.unit_core.specs.Inside.{JoinsInside}
+use Rattle.unit_core.proofs.InsideLemmas.{MayExecute, MayRun, taken_once, executed_in_order}
 
 -- one record joined the log of one system
 pub record Joins (logs after : ℕ → List Record) (system : ℕ) (next : Record) : Type 0 where
@@ -35,20 +37,6 @@ pub record MayTake (committed : ℕ → List AleUnit) (logs : ℕ → List Recor
   pub was_committed : Contains (committed unit.sender) unit
   pub new : is_among unit.tid (received (logs system)) ≡ false
   pub heads : heads_outbound (done_in (logs unit.sender)) (committed unit.sender) unit ≡ true
-
--- a unit that was received may be executed: it is not yet, and it heads its inbound queues
-pub record MayExecute (log : List Record) (tid : TidOf) : Type 0 where
-  pub unit : AleUnit
-  pub named : unit_named tid (received log) ≡ Some unit
-  pub open_ : is_listed tid (executed log) ≡ false
-  pub heads : heads_inbound (executed log) (received log) unit ≡ true
-
--- a unit with no inbound queue may be taken in and executed in one record
-pub record MayRun (next : Record) (tid : TidOf) : Type 0 where
-  pub unit : AleUnit
-  pub taken : taken_by next ≡ Some unit
-  pub its_tid : unit.tid ≡ tid
-  pub direct : unit.inq ≡ []
 
 -- the unit of an id was received by its receiver
 abbrev pub WasTaken : (ℕ → List AleUnit) → (ℕ → List Record) → ℕ → TidOf → Type 0
@@ -87,17 +75,20 @@ at_each logs after system next joins P before here other =
 
 module _ (committed : ℕ → List AleUnit) (logs : ℕ → List Record) (system : ℕ) (next : Record)
     (numbered : (s : ℕ) → NoneTwice (tids_of (committed s))) (once : Once committed logs) (may : MayJoin committed logs system next) where
-  -- ---- taken once
+  -- ---- what is of this log alone
 
-  taken_once : TakenOnce (logs system ++ next ∷ [])
-  taken_once =
-      elim (none_or_some (taken_by next)) [
-        | inl none ↦ subst (λ units. NoneTwice (tids_of units)) (sym (filter_map-None taken_by (logs system) next none)) (once.taken_once system)
-        | inr some ↦ subst (λ units. NoneTwice (tids_of units)) (sym (filter_map-Some taken_by (logs system) next some.0 some.1))
-            (subst NoneTwice (sym (map-append (λ u. u.tid) (received (logs system)) (some.0 ∷ [])))
-            (NoneTwice-push (tids_of (received (logs system))) some.0.tid (once.taken_once system)
-            (sym (is_among-listed some.0.tid (received (logs system))) ∙ (may.takes some.0 some.1).new)))
-      ]
+  inside : JoinsInside (logs system) next
+  inside = record {
+    new = λ unit takes. (may.takes unit takes).new;
+    direct = λ unit is. elim (may.runs unit (ap taken_by is)) [
+      | inl none ↦ absurd (none-some unit.tid (sym none ∙ ap executed_by is))
+      | inr run ↦ run.1
+    ];
+    free = λ tid is. elim (may.executes tid (ap executed_by is)) [
+      | inl before ↦ (before.1.unit, before.1.named, before.1.open_, before.1.heads)
+      | inr run ↦ absurd (none-some run.unit (sym (ap taken_by is) ∙ run.taken))
+    ];
+  }
 
   -- ---- taken was committed
 
@@ -163,201 +154,6 @@ module _ (committed : ℕ → List AleUnit) (logs : ℕ → List Record) (system
             ])
       ]
 
-  -- ---- executed in inbound order
-
-  -- what was executed was received
-  executed_was_received : All (λ tid. Contains (tids_of (received (logs system))) tid) (executed (logs system))
-  executed_was_received =
-      subst (λ log. All (λ tid. Contains (tids_of (received log)) tid) (executed log)) (take_all (length (logs system)) (logs system) (omega arith))
-      ((once.executed_in_order system).was_received (length (logs system)))
-
-  -- the unit of an id that was executed is found among those received
-  executed_is_found : (tid : TidOf) → Contains (executed (logs system)) tid → (unit : AleUnit) × (unit_named tid (received (logs system)) ≡ Some unit)
-  executed_is_found tid has =
-      let back = Contains-map_back (λ u. u.tid) (received (logs system)) tid
-      (All-contains (λ t. Contains (tids_of (received (logs system))) t) (executed (logs system)) tid executed_was_received has) in (
-        back.0,
-        subst (λ t. unit_named t (received (logs system)) ≡ Some back.0) back.2
-            (unit_named-Contains (received (logs system)) back.0 (once.taken_once system) back.1),
-      )
-
-  received_tids_grow : (tid : TidOf) → Contains (tids_of (received (logs system))) tid → Contains (tids_of (received (logs system ++ next ∷ []))) tid
-  received_tids_grow tid has =
-      let back = Contains-map_back (λ u. u.tid) (received (logs system)) tid has in
-      let there = IsPrefix-Contains (received (logs system)) (received (logs system ++ next ∷ [])) back.0
-      (IsPrefix-filter_map taken_by (logs system) (logs system ++ next ∷ []) (next ∷ [], refl)) back.1 in
-      subst (Contains (tids_of (received (logs system ++ next ∷ [])))) back.2 (Contains-map (λ u. u.tid) (received (logs system ++ next ∷ [])) back.0 there)
-
-  -- the id that a record executes was received, in this record or before
-  next_was_received : (tid : TidOf) → executed_by next ≡ Some tid → Contains (tids_of (received (logs system ++ next ∷ []))) tid
-  next_was_received tid executes =
-      elim (may.executes tid executes) [
-        | inl before ↦ let named = unit_named-Some tid (received (logs system)) before.1.unit before.1.named in
-            received_tids_grow tid (subst (Contains (tids_of (received (logs system)))) named.1
-            (Contains-map (λ u. u.tid) (received (logs system)) before.1.unit named.0))
-        | inr run ↦ subst (Contains (tids_of (received (logs system ++ next ∷ [])))) run.its_tid
-            (Contains-map (λ u. u.tid) (received (logs system ++ next ∷ [])) run.unit
-            (subst (λ units. Contains units run.unit) (sym (filter_map-Some taken_by (logs system) next run.unit run.taken))
-            (Contains-push (received (logs system)) run.unit)))
-      ]
-
-  all_received : All (λ tid. Contains (tids_of (received (logs system ++ next ∷ []))) tid) (executed (logs system ++ next ∷ []))
-  all_received =
-      let P : TidOf → Type 0 = λ tid. Contains (tids_of (received (logs system ++ next ∷ []))) tid in
-      let before : All P (executed (logs system)) = All-weaker (λ tid. Contains (tids_of (received (logs system))) tid) P received_tids_grow
-      (executed (logs system)) executed_was_received in
-      elim (none_or_some (executed_by next)) [
-        | inl none ↦ subst (All P) (sym (filter_map-None executed_by (logs system) next none)) before
-        | inr some ↦ subst (All P) (sym (filter_map-Some executed_by (logs system) next some.0 some.1))
-            (All-push P (executed (logs system)) some.0 before (next_was_received some.0 some.1))
-      ]
-
-  was_received : (n : ℕ) → All (λ tid. Contains (tids_of (received (take n (logs system ++ next ∷ [])))) tid) (executed (take n (logs system ++ next ∷ [])))
-  was_received n =
-      let P : List Record → Type 0 = λ log. All (λ tid. Contains (tids_of (received log)) tid) (executed log) in
-      elim (cases_lt (length (logs system)) n) [
-        | inl behind ↦ subst P (sym (take_all n (logs system ++ next ∷ []) (omega (arith, length-append (logs system) (next ∷ []))))) all_received
-        | inr within ↦ subst P (sym (take-append-le n (logs system) (next ∷ []) within)) ((once.executed_in_order system).was_received n)
-      ]
-
-  -- an id that is not among those received is not among those executed
-  new_not_executed : (tid : TidOf) → is_among tid (received (logs system)) ≡ false → is_listed tid (executed (logs system)) ≡ false
-  new_not_executed tid new =
-      false_from_ne_true (is_listed tid (executed (logs system))) (λ listed.
-      both_ways (is_among tid (received (logs system))) new
-      (is_among-listed tid (received (logs system)) ∙ is_listed-Contains tid (tids_of (received (logs system)))
-      (All-contains (λ t. Contains (tids_of (received (logs system))) t) (executed (logs system)) tid executed_was_received
-      (Contains-is_listed tid (executed (logs system)) listed))))
-
-  not_executed : (tid : TidOf) → executed_by next ≡ Some tid → is_listed tid (executed (logs system)) ≡ false
-  not_executed tid executes =
-      elim (may.executes tid executes) [
-        | inl before ↦ before.1.open_
-        | inr run ↦ new_not_executed tid (subst (λ t. is_among t (received (logs system)) ≡ false) run.its_tid (may.takes run.unit run.taken).new)
-      ]
-
-  executed_once : NoneTwice (executed (logs system ++ next ∷ []))
-  executed_once =
-      elim (none_or_some (executed_by next)) [
-        | inl none ↦ subst NoneTwice (sym (filter_map-None executed_by (logs system) next none)) (once.executed_in_order system).once
-        | inr some ↦ subst NoneTwice (sym (filter_map-Some executed_by (logs system) next some.0 some.1))
-            (NoneTwice-push (executed (logs system)) some.0 (once.executed_in_order system).once (not_executed some.0 some.1))
-      ]
-
-  -- the units executed so far are the same, where a unit more was received
-  same_executed_units : (unit : AleUnit)
-      → filter_map (λ tid. unit_named tid (received (logs system) ++ unit ∷ [])) (executed (logs system)) ≡ executed_units (logs system)
-  same_executed_units unit =
-      filter_map-agree (λ tid. unit_named tid (received (logs system) ++ unit ∷ [])) (λ tid. unit_named tid (received (logs system))) (executed (logs system))
-      (λ tid has. let found = executed_is_found tid has in
-      find-longer (λ u. is_tid u.tid tid) (received (logs system)) (unit ∷ []) found.0 found.1 ∙ sym found.1)
-
-  -- a unit of an inbound queue that was executed stands among the units executed of the queue
-  executed_of_queue : (name : List ℕ) (v : AleUnit) → Contains (received (logs system)) v → stands_in (Inbound name) v ≡ true
-      → is_listed v.tid (executed (logs system)) ≡ true → is_among v.tid (in_queue (Inbound name) (executed_units (logs system))) ≡ true
-  executed_of_queue name v has stands listed =
-      is_among-Contains v (in_queue (Inbound name) (executed_units (logs system)))
-      (Contains-filter (stands_in (Inbound name)) (executed_units (logs system)) v
-      (filter_map-Contains (λ tid. unit_named tid (received (logs system))) (executed (logs system)) v.tid v
-      (Contains-is_listed v.tid (executed (logs system)) listed) (unit_named-Contains (received (logs system)) v (once.taken_once system) has))
-      stands)
-
-  not_among_executed : (name : List ℕ) (tid : TidOf) → is_listed tid (executed (logs system)) ≡ false
-      → is_among tid (in_queue (Inbound name) (executed_units (logs system))) ≡ false
-  not_among_executed name tid open_ =
-      false_from_ne_true (is_among tid (in_queue (Inbound name) (executed_units (logs system)))) (λ among.
-      let found = Contains-is_among tid (in_queue (Inbound name) (executed_units (logs system))) among in
-      let back = Contains-filter_back (stands_in (Inbound name)) (executed_units (logs system)) found.0 found.1 in
-      let made = filter_map-Contains_back (λ t. unit_named t (received (logs system))) (executed (logs system)) found.0 back.0 in
-      let its : found.0.tid ≡ made.0 = (unit_named-Some made.0 (received (logs system)) found.0 made.2).1 in
-      both_ways (is_listed tid (executed (logs system))) open_
-      (is_listed-Contains tid (executed (logs system)) (subst (Contains (executed (logs system))) (sym its ∙ found.2) made.1)))
-
-  executed_next : (name : List ℕ) (tid : TidOf) (execute : MayExecute (logs system) tid) → stands_in (Inbound name) execute.unit ≡ true
-      → IsPrefix (in_queue (Inbound name) (executed_units (logs system)) ++ execute.unit ∷ []) (in_queue (Inbound name) (received (logs system)))
-  executed_next name tid execute stands =
-      let named = unit_named-Some tid (received (logs system)) execute.unit execute.named in
-      next_of_queue (executed (logs system)) (received (logs system)) (in_queue (Inbound name) (executed_units (logs system))) (Inbound name) execute.unit
-      (once.taken_once system) ((once.executed_in_order system).in_order name) named.0
-      (is_head-inbound (executed (logs system)) (received (logs system)) execute.unit name execute.heads stands)
-      (executed_of_queue name)
-      (not_among_executed name execute.unit.tid (subst (λ t. is_listed t (executed (logs system)) ≡ false) (sym named.1) execute.open_))
-
-  abbrev InOrder : List ℕ → List AleUnit → List TidOf → Type 0
-  InOrder name units tids = IsPrefix (in_queue (Inbound name) (filter_map (λ tid. unit_named tid units) tids)) (in_queue (Inbound name) units)
-
-  -- a unit is executed that was received before
-  in_order-executed : (name : List ℕ) (tid : TidOf) → MayExecute (logs system) tid → InOrder name (received (logs system)) (executed (logs system) ++ tid ∷ [])
-  in_order-executed name tid execute =
-      let queue : Queue = Inbound name in
-      subst (λ units. IsPrefix (in_queue queue units) (in_queue queue (received (logs system))))
-      (sym (filter_map-Some (λ t. unit_named t (received (logs system))) (executed (logs system)) tid execute.unit execute.named))
-      (elim (cases_Bool (stands_in queue execute.unit)) [
-        | inl stands ↦ subst (λ units. IsPrefix units (in_queue queue (received (logs system))))
-            (sym (filter-kept (stands_in queue) (executed_units (logs system)) execute.unit stands))
-            (executed_next name tid execute stands)
-        | inr out ↦ subst (λ units. IsPrefix units (in_queue queue (received (logs system))))
-            (sym (filter-left_out (stands_in queue) (executed_units (logs system)) execute.unit out))
-            ((once.executed_in_order system).in_order name)
-      ])
-
-  -- a unit is taken in, to be executed later
-  in_order-taken : (name : List ℕ) (unit : AleUnit) → InOrder name (received (logs system) ++ unit ∷ []) (executed (logs system))
-  in_order-taken name unit =
-      let queue : Queue = Inbound name in
-      subst (λ units. IsPrefix (in_queue queue units) (in_queue queue (received (logs system) ++ unit ∷ []))) (sym (same_executed_units unit))
-      (IsPrefix-trans (in_queue queue (executed_units (logs system))) (in_queue queue (received (logs system)))
-      (in_queue queue (received (logs system) ++ unit ∷ []))
-      ((once.executed_in_order system).in_order name)
-      (IsPrefix-filter (stands_in queue) (received (logs system)) (received (logs system) ++ unit ∷ []) (unit ∷ [], refl)))
-
-  -- a unit with no inbound queue is taken in and executed
-  in_order-run : (name : List ℕ) (unit : AleUnit) → unit.inq ≡ [] → is_among unit.tid (received (logs system)) ≡ false
-      → InOrder name (received (logs system) ++ unit ∷ []) (executed (logs system) ++ unit.tid ∷ [])
-  in_order-run name unit direct new =
-      let queue : Queue = Inbound name in
-      let out : stands_in queue unit ≡ false = ap (has_name name) direct in
-      let units = received (logs system) ++ unit ∷ [] in
-      let named : unit_named unit.tid (received (logs system) ++ unit ∷ []) ≡ Some unit =
-      unit_named-Contains (received (logs system) ++ unit ∷ []) unit
-      (subst NoneTwice (sym (map-append (λ u. u.tid) (received (logs system)) (unit ∷ [])))
-      (NoneTwice-push (tids_of (received (logs system))) unit.tid (once.taken_once system) (sym (is_among-listed unit.tid (received (logs system))) ∙ new)))
-      (Contains-push (received (logs system)) unit) in
-      let all : filter_map (λ t. unit_named t (received (logs system) ++ unit ∷ [])) (executed (logs system) ++ unit.tid ∷ []) ≡ executed_units
-      (logs system) ++ unit ∷ [] =
-      filter_map-Some (λ t. unit_named t (received (logs system) ++ unit ∷ [])) (executed (logs system)) unit.tid unit named
-      ∙ ap (λ us. us ++ unit ∷ []) (same_executed_units unit) in
-      subst (λ us. IsPrefix (in_queue queue us) (in_queue queue (received (logs system) ++ unit ∷ []))) (sym all)
-      (subst (λ us. IsPrefix us (in_queue queue (received (logs system) ++ unit ∷ [])))
-      (sym (filter-left_out (stands_in queue) (executed_units (logs system)) unit out))
-      (subst (λ us. IsPrefix (in_queue queue (executed_units (logs system))) us) (sym (filter-left_out (stands_in queue) (received (logs system)) unit out))
-      ((once.executed_in_order system).in_order name)))
-
-  in_order : (name : List ℕ) → InOrder name (received (logs system ++ next ∷ [])) (executed (logs system ++ next ∷ []))
-  in_order name =
-      elim (none_or_some (taken_by next)) [
-        | inl none ↦ subst (λ units. InOrder name units (executed (logs system ++ next ∷ []))) (sym (filter_map-None taken_by (logs system) next none))
-            (elim (none_or_some (executed_by next)) [
-              | inl nothing ↦ subst (InOrder name (received (logs system))) (sym (filter_map-None executed_by (logs system) next nothing))
-                  ((once.executed_in_order system).in_order name)
-              | inr some ↦ subst (InOrder name (received (logs system))) (sym (filter_map-Some executed_by (logs system) next some.0 some.1))
-                  (elim (may.executes some.0 some.1) [
-                    | inl before ↦ in_order-executed name some.0 before.1
-                    | inr run ↦ absurd (none-some run.unit (sym none ∙ run.taken))
-                  ])
-            ])
-        | inr some ↦ subst (λ units. InOrder name units (executed (logs system ++ next ∷ []))) (sym (filter_map-Some taken_by (logs system) next some.0 some.1))
-            (elim (may.runs some.0 some.1) [
-              | inl nothing ↦ subst (InOrder name (received (logs system) ++ some.0 ∷ [])) (sym (filter_map-None executed_by (logs system) next nothing))
-                  (in_order-taken name some.0)
-              | inr run ↦ subst (InOrder name (received (logs system) ++ some.0 ∷ [])) (sym (filter_map-Some executed_by (logs system) next some.0.tid run.0))
-                  (in_order-run name some.0 run.1 (may.takes some.0 some.1).new)
-            ])
-      ]
-
-  executed_in_order : ExecutedInOrder (logs system ++ next ∷ [])
-  executed_in_order = record { was_received = was_received; once = executed_once; in_order = in_order }
-
 -- what holds of each element that a record may add holds of all, where it holds of those before
 pub All-filter_map : {B : Type 0} (P : B → Type 0) (h : Record → Option B) (log : List Record) (next : Record) → All P (filter_map h log)
     → ((x : B) → h next ≡ Some x → P x) → All P (filter_map h (log ++ next ∷ []))
@@ -399,7 +195,8 @@ Once-joins committed more logs after system next numbered once may joins grows =
     (in_queue (Outbound sender s name) (more sender))
     (is sender name) (IsPrefix-filter (stands_in (Outbound sender s name)) (committed sender) (more sender) (grows sender)) in
     record {
-      taken_once = at_each logs after system next joins (λ _ log. TakenOnce log) once.taken_once (taken_once committed logs system next numbered once may);
+      taken_once = at_each logs after system next joins (λ _ log. TakenOnce log) once.taken_once
+          (taken_once (logs system) next (once.taken_once system) (once.executed_in_order system) (inside committed logs system next numbered once may));
       taken_was_committed = at_each logs after system next joins (TakenWasCommitted more)
           (λ s. All-weaker _ _ (still_committed s) (received (logs s)) (once.taken_was_committed s))
           (All-weaker _ _ (still_committed system) (received (logs system ++ next ∷ [])) (taken_was_committed committed logs system next numbered once may));
@@ -407,7 +204,8 @@ Once-joins committed more logs after system next numbered once may joins grows =
           (λ s. in_order s (logs s) (once.taken_in_order s))
           (in_order system (logs system ++ next ∷ []) (taken_in_order committed logs system next numbered once may));
       executed_in_order = at_each logs after system next joins (λ _ log. ExecutedInOrder log) once.executed_in_order
-          (executed_in_order committed logs system next numbered once may);
+          (executed_in_order (logs system) next (once.taken_once system) (once.executed_in_order system)
+          (inside committed logs system next numbered once may));
       done_was_taken = at_each logs after system next joins (λ s log. All (WasTaken more after s) (done_in log))
           (λ s. All-weaker (WasTaken committed logs s) (WasTaken more after s) (still_taken s) (done_in (logs s)) (once.done_was_taken s))
           (All-filter_map (WasTaken more after system) done_by (logs system) next

@@ -2,7 +2,8 @@
 //!
 //! Contract: the lists of the units received and of the transaction ids executed, done, ended and forgotten are exactly
 //! those of the log. The definitions are in `specs/`: `Filters` (these lists, the marks, and stopped queues), `Queues` (a unit in a
-//! queue, and at its head), `Once` (each unit once, and in the order of its queues).
+//! queue, and at its head), `Once` (each unit once, and in the order of its queues), `Inside` (what a legal log keeps by
+//! itself), `SameUnit` (units byte for byte the same), `Systems` (the list of each system, and numbered units).
 #![tactic(auto)]
 
 mod ale_unit;
@@ -11,6 +12,7 @@ mod marks;
 mod queue;
 mod raw_unit_doc;
 mod records;
+mod same_unit;
 mod shared;
 
 pub use ale_unit::AleUnit;
@@ -21,4 +23,5 @@ pub use queue::{
 };
 pub use raw_unit_doc::RawUnitDoc;
 pub use records::Record;
+pub use same_unit::is_same_unit;
 pub use shared::Shared;

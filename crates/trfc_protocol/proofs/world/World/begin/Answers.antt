@@ -3,7 +3,8 @@ use Rattle.std.specs.List.{range_with_len}
 use Rattle.std.proofs.lemmas.Grind.{common_steps}
 use Rattle.std.proofs.lemmas.List.FromFn.{map-range_with_len_more}
 use Rattle.trfc_protocol.specs.Safe.{Sound}
-use Rattle.trfc_protocol.specs.Start.{log_in, genesis_log, genesis_logs}
+use Rattle.trfc_protocol.specs.Start.{genesis_log, genesis_logs}
+use Rattle.unit_core.specs.Systems.{of_system}
 use Rattle.trfc_protocol.proofs.StartLemmas.{Sound-genesis, length-genesis_logs}
 use Rattle.trfc_protocol.proofs.world.World.begin.Goals as goal
 
@@ -19,5 +20,5 @@ of_logs-requires g c =
     c.loop-number.invariant ∙ ap (λ n. map (genesis_log c.args.text.now) (range_with_len 1 n)) all in
     record {
       all = ap length same ∙ length-genesis_logs c.args.text.now rules.systems;
-      sound = subst (λ logs. Sound rules (log_in logs)) (sym same) (Sound-genesis c.args.text.now rules);
+      sound = subst (λ logs. Sound rules (of_system logs)) (sym same) (Sound-genesis c.args.text.now rules);
     }

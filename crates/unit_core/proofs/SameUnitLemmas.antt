@@ -8,7 +8,7 @@ use Rattle.idoc_record.specs.Data.{DataRecord}
 use Rattle.unit_core.specs.declared.ale_unit.AleUnit.{AleUnit}
 use Rattle.unit_core.specs.declared.raw_unit_doc.RawUnitDoc.{RawUnitDoc}
 use Rattle.unit_core.proofs.TidLemmas.{is_tid-true, is_tid-same}
-use Rattle.trfc_protocol.specs.SameUnit.{is_same_segment, is_same_doc, is_same_unit}
+use Rattle.unit_core.specs.SameUnit.{is_same_segment, is_same_doc, is_same_unit}
 
 text_decides : (a b : List ℕ) → (is_text a b ≡ true → a ≡ b) × (a ≡ b → is_text a b ≡ true)
 text_decides a b = bytes_decides a b
