@@ -1,5 +1,7 @@
 -- The ending of `pass` is one of the run.
-use Rattle.std.proofs.Common.{◌≡◌, ◌≢◌, ℕ, Some, Result, Ok, Err, List, refl, sym, ap, subst, inl, inr}
+use Rattle.std.specs.Arc.{arc_value}
+use Rattle.std.proofs.Common.{◌≡◌, ◌≢◌, ◌∙◌, ℕ, Some, Result, Ok, Err, List, refl, sym, ap, subst, inl, inr}
+use Rattle.ale_base.specs.Lines.{lines_of}
 use Rattle.std.specs.Prelude.{IfErr, IfOk}
 use Rattle.ale_io.specs.Told.{Told}
 use Rattle.ale_host.specs.declared.words.Form.TheVariants.{Pass, Run}
@@ -9,7 +11,14 @@ use Rattle.ale_host.specs.Inputs.{EndsBehindDocuments, EndsBehindModel, EndsRun,
 use Rattle.idoc_file.specs.declared.raw_doc.RawDoc.{RawDoc}
 use Rattle.ale_host.specs.declared.inputs.ModelFile.{ModelFile}
 use Rattle.ale_host.specs.declared.prepared.Prepared.{Prepared}
-use Rattle.ale_host.specs.Prepared.{EndsAs, IsBehindDocuments, IsBehindModel, IsRead, SaysModel}
+use Rattle.ale_host.specs.declared.load_model.TheConstants.{LOAD_MODEL}
+use Rattle.ale_host.specs.Load as load
+use Rattle.ale_host.specs.Running.{masters_of}
+use Rattle.ale_host.specs.Prepared.{AreMasters, EndsAs, IsBehindDocuments, IsBehindModel, IsLoaded, IsPrepared, IsRead, SaysMasters, SaysModel, prepared_of}
+use Rattle.model_text.specs.Text.{answer_to}
+use Rattle.script_text.specs.declared.command.Command.{Command}
+use Rattle.script_text.specs.Script.{script_of}
+use Rattle.unit_core.specs.declared.raw_unit_doc.RawUnitDoc.{RawUnitDoc}
 use Rattle.ale_host.specs.Words.{form_of, document_file, documents_file, model_file, script_file}
 use Rattle.ale_host.specs.Ending.{IsFile, EndsFile, EndsPass, Ends, IsQuiet, status_of}
 
@@ -98,19 +107,48 @@ EndsBehindModel-later before after one two documents script end kept same (inr (
     )
 
 -- what a run has, of which a file before was read
-pub behind-documents : (before after : List ℕ → Told) (file : ModelFile) (documents : List RawDoc) (script : List ℕ) (prepared : Prepared)
-    → ((name : List ℕ) → after name ≡ before name) → IsBehindDocuments after file documents script prepared → IsBehindDocuments before file documents script
+pub behind-documents : (before after : List ℕ → Told) (file : ModelFile) (masters : List RawUnitDoc) (script : List ℕ) (prepared : Prepared)
+    → ((name : List ℕ) → after name ≡ before name) → IsBehindDocuments after file masters script prepared → IsBehindDocuments before file masters script
     prepared
-behind-documents before after file documents script prepared kept read =
+behind-documents before after file masters script prepared kept read =
     (read.0, same_told before after kept (λ told. SaysScript told read.0) script read.1, read.2)
 
 pub behind-model : (before after : List ℕ → Told) (file : ModelFile) (documents script : List ℕ) (prepared : Prepared)
     → ((name : List ℕ) → after name ≡ before name) → IsBehindModel after file documents script prepared → IsBehindModel before file documents script prepared
 behind-model before after file documents script prepared kept read = (
   read.0,
-  same_told before after kept (λ told. SaysDocuments told read.0) documents read.1,
+  same_told before after kept (λ told. SaysMasters told read.0) documents read.1,
   behind-documents before after file read.0 script prepared kept
       read.2,
+)
+
+-- what is had of a model with its text, masters and commands
+is-prepared : (file : ModelFile) (documents : List RawDoc) (masters : List RawUnitDoc) (commands : List Command) (prepared : Prepared)
+    → arc_value file.names ≡ arc_value file.model → masters ≡ masters_of documents → prepared ≡ prepared_of file masters commands
+    → IsPrepared file.text (arc_value file.model) documents commands prepared
+is-prepared file documents masters commands prepared names same is = record {
+  text_is = ap (λ (p : Prepared). p.text) is;
+  model_is = ap (λ (p : Prepared). arc_value p.model) is;
+  names_are = ap (λ (p : Prepared). arc_value p.inputs.model) is ∙ names;
+  masters_are = ap (λ (p : Prepared). p.inputs.masters) is ∙ same;
+  commands_are = ap (λ (p : Prepared). p.commands) is;
+}
+
+-- what a load has is what its texts say
+pub is-loaded : (count : ℕ) (file : ModelFile) (masters : List RawUnitDoc) (commands : List Command) (prepared : Prepared)
+    → file.text ≡ LOAD_MODEL.now → answer_to LOAD_MODEL.now ≡ Ok (arc_value file.model) → arc_value file.names ≡ arc_value file.model
+    → AreMasters (lines_of (load.documents count)) masters → script_of (load.script count) ≡ Ok commands → prepared ≡ prepared_of file masters commands
+    → IsLoaded count prepared
+is-loaded count file masters commands prepared text says names are says_commands is = (
+  arc_value file.model,
+  (
+    are.0,
+    (
+      commands,
+      record { says_model = says; says_documents = are.1; says_script = says_commands },
+      subst (λ (t : List ℕ). IsPrepared t (arc_value file.model) are.0 commands prepared) text (is-prepared file are.0 masters commands prepared names are.2 is),
+    ),
+  ),
 )
 
 -- what a run has is what its three files say
@@ -119,13 +157,13 @@ pub is-read : (told : List ℕ → Told) (file : ModelFile) (model documents scr
 is-read told file model documents script prepared says read = (
   file.text,
   (
-    file.model,
+    arc_value file.model,
     (
-      read.0,
+      read.1.0,
       (
         read.2.0,
-        record { in_file = says.in_file; says_model = says.says; says_documents = read.1; says_script = read.2.1 },
-        read.2.2,
+        record { in_file = says.in_file; says_model = says.says; says_documents = read.1.1; says_script = read.2.1 },
+        is-prepared file read.1.0 read.0 read.2.0 prepared says.names_are read.1.2 read.2.2,
       ),
     ),
   ),

@@ -18,10 +18,10 @@ use Rattle.trfc_protocol.specs.declared.world.World.{World}
 use Rattle.trfc_protocol.specs.Start.{first_state, first_world, genesis_log, genesis_logs}
 use Rattle.trfc_protocol.specs.Worlds.{log_of, log_or_none}
 use Rattle.kept_world.specs.Kept.{KeptOf}
-use Rattle.document_tables.specs.declared.document_tables.DocumentTables.{DocumentTables}
-use Rattle.model_rules.specs.declared.model_rules.ModelRules.{ModelRules}
+use Rattle.document_state.specs.declared.document_tables.DocumentTables.{DocumentTables}
+use Rattle.document_state.specs.declared.model_rules.ModelRules.{ModelRules}
 use Rattle.landscape.specs.Opened.{HasOpened}
-use Rattle.wires.specs.Wires.{letters_left}
+use Rattle.unit_works.specs.Wires.{letters_left}
 use Rattle.unit_works.specs.Through.{IsClear}
 use Rattle.runs.specs.declared.stage.Stage.{Stage}
 use Rattle.runs.specs.Complete.{IsFree}

@@ -14,3 +14,5 @@ pub mod PassText
 pub mod Ending
 -- what the program does for its words
 pub mod EndsSo
+-- the texts of a load
+pub mod Load

@@ -8,8 +8,8 @@ use Rattle.dist_model.specs.declared.lists.Lists.{Lists}
 use Rattle.model_text.specs.Text.{answer_to}
 use Rattle.script_text.specs.declared.command.Command.{Command}
 use Rattle.script_text.specs.Script.{script_of}
-use Rattle.load_texts.specs.declared.model.TheConstants.{LOAD_MODEL}
-use Rattle.load_texts.specs.Load.{documents, script}
+use Rattle.ale_host.specs.declared.load_model.TheConstants.{LOAD_MODEL}
+use Rattle.ale_host.specs.Load.{documents, script}
 use Rattle.landscape.specs.declared.counts.Counts.{Counts}
 use Rattle.ale_host.specs.declared.ending.Ending.{Ending}
 use Rattle.ale_host.specs.declared.ending.Ending.TheVariants as ending

@@ -4,15 +4,17 @@ use Rattle.std.specs.Arc.{arc_value}
 use Rattle.ale_io.specs.Told.{Told}
 use Rattle.dist_model.specs.declared.lists.Lists.{Lists}
 use Rattle.idoc_file.specs.declared.raw_doc.RawDoc.{RawDoc}
+use Rattle.idoc_file.specs.DocumentFile.{AreDocuments}
 use Rattle.model_text.specs.declared.reading.TheConstants as text_limit
 use Rattle.model_text.specs.Text.{answer_to}
 use Rattle.script_text.specs.declared.command.Command.{Command}
+use Rattle.unit_core.specs.declared.raw_unit_doc.RawUnitDoc.{RawUnitDoc}
 use Rattle.ale_host.specs.declared.inputs.ModelFile.{ModelFile}
 use Rattle.ale_host.specs.declared.prepared.Prepared.{Prepared}
 use Rattle.ale_host.specs.Inputs.{IsFileWithin, SaysDocuments, SaysScript}
 use Rattle.ale_host.specs.declared.ending.Ending.{Ending}
 use Rattle.ale_host.specs.declared.ending.Ending.TheVariants as ending
-use Rattle.load_texts.specs.declared.model.TheConstants.{LOAD_MODEL}
+use Rattle.ale_host.specs.declared.load_model.TheConstants.{LOAD_MODEL}
 use Rattle.ale_host.specs.declared.host.Order.{Order}
 use Rattle.ale_host.specs.Loading.{LoadSays}
 use Rattle.ale_host.specs.Running.{AskFor, Say, masters_of}
@@ -28,17 +30,35 @@ pub record IsPrepared (text : List ℕ) (model : Lists) (documents : List RawDoc
 -- the text of the model is that of its file, as far as it is told, and says it
 pub record SaysModel (told : Told) (file : ModelFile) : Type 0 where
   pub in_file : IsFileWithin text_limit.MAX_BYTES told file.text
-  pub says : answer_to file.text ≡ Ok file.model
+  pub says : answer_to file.text ≡ Ok (arc_value file.model)
+  pub names_are : arc_value file.names ≡ arc_value file.model
 
--- behind the model and the documents, a script was read
-abbrev pub IsBehindDocuments : (List ℕ → Told) → ModelFile → List RawDoc → List ℕ → Prepared → Type 0
-IsBehindDocuments told file documents script prepared =
-    (commands : List Command) × SaysScript (told script) commands × IsPrepared file.text file.model documents commands prepared
+-- the file of the documents says these masters
+abbrev pub SaysMasters : Told → List RawUnitDoc → Type 0
+SaysMasters told masters = (documents : List RawDoc) × SaysDocuments told documents × (masters ≡ masters_of documents)
+
+-- lines say these masters
+abbrev pub AreMasters : List (List ℕ) → List RawUnitDoc → Type 0
+AreMasters lines masters = (documents : List RawDoc) × AreDocuments lines documents × (masters ≡ masters_of documents)
+
+-- what a run has of a model with its text, masters and commands
+abbrev pub prepared_of : ModelFile → List RawUnitDoc → List Command → Prepared
+prepared_of file masters commands = record {
+  text = file.text;
+  model = file.model;
+  inputs = record { model = file.names; masters = masters };
+  commands = commands;
+}
+
+-- behind the model and the masters, a script was read
+abbrev pub IsBehindDocuments : (List ℕ → Told) → ModelFile → List RawUnitDoc → List ℕ → Prepared → Type 0
+IsBehindDocuments told file masters script prepared =
+    (commands : List Command) × SaysScript (told script) commands × (prepared ≡ prepared_of file masters commands)
 
 -- behind the model, documents and a script were read
 abbrev pub IsBehindModel : (List ℕ → Told) → ModelFile → List ℕ → List ℕ → Prepared → Type 0
 IsBehindModel told file documents script prepared =
-    (all : List RawDoc) × SaysDocuments (told documents) all × IsBehindDocuments told file all script prepared
+    (masters : List RawUnitDoc) × SaysMasters (told documents) masters × IsBehindDocuments told file masters script prepared
 
 -- what a run has is what its files say
 abbrev pub IsRead : (List ℕ → Told) → List ℕ → List ℕ → List ℕ → Prepared → Type 0

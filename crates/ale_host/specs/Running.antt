@@ -14,9 +14,9 @@ use Rattle.script_text.specs.declared.command.Command.{Command}
 use Rattle.unit_core.specs.declared.raw_unit_doc.RawUnitDoc.{RawUnitDoc}
 use Rattle.unit_journal.specs.Log.{Stands}
 use Rattle.outbound_build.specs.ControlRecord.{system_name}
-use Rattle.document_tables.specs.declared.document_tables.DocumentTables.{DocumentTables}
-use Rattle.model_rules.specs.declared.model_rules.ModelRules.{ModelRules}
-use Rattle.model_rules.specs.Meaning.{model_meaning}
+use Rattle.document_state.specs.declared.document_tables.DocumentTables.{DocumentTables}
+use Rattle.document_state.specs.declared.model_rules.ModelRules.{ModelRules}
+use Rattle.document_state.specs.Meaning.{model_meaning}
 use Rattle.kept_world.specs.Kept.{KeptOf}
 use Rattle.kept_world.specs.OnVolumes.{AreOnVolumes}
 use Rattle.unit_landscape.specs.Kept.{IsLandscape}
@@ -34,8 +34,8 @@ use Rattle.runs.specs.declared.stage.Stage.{Stage}
 use Rattle.runs.specs.Complete.{AllGoThrough, HoldNothing, OfferAll}
 use Rattle.runs.specs.Run.{AreAsked, Run}
 use Rattle.runs.specs.Turns.{Turn, text_of}
-use Rattle.wires.specs.Wires.{letters_left}
-use Rattle.load_texts.specs.declared.model.TheConstants.{LOAD_MODEL}
+use Rattle.unit_works.specs.Wires.{letters_left}
+use Rattle.ale_host.specs.declared.load_model.TheConstants.{LOAD_MODEL}
 use Rattle.ale_host.specs.declared.running.Report.{Report}
 use Rattle.ale_host.specs.declared.running.Report.TheVariants as report
 use Rattle.ale_host.specs.declared.words.Form.TheVariants.{Load, Run as RunForm}

@@ -14,19 +14,20 @@ ghost use Rattle.ale_host.specs.Prepared.{EndsAs, IsAsked, IsBehindDocuments, Is
 
 use crate::document_file::read_document_file;
 use crate::ending::{Ending, NotRead, OUT_OF_MEMORY};
-use crate::inputs::{ModelFile, read_documents, read_model, read_script, refused};
+use crate::inputs::{ModelFile, read_masters, read_model, read_script, refused};
 use crate::loading::read_load;
-use crate::prepared::{Prepared, prepare};
+use crate::prepared::{Prepared, prepared_from};
 use crate::running::{Report, run};
 use crate::words::{Form, form_of, workers_of};
 use ale_base::{Items, OutOfMemory};
 use ale_io::{Clock, FileEnd, Files, Gate, Sink};
 use ale_volumes::Volumes;
-use idoc_file::{RawDoc, Reader};
+use idoc_file::Reader;
 use runs::Crew;
 use std::alloc::Global;
 use std::sync::Wait;
 use std::thread::Threads;
+use unit_core::RawUnitDoc;
 
 /// The status where the sink did not take all of the text.
 pub(crate) const WRITE_FAULT: u8 = 6;
@@ -228,8 +229,8 @@ fn read_behind_model<F: Files>(
     ensures still { OnOk result (F.faults files.new ≡ F.faults files.old) }
     ensures quiet { IfErr result (λ ending. IsQuiet ending (F.faults files.old) (F.faults files.new)) }
 {
-    match read_documents(alloc, documents, files) {
-        Ok(documents) => read_behind_documents(alloc, said, documents, script, files),
+    match read_masters(alloc, documents, files) {
+        Ok(masters) => read_behind_documents(alloc, said, masters, script, files),
         Err(ending) => Err(ending),
     }
 }
@@ -238,12 +239,12 @@ fn read_behind_model<F: Files>(
 fn read_behind_documents<F: Files>(
     alloc: Global,
     said: ModelFile,
-    documents: Items<RawDoc>,
+    masters: Items<RawUnitDoc>,
     script: &str,
     files: &mut F,
 ) -> Result<Prepared, Ending>
     ensures ends { IfErr result (EndsBehindDocuments (F.told files.old) (Rose (F.faults files.old) (F.faults files.new)) script.now) }
-    ensures says { IfOk result (IsBehindDocuments (F.told files.old) said documents script.now) }
+    ensures says { IfOk result (IsBehindDocuments (F.told files.old) said masters script.now) }
     ensures printable { IfErr result IsPrintable }
     ensures kept { (name : List ℕ) → F.told files.new name ≡ F.told files.old name }
     ensures counted { F.faults files.old ≤ F.faults files.new }
@@ -251,10 +252,7 @@ fn read_behind_documents<F: Files>(
     ensures quiet { IfErr result (λ ending. IsQuiet ending (F.faults files.old) (F.faults files.new)) }
 {
     match read_script(alloc, script, files) {
-        Ok(commands) => match prepare(alloc, said, documents, commands) {
-            Ok(prepared) => Ok(prepared),
-            Err(_) => Err(Ending::OutOfMemory),
-        },
+        Ok(commands) => Ok(prepared_from(said, masters, commands)),
         Err(ending) => Err(ending),
     }
 }

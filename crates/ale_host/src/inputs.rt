@@ -1,15 +1,17 @@
 //! What `run` reads: a model, documents and a script, each from a file of its own.
 
 ghost use Rattle.std.specs.Prelude.{◌≡◌, ◌≢◌, ℕ, ◌<◌, ◌≤◌, List, length, IsOk, OnOk, IfOk, IfErr};
+ghost use Rattle.std.specs.Arc.{arc_value};
 ghost use Rattle.ale_base.specs.Faults.{Rose};
 ghost use Rattle.idoc_file.specs.declared.file_fault.FileFault.{FileFault};
 ghost use Rattle.ale_host.specs.declared.ending.Ending.{Ending};
 ghost use Rattle.ale_host.specs.Ending.{IsPrintable, IsQuiet};
-ghost use Rattle.ale_host.specs.Prepared.{SaysModel};
+ghost use Rattle.ale_host.specs.Prepared.{SaysMasters, SaysModel};
 ghost use Rattle.ale_host.specs.Inputs.{IsFileWithin, IsUnreadBecause, IsUnreadEnd, IsUnreadSo, SaysDocuments, SaysScript, StopsAtDocuments, StopsAtModel, StopsAtScript};
 
 use crate::document_file::read_document_file;
 use crate::ending::{Ending, NotRead};
+use crate::prepared::masters_of;
 use ale_base::{Items, OutOfMemory};
 use ale_io::{FileEnd, Files};
 use dist_model::Model;
@@ -17,12 +19,37 @@ use idoc_file::{FileFault, RawDoc};
 use model_text::ModelFault;
 use script_text::{Command, ScriptFault};
 use std::alloc::Global;
+use std::sync::Arc;
+use unit_core::RawUnitDoc;
 
 /// A model, and the text that says it.
 #[derive(Drop)]
 pub(crate) struct ModelFile {
+    /// The text.
     pub(crate) text: Items<u8>,
-    pub(crate) model: Model,
+    /// The model, by which systems work.
+    pub(crate) model: Arc<Model>,
+    /// The same model, for the names of systems.
+    pub(crate) names: Arc<Model>,
+}
+
+/// A model with two owners.
+#[derive(Drop)]
+pub(crate) struct SharedModel {
+    /// That of the one who works by it.
+    pub(crate) model: Arc<Model>,
+    /// That of the one who tells names.
+    pub(crate) names: Arc<Model>,
+}
+
+/// A model with two owners.
+pub(crate) fn shared(alloc: Global, model: Model) -> Result<SharedModel, OutOfMemory>
+    ensures model { IfOk result (λ it. arc_value it.model ≡ model) }
+    ensures names { IfOk result (λ it. arc_value it.names ≡ model) }
+{
+    let model = Arc::new(alloc, model)?;
+    let names = Arc::try_clone(&model)?;
+    Ok(SharedModel { model, names })
 }
 
 /// The model that the file of this name says, with its text, or the ending of the run at this file.
@@ -41,17 +68,44 @@ pub(crate) fn read_model<F: Files>(
 {
     let bytes = read_whole(alloc, name, model_text::MAX_BYTES, files)?;
     match model_text::read(alloc, bytes.as_slice()) {
-        Ok(model) => Ok(ModelFile {
-            text: Items::from_vec(bytes),
-            model,
-        }),
+        Ok(model) => match shared(alloc, model) {
+            Ok(SharedModel { model, names }) => Ok(ModelFile {
+                text: Items::from_vec(bytes),
+                model,
+                names,
+            }),
+            Err(OutOfMemory) => Err(Ending::OutOfMemory),
+        },
         Err(ModelFault::OutOfMemory) => Err(Ending::OutOfMemory),
         Err(fault) => Err(Ending::ModelRefused(fault)),
     }
 }
 
+/// The masters that the file of this name says, or the ending of the run at this file.
+pub(crate) fn read_masters<F: Files>(
+    alloc: Global,
+    name: &str,
+    files: &mut F,
+) -> Result<Items<RawUnitDoc>, Ending>
+    ensures says { IfOk result (SaysMasters (F.told files.old name.now)) }
+    ensures stops { IfErr result (StopsAtDocuments name.now (F.told files.old name.now) (Rose (F.faults files.old) (F.faults files.new))) }
+    ensures printable { IfErr result IsPrintable }
+    ensures kept { (other : List ℕ) → F.told files.new other ≡ F.told files.old other }
+    ensures counted { F.faults files.old ≤ F.faults files.new }
+    ensures still { OnOk result (F.faults files.new ≡ F.faults files.old) }
+    ensures quiet { IfErr result (λ end. IsQuiet end (F.faults files.old) (F.faults files.new)) }
+{
+    match read_documents(alloc, name, files) {
+        Ok(documents) => match masters_of(alloc, documents) {
+            Ok(masters) => Ok(masters),
+            Err(OutOfMemory) => Err(Ending::OutOfMemory),
+        },
+        Err(ending) => Err(ending),
+    }
+}
+
 /// The documents that the file of this name says, or the ending of the run at this file.
-pub(crate) fn read_documents<F: Files>(
+fn read_documents<F: Files>(
     alloc: Global,
     name: &str,
     files: &mut F,

@@ -1,30 +1,35 @@
 //! What a load has from its texts, and the line that it reports.
 
 ghost use Rattle.std.specs.Prelude.{◌≡◌, ◌++◌, ◌+◌, ◌≤◌, ℕ, length, Ok, IfErr, IfOk, OnOk};
+ghost use Rattle.std.specs.Arc.{arc_value};
 ghost use Rattle.std.specs.Fmt.{decimal};
 ghost use Rattle.ale_base.specs.Lines.{lines_of};
 ghost use Rattle.idoc_file.specs.DocumentFile.{AreDocuments};
 ghost use Rattle.idoc_file.specs.Reading.{Stands};
 ghost use Rattle.model_text.specs.Text.{answer_to};
 ghost use Rattle.script_text.specs.Script.{script_of};
-ghost use Rattle.load_texts.specs.declared.model.TheConstants.{LOAD_MODEL};
-ghost use Rattle.load_texts.specs.Load.{documents, script};
+ghost use Rattle.ale_host.specs.declared.load_model.TheConstants.{LOAD_MODEL};
+ghost use Rattle.ale_host.specs.Load.{documents, script};
 ghost use Rattle.ale_host.specs.Ending.{IsPrintable};
 ghost use Rattle.ale_host.specs.Loading.{EndsLoad, load_line};
-ghost use Rattle.ale_host.specs.Prepared.{IsLoaded};
+ghost use Rattle.ale_host.specs.Prepared.{AreMasters, IsLoaded};
 
 use crate::ending::Ending;
-use crate::inputs::{ModelFile, refused};
+use crate::inputs::{ModelFile, SharedModel, refused, shared};
+use crate::load_documents::load_documents;
+use crate::load_model::LOAD_MODEL;
+use crate::load_script::load_script;
 use crate::pass_text::put;
-use crate::prepared::{Prepared, prepare};
+use crate::prepared::{Prepared, masters_of, prepared_from};
 use crate::words::MAX_MASTERS;
 use ale_base::{Items, OutOfMemory};
+use dist_model::Model;
 use idoc_file::{RawDoc, Reader};
 use landscape::Counts;
-use load_texts::{LOAD_MODEL, load_documents, load_script};
 use model_text::ModelFault;
 use script_text::{Command, ScriptFault};
 use std::alloc::Global;
+use unit_core::RawUnitDoc;
 
 /// What a load of so many masters has from its texts, or how it ends at one of them.
 pub(crate) fn read_load(alloc: Global, masters: u32) -> Result<Prepared, Ending>
@@ -43,33 +48,63 @@ pub(crate) fn read_load(alloc: Global, masters: u32) -> Result<Prepared, Ending>
 fn read_behind_model(alloc: Global, masters: u32, said: ModelFile) -> Result<Prepared, Ending>
     requires masters { masters ≤ MAX_MASTERS }
     requires text { said.text ≡ LOAD_MODEL.now }
-    requires says { answer_to LOAD_MODEL.now ≡ Ok said.model }
+    requires says { answer_to LOAD_MODEL.now ≡ Ok (arc_value said.model) }
+    requires names { arc_value said.names ≡ arc_value said.model }
     ensures says { IfOk result (IsLoaded masters) }
     ensures ends { IfErr result (EndsLoad masters) }
     ensures printable { IfErr result IsPrintable }
 {
-    let documents = said_documents(alloc, masters)?;
-    let commands = said_commands(alloc, masters)?;
-    match prepare(alloc, said, documents, commands) {
-        Ok(prepared) => Ok(prepared),
-        Err(OutOfMemory) => Err(Ending::OutOfMemory),
+    match said_masters(alloc, masters) {
+        Ok(all) => match said_commands(alloc, masters) {
+            Ok(commands) => Ok(prepared_from(said, all, commands)),
+            Err(ending) => Err(ending),
+        },
+        Err(ending) => Err(ending),
     }
 }
 
 /// The model of a load.
 fn said_model(alloc: Global) -> Result<ModelFile, Ending>
     ensures text { IfOk result (λ file. file.text ≡ LOAD_MODEL.now) }
-    ensures says { IfOk result (λ file. answer_to LOAD_MODEL.now ≡ Ok file.model) }
+    ensures says { IfOk result (λ file. answer_to LOAD_MODEL.now ≡ Ok (arc_value file.model)) }
+    ensures names { IfOk result (λ file. arc_value file.names ≡ arc_value file.model) }
     ensures ends { (masters : ℕ) → IfErr result (EndsLoad masters) }
     ensures printable { IfErr result IsPrintable }
 {
     match model_text::read(alloc, LOAD_MODEL) {
-        Ok(model) => match Items::from_slice(alloc, LOAD_MODEL) {
-            Ok(text) => Ok(ModelFile { text, model }),
+        Ok(model) => match with_text(alloc, model) {
+            Ok(file) => Ok(file),
             Err(OutOfMemory) => Err(Ending::OutOfMemory),
         },
         Err(ModelFault::OutOfMemory) => Err(Ending::OutOfMemory),
         Err(fault) => Err(Ending::ModelRefused(fault)),
+    }
+}
+
+/// The model of a load, with its text.
+fn with_text(alloc: Global, model: Model) -> Result<ModelFile, OutOfMemory>
+    ensures text { IfOk result (λ file. file.text ≡ LOAD_MODEL.now) }
+    ensures model { IfOk result (λ file. arc_value file.model ≡ model) }
+    ensures names { IfOk result (λ file. arc_value file.names ≡ model) }
+{
+    let SharedModel { model, names } = shared(alloc, model)?;
+    let text = Items::from_slice(alloc, LOAD_MODEL)?;
+    Ok(ModelFile { text, model, names })
+}
+
+/// The masters of a load.
+fn said_masters(alloc: Global, masters: u32) -> Result<Items<RawUnitDoc>, Ending>
+    requires { masters ≤ MAX_MASTERS }
+    ensures says { IfOk result (AreMasters (lines_of (documents masters))) }
+    ensures ends { IfErr result (EndsLoad masters) }
+    ensures printable { IfErr result IsPrintable }
+{
+    match said_documents(alloc, masters) {
+        Ok(documents) => match masters_of(alloc, documents) {
+            Ok(all) => Ok(all),
+            Err(OutOfMemory) => Err(Ending::OutOfMemory),
+        },
+        Err(ending) => Err(ending),
     }
 }
 

@@ -2,7 +2,7 @@
 
 ghost use Rattle.std.specs.Prelude.{◌≡◌, IfOk};
 ghost use Rattle.ale_host.specs.Running.{masters_of};
-ghost use Rattle.ale_host.specs.Prepared.{IsPrepared};
+ghost use Rattle.ale_host.specs.Prepared.{prepared_of};
 
 use crate::inputs::ModelFile;
 use ale_base::{Items, OutOfMemory};
@@ -28,32 +28,31 @@ pub(crate) struct Prepared {
 }
 
 /// What a run has from its files, which say this.
-pub(crate) fn prepare(
-    alloc: Global,
+pub(crate) fn prepared_from(
     said: ModelFile,
-    documents: Items<RawDoc>,
+    masters: Items<RawUnitDoc>,
     commands: Items<Command>,
-) -> Result<Prepared, OutOfMemory>
-    ensures { IfOk result (IsPrepared said.text said.model documents commands) }
+) -> Prepared
+    ensures { result ≡ prepared_of said masters commands }
 {
-    let ModelFile { text, model } = said;
-    let masters = masters_of(alloc, documents)?;
-    let model = Arc::new(alloc, model)?;
-    let names = Arc::try_clone(&model)?;
+    let ModelFile { text, model, names } = said;
     let inputs = Inputs {
         model: names,
         masters,
     };
-    Ok(Prepared {
+    Prepared {
         text,
         model,
         inputs,
         commands,
-    })
+    }
 }
 
 /// The masters of documents.
-fn masters_of(alloc: Global, documents: Items<RawDoc>) -> Result<Items<RawUnitDoc>, OutOfMemory>
+pub(crate) fn masters_of(
+    alloc: Global,
+    documents: Items<RawDoc>,
+) -> Result<Items<RawUnitDoc>, OutOfMemory>
     ensures { IfOk result (λ masters. masters ≡ masters_of documents) }
 {
     let mut masters = Items::new(alloc);

@@ -30,7 +30,7 @@ use script_text::Command;
 use std::alloc::Global;
 use std::sync::Wait;
 use std::thread::Threads;
-use wires::Wires;
+use unit_works::Wires;
 
 /// What is reported of what was carried out.
 #[derive(Clone, Copy, PartialEq, Eq)]

@@ -12,8 +12,8 @@ use Rattle.std.proofs.lemmas.Option.{get_or_from_slice_get, slice_get-get_or}
 use Rattle.ale_base.specs.Text.{is_text}
 use Rattle.ale_base.proofs.ListLemmas.{AllByRecursion-weaker}
 use Rattle.segment_defs.proofs.NameLemmas.{position-behind, position-here, position-name, position-none}
-use Rattle.name_tables.proofs.DistinctLemmas.{keys_more}
-use Rattle.name_tables.specs.Triple.{same_triple}
+use Rattle.dist_model.proofs.DistinctLemmas.{keys_more}
+use Rattle.dist_model.specs.Triple.{same_triple}
 use Rattle.dist_model.specs.declared.inbound.Inbound.{Inbound}
 use Rattle.dist_model.specs.declared.row.Row.{Row}
 use Rattle.dist_model.specs.Inbound.{is_inbound, IsInbound, same_inbound}

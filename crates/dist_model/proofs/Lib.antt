@@ -6,3 +6,7 @@ pub mod FieldLemmas
 pub mod IndexLemmas
 -- what is looked up through it
 pub mod LookupLemmas
+-- what is in a list, by what is seen of its elements
+pub mod SeenLemmas
+-- keys that differ
+pub mod DistinctLemmas

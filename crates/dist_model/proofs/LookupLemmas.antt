@@ -14,7 +14,7 @@ use Rattle.ale_base.proofs.ListLemmas.{Contains-at, slice_get-behind, slice_get-
 use Rattle.ale_base.proofs.MemberLemmas.{Contains-cons, Contains-nil}
 use Rattle.ale_base.proofs.OptionLemmas.{none_or_some, option_map-Some}
 use Rattle.segment_defs.proofs.NameLemmas.{position-name, position-none, position-only}
-use Rattle.name_tables.specs.Triple.{same_triple}
+use Rattle.dist_model.specs.Triple.{same_triple}
 use Rattle.dist_model.specs.declared.inbound.Inbound.{Inbound}
 use Rattle.dist_model.specs.declared.lists.Lists.{Lists}
 use Rattle.dist_model.specs.declared.message.Message.{Message}

@@ -16,3 +16,5 @@ pub mod Inbound
 pub mod Model
 -- what the index of a model holds
 pub mod Index
+-- triples of numbers
+pub mod Triple

@@ -1,6 +1,6 @@
 -- Ways: from which system to which a message type goes.
 use Rattle.std.specs.Prelude.{◌≡◌, ℕ, ◌<◌, ◌≤◌, Bool, List, map}
-use Rattle.name_tables.specs.Triple.{same_triple}
+use Rattle.dist_model.specs.Triple.{same_triple}
 use Rattle.dist_model.specs.declared.row.Row.{Row}
 use Rattle.dist_model.specs.declared.outbound.Outbound.{Outbound}
 

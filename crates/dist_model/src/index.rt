@@ -10,9 +10,8 @@ ghost use Rattle.dist_model.specs.Inbound.{same_inbound};
 ghost use Rattle.dist_model.specs.Model.{HasProfile, IsModel};
 ghost use Rattle.dist_model.specs.Index.{AreProfilesOf, AreRowsOf, inbound_triple, IsIndexOf};
 
-use crate::{Inbound, Lists, Message, Outbound, Reduced, Row};
+use crate::{Inbound, Lists, Message, Names, Outbound, Reduced, Row, Triples};
 use ale_base::{Items, OutOfMemory};
-use name_tables::{Names, Triples};
 use std::alloc::Global;
 
 /// Where in the lists of a model stands what is looked up for each document. `IsIndexOf` says what the fields are.

@@ -1,9 +1,10 @@
 //! The distribution model of a landscape: its releases and systems, segment types and IDoc types, and what is sent from
-//! which system to which.
+//! which system to which; and tables of names and numbers that know the place of each.
 //!
 //! Contract: what all models keep is `IsModel`, by the type `Model`. `Model::system`, `message`, `receivers`, `outbound` and
-//! `inbound` find exactly what a name, a sender, a row or a way stands for. The definitions are in `specs/`, a module a
-//! section of the model; `Model` has those over all.
+//! `inbound` find exactly what a name, a sender, a row or a way stands for. A table (`Names`, `Numbers`, `Triples`) is the list of
+//! what was added to it, in order and each once, and `place` finds the first place exactly. The definitions are in `specs/`, a
+//! module a section of the model; `Model` has those over all, and `Triple` equal triples.
 #![tactic(auto)]
 
 mod fields;
@@ -15,9 +16,12 @@ mod limits;
 mod lists;
 mod message;
 mod model;
+mod names;
+mod numbers;
 mod outbound;
 mod row;
 mod system;
+mod triples;
 
 pub use fields::{all_fields, entries_at, field_named, has_entry, message_entries};
 pub use filter::{FieldPlace, Filter};
@@ -32,6 +36,9 @@ pub use limits::{
 pub use lists::Lists;
 pub use message::{Message, MessageNo, PostingMode, Reduced};
 pub use model::Model;
+pub use names::Names;
+pub use numbers::Numbers;
 pub use outbound::{Convert, Outbound, QueueRule};
 pub use row::{Choice, Group, Row, RowNo};
 pub use system::System;
+pub use triples::Triples;

@@ -13,8 +13,8 @@ use Rattle.unit_core.proofs.TidLemmas.{unit_named-Some}
 use Rattle.dist_model.specs.declared.lists.Lists.{Lists}
 use Rattle.inbound_post.specs.Prepared.{prepared}
 use Rattle.said_models.specs.OfLog.{model_of}
-use Rattle.document_tables.specs.OfLog.{applied_by, postings_behind}
-use Rattle.document_tables.specs.declared.document_tables.DocumentTables.{DocumentTables}
+use Rattle.document_state.specs.OfLog.{applied_by, postings_behind}
+use Rattle.document_state.specs.declared.document_tables.DocumentTables.{DocumentTables}
 use Rattle.trfc_protocol.specs.declared.event.Event.{Event}
 use Rattle.trfc_protocol.specs.declared.held.Held.{Held}
 use Rattle.trfc_protocol.specs.declared.held.HeldKind.TheVariants.{Direct}
@@ -27,7 +27,7 @@ use Rattle.kept_world.specs.Kept.{KeptOf}
 use Rattle.unit_landscape.specs.Kept.{IsLandscape}
 use Rattle.unit_landscape.specs.declared.claims.InClaim.{InClaim}
 use Rattle.unit_landscape.specs.declared.claims.OutClaim.{OutClaim}
-use Rattle.model_rules.specs.declared.model_rules.ModelRules.{ModelRules}
+use Rattle.document_state.specs.declared.model_rules.ModelRules.{ModelRules}
 use Rattle.landscape.specs.Standing.{StandAt}
 use Rattle.landscape.specs.Working.{IsPreparedFor}
 use Rattle.unit_works.specs.Events.{is_claim, is_run, is_work}

@@ -8,8 +8,8 @@ use Rattle.ale_base.specs.Tid.{TidOf}
 use Rattle.inbound_post.specs.declared.prepared.Prepared.{Prepared}
 use Rattle.landscape.specs.Working.{IsPreparedFor}
 use Rattle.kept_world.specs.Kept.{KeptOf}
-use Rattle.document_tables.specs.declared.document_tables.DocumentTables.{DocumentTables}
-use Rattle.model_rules.specs.declared.model_rules.ModelRules.{ModelRules}
+use Rattle.document_state.specs.declared.document_tables.DocumentTables.{DocumentTables}
+use Rattle.document_state.specs.declared.model_rules.ModelRules.{ModelRules}
 use Rattle.unit_works.specs.Acts.{Act, HaveActed}
 use Rattle.unit_works.specs.Claims.{NoneRuns}
 use Rattle.unit_works.specs.Drained.{TakesOnce, is_round}

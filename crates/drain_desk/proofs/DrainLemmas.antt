@@ -12,8 +12,8 @@ use Rattle.trfc_protocol.specs.declared.world.World.{World}
 use Rattle.trfc_protocol.specs.Worlds.{is_kind}
 use Rattle.kept_world.specs.Kept.{KeptOf}
 use Rattle.kept_world.specs.Answers.{KeepsVolumes}
-use Rattle.document_tables.specs.declared.document_tables.DocumentTables.{DocumentTables}
-use Rattle.model_rules.specs.declared.model_rules.ModelRules.{ModelRules}
+use Rattle.document_state.specs.declared.document_tables.DocumentTables.{DocumentTables}
+use Rattle.document_state.specs.declared.model_rules.ModelRules.{ModelRules}
 use Rattle.unit_landscape.specs.Ends.{Happened}
 use Rattle.unit_landscape.specs.Kept.{IsLandscape}
 use Rattle.unit_works.specs.Drained.{is_round}

@@ -15,8 +15,8 @@ use Rattle.trfc_protocol.specs.declared.world.World.{World}
 use Rattle.trfc_protocol.specs.Offered.{is_stopped_inbound, is_stopped_outbound}
 use Rattle.trfc_protocol.specs.Worlds.{committed_unit, log_of}
 use Rattle.kept_world.specs.Kept.{KeptOf}
-use Rattle.document_tables.specs.declared.document_tables.DocumentTables.{DocumentTables}
-use Rattle.model_rules.specs.declared.model_rules.ModelRules.{ModelRules}
+use Rattle.document_state.specs.declared.document_tables.DocumentTables.{DocumentTables}
+use Rattle.document_state.specs.declared.model_rules.ModelRules.{ModelRules}
 use Rattle.unit_works.specs.Events.{is_works_record}
 use Rattle.unit_works.specs.Went.{HaveWorksBehind}
 use Rattle.unit_works.specs.Worked.{HaveOnlyClaimed}

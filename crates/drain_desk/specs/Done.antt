@@ -2,11 +2,11 @@
 use Rattle.std.specs.Prelude.{◌≡◌, ℕ, Bool, true, false}
 use Rattle.trfc_protocol.specs.declared.held.Held.{Held}
 use Rattle.kept_world.specs.Kept.{KeptOf}
-use Rattle.document_tables.specs.declared.document_tables.DocumentTables.{DocumentTables}
-use Rattle.model_rules.specs.declared.model_rules.ModelRules.{ModelRules}
+use Rattle.document_state.specs.declared.document_tables.DocumentTables.{DocumentTables}
+use Rattle.document_state.specs.declared.model_rules.ModelRules.{ModelRules}
 use Rattle.unit_landscape.specs.Appending.{HoldsIn}
 use Rattle.unit_landscape.specs.Calls.{stands_in, stands_out}
-use Rattle.wires.specs.Wires.{letters_left, next_letter}
+use Rattle.unit_works.specs.Wires.{letters_left, next_letter}
 use Rattle.unit_works.specs.Acts.{HasExecuted, HasShipped}
 use Rattle.unit_works.specs.Worked.{Lines}
 use Rattle.drain_desk.specs.declared.work.Task.{Task}

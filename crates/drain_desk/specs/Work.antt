@@ -7,8 +7,8 @@ use Rattle.inbound_post.specs.Prepared.{prepared}
 use Rattle.trfc_protocol.specs.declared.world.World.{World}
 use Rattle.trfc_protocol.specs.Offered.{is_stopped_inbound, is_stopped_outbound}
 use Rattle.trfc_protocol.specs.Worlds.{committed_unit, log_of}
-use Rattle.model_rules.specs.declared.model_rules.ModelRules.{ModelRules}
-use Rattle.model_rules.specs.Meaning.{model_meaning}
+use Rattle.document_state.specs.declared.model_rules.ModelRules.{ModelRules}
+use Rattle.document_state.specs.Meaning.{model_meaning}
 use Rattle.landscape.specs.Working.{IsPreparedFor}
 use Rattle.drain_desk.specs.declared.began.Began.{Began}
 use Rattle.drain_desk.specs.declared.work.Basis.{Basis}

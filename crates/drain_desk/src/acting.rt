@@ -15,8 +15,7 @@ use inbound_post::Prepared;
 use landscape::Landscape;
 use std::alloc::Global;
 use unit_landscape::{InClaim, OutClaim};
-use unit_works::{execute_claimed, ship_claimed};
-use wires::Wires;
+use unit_works::{Wires, execute_claimed, ship_claimed};
 
 /// Does a task, with what was prepared for it, where its claim stands. How many runs and executions ended.
 pub(crate) fn perform<V: Volumes>(

@@ -5,7 +5,7 @@ ghost use Rattle.std.specs.Prelude.{◌≡◌};
 use ale_volumes::Volumes;
 use landscape::Landscape;
 use std::snapshot::Snapshot;
-use wires::Wires;
+use unit_works::Wires;
 
 /// The landscape and the letters with which a drain began, as contracts see them. It has no bytes.
 #[derive(Drop)]

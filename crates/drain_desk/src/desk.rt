@@ -13,7 +13,7 @@ use landscape::Landscape;
 use std::alloc::Global;
 use std::marker::Model;
 use std::snapshot::Snapshot;
-use wires::Wires;
+use unit_works::Wires;
 
 /// What the workers of a drain share: the landscape and the letters, with which they began, and how many runs and executions have ended.
 #[derive(Drop)]

@@ -15,8 +15,7 @@ use landscape::Landscape;
 use std::alloc::Global;
 use std::sync::Wait;
 use std::thread::Threads;
-use unit_works::{confirm_all, go_rounds};
-use wires::Wires;
+use unit_works::{Wires, confirm_all, go_rounds};
 
 /// A landscape that was drained, the letters that are left, and how many runs and executions ended.
 #[derive(Drop)]

@@ -8,9 +8,8 @@ ghost use Rattle.filter_objects.specs.FromLeaves.{passes};
 ghost use Rattle.filter_objects.specs.steps.Conditions.{HasDefinition, HasSame, is_one_of, suits, suits_all};
 
 use ale_base::{Items, OutOfMemory};
-use dist_model::{Group, Lists};
+use dist_model::{Group, Lists, Names};
 use idoc_tree::Node;
-use name_tables::Names;
 use segment_defs::{Definitions, TypeNo, cut};
 use std::alloc::Global;
 

@@ -24,7 +24,7 @@ use Rattle.world_tables.specs.Noting.{IsToNote}
 use Rattle.world_tables.proofs.InStepLemmas.{ChangedAt-same, ChangedAt-then, StandsUp, stands_up, in_step-down}
 use Rattle.world_tables.proofs.JoiningLemmas.{in_step-noted, in_step-fallen}
 use Rattle.world_tables.proofs.EnteringLemmas.{last-entered, systems-changed}
-use Rattle.system_journals.specs.declared.journals.SystemJournals.{SystemJournals}
+use Rattle.unit_journal.specs.declared.journals.SystemJournals.{SystemJournals}
 use Rattle.kept_world.specs.declared.append_end.AppendEnd.{AppendEnd}
 use Rattle.kept_world.specs.declared.append_end.AppendEnd.TheVariants.{After}
 use Rattle.kept_world.specs.Appending.{IsBehind, FullAs}

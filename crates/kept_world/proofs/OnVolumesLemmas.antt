@@ -13,11 +13,11 @@ use Rattle.world_tables.specs.Joining.{without_named}
 use Rattle.world_tables.specs.Changed.{ChangedAt}
 use Rattle.world_tables.proofs.InStepLemmas.{ChangedAt-same, stands_up}
 use Rattle.world_tables.proofs.EnteringLemmas.{systems-changed}
-use Rattle.system_journals.specs.declared.journals.SystemJournals.{SystemJournals}
-use Rattle.system_journals.specs.OnDisk.{moments_at, AreInOrder, IsOnDisk, IsLeftOnDisk}
-use Rattle.system_journals.specs.Changes.{OnlyAt, with_moment}
-use Rattle.system_journals.proofs.KeptLemmas.{HaveMoments-one, IsLeft-of, IsOnDisk-same, IsLeftOnDisk-same, IsOnDisk-with_moment, IsLeftOnDisk-with_moment}
-use Rattle.system_journals.proofs.OrderLemmas.{AreInOrder-same}
+use Rattle.unit_journal.specs.declared.journals.SystemJournals.{SystemJournals}
+use Rattle.unit_journal.specs.OnDisk.{moments_at, AreInOrder, IsOnDisk, IsLeftOnDisk}
+use Rattle.unit_journal.specs.Changes.{OnlyAt, with_moment}
+use Rattle.unit_journal.proofs.KeptLemmas.{HaveMoments-one, IsLeft-of, IsOnDisk-same, IsLeftOnDisk-same, IsOnDisk-with_moment, IsLeftOnDisk-with_moment}
+use Rattle.unit_journal.proofs.OrderLemmas.{AreInOrder-same}
 use Rattle.kept_world.specs.OnVolumes.{AreOnVolumes}
 
 -- a claim that goes leaves the systems

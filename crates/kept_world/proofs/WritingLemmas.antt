@@ -14,9 +14,9 @@ use Rattle.world_tables.specs.Entered.{IsEntered}
 use Rattle.world_tables.specs.InStep.{AreInStepWith}
 use Rattle.world_tables.proofs.InStepLemmas.{stands_up}
 use Rattle.world_tables.proofs.EnteringLemmas.{last-entered}
-use Rattle.system_journals.specs.declared.journals.SystemJournals.{SystemJournals}
-use Rattle.system_journals.specs.OnDisk.{moments_at, AreInOrder}
-use Rattle.system_journals.proofs.OrderLemmas.{AreInOrder-grown}
+use Rattle.unit_journal.specs.declared.journals.SystemJournals.{SystemJournals}
+use Rattle.unit_journal.specs.OnDisk.{moments_at, AreInOrder}
+use Rattle.unit_journal.proofs.OrderLemmas.{AreInOrder-grown}
 use Rattle.kept_world.specs.declared.append_end.AppendEnd.{AppendEnd}
 use Rattle.kept_world.specs.declared.append_end.AppendEnd.TheVariants.{Volume}
 use Rattle.kept_world.specs.Kept.{IsKept, kept_of}

@@ -11,9 +11,9 @@ use Rattle.trfc_protocol.specs.Meaning.{Meaning}
 use Rattle.trfc_protocol.specs.Worlds.{log_of, is_up, with_record, with_fall}
 use Rattle.trfc_protocol.specs.Safe.{AreApart}
 use Rattle.system_tables.specs.Tables.{TablesOf, entered}
-use Rattle.system_journals.specs.declared.journals.SystemJournals.{SystemJournals}
-use Rattle.system_journals.specs.OnDisk.{next_moment, moments_at, entries_at, length_with}
-use Rattle.system_journals.specs.Changes.{OnlyAt}
+use Rattle.unit_journal.specs.declared.journals.SystemJournals.{SystemJournals}
+use Rattle.unit_journal.specs.OnDisk.{next_moment, moments_at, entries_at, length_with}
+use Rattle.unit_journal.specs.Changes.{OnlyAt}
 use Rattle.world_tables.specs.declared.world_tables.WorldTables.{WorldTables}
 use Rattle.world_tables.specs.Changed.{ChangedAt}
 use Rattle.world_tables.specs.InStep.{AreInStepWith}

@@ -7,7 +7,7 @@ use Rattle.trfc_protocol.specs.Meaning.{Meaning}
 use Rattle.system_tables.specs.Tables.{TablesOf}
 use Rattle.world_tables.specs.InStep.{AreInStepWith}
 use Rattle.world_tables.specs.declared.world_tables.WorldTables.{WorldTables}
-use Rattle.system_journals.specs.declared.journals.SystemJournals.{SystemJournals}
+use Rattle.unit_journal.specs.declared.journals.SystemJournals.{SystemJournals}
 use Rattle.kept_world.specs.OnVolumes.{AreOnVolumes}
 use Rattle.kept_world.specs.Overruns.{no_overruns, overrun_in, AreOverrunsOf}
 

@@ -2,8 +2,8 @@
 use Rattle.std.specs.Prelude.{◌≡◌, ℕ, ◌≤◌, true, false, Some, List, length, slice_get}
 use Rattle.ale_volumes.specs.declared.volume.Volume.{Volume}
 use Rattle.trfc_protocol.specs.declared.world.SystemState.{SystemState}
-use Rattle.system_journals.specs.declared.journals.SystemJournals.{SystemJournals}
-use Rattle.system_journals.specs.OnDisk.{count_of, HaveMoments, moments_at, AreInOrder, IsOnDisk, IsLeftOnDisk}
+use Rattle.unit_journal.specs.declared.journals.SystemJournals.{SystemJournals}
+use Rattle.unit_journal.specs.OnDisk.{count_of, HaveMoments, moments_at, AreInOrder, IsOnDisk, IsLeftOnDisk}
 
 -- the log of each system that is up is on the disk for good; of one that is down, a crash leaves the log, perhaps with the record that
 -- it was writing as it fell; of both the moments of the log are in order

@@ -11,10 +11,10 @@ use ale_base::{OutOfMemory, SystemNo, Tid, Way};
 use ale_volumes::Volumes;
 use std::alloc::Global;
 use std::marker::Model;
-use system_journals::SystemJournals;
 use system_tables::Application;
 use trfc_protocol::{Rules, World};
 use unit_core::{AleUnit, Record};
+use unit_journal::SystemJournals;
 use world_tables::{ClaimEnd, WorldTables};
 
 /// A world, the tables of its systems, their journals, and the volumes; and how long those would have been that a record did not fit on.
@@ -63,8 +63,8 @@ impl<R: Rules, A: Application, V: Volumes> KeptWorld<R, A, V> {
     ghost use Rattle.plain_queues.specs.LogQueues.{HaveOneSender, units_of};
     ghost use Rattle.system_tables.specs.Tables.{TablesOf};
     ghost use Rattle.world_tables.specs.Claims.{kind_of};
-    ghost use Rattle.system_journals.specs.OnDisk.{next_moment, moments_at, entries_at};
-    ghost use Rattle.system_journals.specs.Changes.{with_moment};
+    ghost use Rattle.unit_journal.specs.OnDisk.{next_moment, moments_at, entries_at};
+    ghost use Rattle.unit_journal.specs.Changes.{with_moment};
     ghost use Rattle.world_tables.specs.Answers.{IsAnswered};
     ghost use Rattle.kept_world.specs.Answers.{IsAnsweredBy, KeepsVolumes};
     ghost use Rattle.kept_world.specs.Kept.{IsKept, kept_of, overrun_at};

@@ -12,7 +12,7 @@ ghost use Rattle.trfc_protocol.specs.Worlds.{is_up, last_of, log_of, with_fall};
 ghost use Rattle.world_tables.specs.declared.world_tables.WorldTables.{WorldTables};
 ghost use Rattle.world_tables.specs.Entered.{IsEntered, HasCount};
 ghost use Rattle.world_tables.specs.InStep.{AreInStepWith};
-ghost use Rattle.system_journals.specs.OnDisk.{next_moment, entries_at, IsOnDisk};
+ghost use Rattle.unit_journal.specs.OnDisk.{next_moment, entries_at, IsOnDisk};
 ghost use Rattle.kept_world.specs.Kept.{IsKept, kept_of};
 ghost use Rattle.kept_world.specs.Appending.{EndedAs, FullAs, JournalsAs, UnchangedAs, IsToWrite, IsWritten};
 ghost use Rattle.kept_world.specs.steps.Writing.{CanConclude, ConcludedAs, IsWriteOf, ended_by};
@@ -22,10 +22,10 @@ use ale_base::SystemNo;
 use ale_volumes::Volumes;
 use byte_journal::AppendFault;
 use std::alloc::Global;
-use system_journals::SystemJournals;
 use system_tables::Application;
 use trfc_protocol::Rules;
 use unit_core::{AleUnit, Record};
+use unit_journal::SystemJournals;
 use world_tables::WorldTables;
 
 /// A record joins the log of a system and its units its table of units, and it is written on the system's volume. No other table is

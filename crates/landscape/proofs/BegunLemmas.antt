@@ -51,10 +51,10 @@ use Rattle.unit_landscape.specs.Ends.{Happened, Failed, Overflowed, Stays, FellB
 use Rattle.unit_landscape.specs.Appending.{at}
 use Rattle.unit_landscape.specs.Kept.{IsLandscape}
 use Rattle.unit_landscape.proofs.EndsLemmas.{landscape-step}
-use Rattle.document_tables.specs.declared.document_tables.DocumentTables.{DocumentTables}
-use Rattle.model_rules.specs.declared.model_rules.ModelRules.{ModelRules}
-use Rattle.model_rules.specs.Meaning.{model_meaning}
-use Rattle.model_rules.specs.LawfulLemmas.{lawful}
+use Rattle.document_state.specs.declared.document_tables.DocumentTables.{DocumentTables}
+use Rattle.document_state.specs.declared.model_rules.ModelRules.{ModelRules}
+use Rattle.document_state.specs.Meaning.{model_meaning}
+use Rattle.document_state.specs.LawfulLemmas.{lawful}
 use Rattle.landscape.specs.Begun.{IsBegun, AreBegun}
 
 -- what the rules of a landscape mean

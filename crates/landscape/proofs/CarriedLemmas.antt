@@ -27,16 +27,16 @@ use Rattle.unit_landscape.specs.Appending.{at}
 use Rattle.unit_landscape.specs.Ends.{AppendsAs, Stays}
 use Rattle.unit_landscape.specs.Kept.{IsLandscape}
 use Rattle.unit_landscape.proofs.OperatingLemmas.{up-others}
-use Rattle.document_tables.specs.declared.document_tables.DocumentTables.{DocumentTables}
-use Rattle.document_tables.specs.declared.made.Made.TheVariants as made
-use Rattle.document_tables.specs.Made.{GoesWith}
-use Rattle.document_tables.specs.OfLog.{added_behind}
-use Rattle.model_rules.specs.declared.model_rules.ModelRules.{ModelRules}
-use Rattle.model_rules.specs.Allowed.{allowed, allowed_under}
-use Rattle.model_rules.specs.LawfulLemmas.{committed-push}
-use Rattle.command_records.specs.declared.wanted.Wanted.{Wanted}
-use Rattle.command_records.specs.Asked.{Asked}
-use Rattle.command_records.specs.Judged.{IsWanted, JudgedAs, JudgedOrNone}
+use Rattle.document_state.specs.declared.document_tables.DocumentTables.{DocumentTables}
+use Rattle.document_state.specs.declared.made.Made.TheVariants as made
+use Rattle.document_state.specs.Made.{GoesWith}
+use Rattle.document_state.specs.OfLog.{added_behind}
+use Rattle.document_state.specs.declared.model_rules.ModelRules.{ModelRules}
+use Rattle.document_state.specs.Allowed.{allowed, allowed_under}
+use Rattle.document_state.specs.LawfulLemmas.{committed-push}
+use Rattle.landscape.specs.declared.wanted.Wanted.{Wanted}
+use Rattle.landscape.specs.Asked.{Asked}
+use Rattle.landscape.specs.steps.Judged.{IsWanted, JudgedAs, JudgedOrNone}
 use Rattle.landscape.specs.declared.counts.Gathered.{Gathered}
 use Rattle.landscape.specs.Carried.{CarriedAs, DiskAsked, asked_at, counts_asked}
 use Rattle.landscape.specs.Standing.{StandAt}

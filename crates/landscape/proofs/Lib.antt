@@ -12,3 +12,9 @@ pub mod OperatorLemmas
 pub mod OpeningLemmas
 -- the unit of a claim, and what goes with its record
 pub mod WorkingLemmas
+-- what a command asks for, by what is found under the model in force
+pub mod JudgedLemmas
+-- what a command asks for may follow the log
+pub mod AllowedLemmas
+-- what a command appends can be written
+pub mod WritableLemmas

@@ -24,9 +24,9 @@ use Rattle.said_models.specs.Said.{said}
 use Rattle.trfc_protocol.specs.declared.world.World.{World}
 use Rattle.trfc_protocol.specs.Start.{first_state, first_world, genesis_log, genesis_logs}
 use Rattle.trfc_protocol.specs.Worlds.{log_of, log_or_none, state_of, with_record}
-use Rattle.system_journals.specs.declared.journals.SystemJournals.{SystemJournals}
-use Rattle.system_journals.specs.Changes.{SameAt}
-use Rattle.system_journals.specs.OnDisk.{count_of, moment_of, moments_at}
+use Rattle.unit_journal.specs.declared.journals.SystemJournals.{SystemJournals}
+use Rattle.unit_journal.specs.Changes.{SameAt}
+use Rattle.unit_journal.specs.OnDisk.{count_of, moment_of, moments_at}
 use Rattle.kept_world.specs.Kept.{KeptOf}
 use Rattle.landscape_opening.specs.declared.beginning.BeginEnd.{BeginEnd}
 use Rattle.landscape_opening.specs.declared.beginning.BeginEnd.TheVariants as begin
@@ -36,8 +36,8 @@ use Rattle.landscape_opening.specs.declared.opening.fault.OpenFault.TheVariants 
 use Rattle.landscape_opening.specs.Beginning.{BegunAs, HasBegun, HasFirst}
 use Rattle.landscape_opening.specs.Opening.{HasFailed, HoldsRecords, IsOpened, NotEmptyAs, OpenedAs, begun_logs, begun_world, vols_of}
 use Rattle.landscape_opening.proofs.BegunLemmas.{begun-empty, begun-next, begun-no_claims}
-use Rattle.document_tables.specs.declared.document_tables.DocumentTables.{DocumentTables}
-use Rattle.model_rules.specs.declared.model_rules.ModelRules.{ModelRules}
+use Rattle.document_state.specs.declared.document_tables.DocumentTables.{DocumentTables}
+use Rattle.document_state.specs.declared.model_rules.ModelRules.{ModelRules}
 use Rattle.landscape.specs.declared.open_end.OpenEnd.{OpenEnd}
 use Rattle.landscape.specs.declared.open_end.OpenWhy.{OpenWhy}
 use Rattle.landscape.specs.declared.open_end.OpenWhy.TheVariants.{OutOfMemory, Volume}

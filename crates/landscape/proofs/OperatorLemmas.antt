@@ -32,9 +32,9 @@ use Rattle.unit_landscape.specs.Kept.{IsLandscape}
 use Rattle.unit_landscape.specs.Late.{LateAs}
 use Rattle.unit_landscape.specs.Writes.{DiskAs}
 use Rattle.unit_landscape.proofs.OperatingLemmas.{up-others}
-use Rattle.document_tables.specs.declared.document_tables.DocumentTables.{DocumentTables}
-use Rattle.model_rules.specs.declared.model_rules.ModelRules.{ModelRules}
-use Rattle.command_records.specs.Asked.{Asked}
+use Rattle.document_state.specs.declared.document_tables.DocumentTables.{DocumentTables}
+use Rattle.document_state.specs.declared.model_rules.ModelRules.{ModelRules}
+use Rattle.landscape.specs.Asked.{Asked}
 use Rattle.landscape.specs.Carried.{CarriedAs, DiskAsked, asked_at, operator_event}
 use Rattle.landscape.specs.Operator.{asked_queue, asked_retry, number_to, start_of, stop_of, way_at, way_to}
 use Rattle.landscape.specs.Working.{CameOrRefused, late_of}

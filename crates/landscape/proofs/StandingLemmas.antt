@@ -13,14 +13,14 @@ use Rattle.world_tables.specs.InStep.{AreInStepWith}
 use Rattle.world_tables.proofs.InStepLemmas.{stands_up}
 use Rattle.kept_world.proofs.AnswersLemmas.{tables-at, tables-there}
 use Rattle.unit_landscape.specs.Kept.{IsLandscape}
-use Rattle.document_tables.specs.declared.document_tables.DocumentTables.{DocumentTables}
-use Rattle.document_tables.specs.Tables.{AreTablesOf}
-use Rattle.model_rules.specs.declared.model_rules.ModelRules.{ModelRules}
-use Rattle.model_rules.specs.Meaning.{model_meaning}
-use Rattle.model_rules.proofs.LegalLogLemmas.{sent-system, applied-system, has-model}
+use Rattle.document_state.specs.declared.document_tables.DocumentTables.{DocumentTables}
+use Rattle.document_state.specs.Tables.{AreTablesOf}
+use Rattle.document_state.specs.declared.model_rules.ModelRules.{ModelRules}
+use Rattle.document_state.specs.Meaning.{model_meaning}
+use Rattle.document_state.proofs.LegalLogLemmas.{sent-system, applied-system, has-model}
 use Rattle.landscape.specs.Begun.{IsBegun, AreBegun}
 use Rattle.landscape.specs.Standing.{StandAt, StandIfUp}
-use Rattle.command_records.proofs.JudgedLemmas.{model-kept}
+use Rattle.landscape.proofs.JudgedLemmas.{model-kept}
 use Rattle.landscape.proofs.BegunLemmas.{meaning}
 
 -- what a legal log is that begins with a model of so many systems

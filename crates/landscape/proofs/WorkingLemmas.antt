@@ -27,12 +27,12 @@ use Rattle.trfc_protocol.proofs.SafeLemmas.{IsRun-due, hold, received-is}
 use Rattle.unit_landscape.specs.declared.claims.InClaim.{InClaim}
 use Rattle.unit_landscape.specs.Calls.{is_offered_function, is_on, is_out, stands_in}
 use Rattle.unit_landscape.specs.Kept.{IsLandscape}
-use Rattle.document_tables.specs.declared.made.Made.{Made}
-use Rattle.document_tables.specs.declared.made.Made.TheVariants.{Executed, Nothing, Postings, Sent}
-use Rattle.document_tables.specs.Made.{GoesWith}
-use Rattle.document_tables.specs.OfLog.{postings_behind}
-use Rattle.model_rules.specs.declared.model_rules.ModelRules.{ModelRules}
-use Rattle.model_rules.proofs.LegalLogLemmas.{received-applied}
+use Rattle.document_state.specs.declared.made.Made.{Made}
+use Rattle.document_state.specs.declared.made.Made.TheVariants.{Executed, Nothing, Postings, Sent}
+use Rattle.document_state.specs.Made.{GoesWith}
+use Rattle.document_state.specs.OfLog.{postings_behind}
+use Rattle.document_state.specs.declared.model_rules.ModelRules.{ModelRules}
+use Rattle.document_state.proofs.LegalLogLemmas.{received-applied}
 use Rattle.landscape.specs.Begun.{AreBegun}
 use Rattle.landscape.specs.Working.{IsExecuted, IsKindOf, IsMadeFor, IsPreparedFor}
 use Rattle.landscape.proofs.BegunLemmas.{meaning, is_lawful}

@@ -6,7 +6,7 @@ use Rattle.unit_core.specs.declared.records.Record.TheVariants.{Genesis}
 use Rattle.said_models.specs.Said.{said}
 use Rattle.trfc_protocol.specs.declared.world.World.{World}
 use Rattle.trfc_protocol.specs.Worlds.{log_of}
-use Rattle.model_rules.specs.declared.model_rules.ModelRules.{ModelRules}
+use Rattle.document_state.specs.declared.model_rules.ModelRules.{ModelRules}
 
 -- a log begins with the Genesis of its system, whose text says a model of so many systems
 pub record IsBegun (systems system : ℕ) (log : List Record) : Type 0 where

@@ -18,12 +18,12 @@ use Rattle.kept_world.specs.Answers.{KeepsVolumes}
 use Rattle.unit_landscape.specs.Ends.{Happened, Failed, IsFull, Stays, FellBehind}
 use Rattle.unit_landscape.specs.Writes.{WritesOnly}
 use Rattle.unit_landscape.specs.Appending.{at}
-use Rattle.document_tables.specs.declared.document_tables.DocumentTables.{DocumentTables}
-use Rattle.document_tables.specs.OfLog.{added_behind, applied_by}
+use Rattle.document_state.specs.declared.document_tables.DocumentTables.{DocumentTables}
+use Rattle.document_state.specs.OfLog.{added_behind, applied_by}
 use Rattle.inbound_post.specs.Application.{statuses_at}
-use Rattle.model_rules.specs.declared.model_rules.ModelRules.{ModelRules}
-use Rattle.model_rules.specs.Meaning.{model_meaning}
-use Rattle.command_records.specs.Asked.{Asked}
+use Rattle.document_state.specs.declared.model_rules.ModelRules.{ModelRules}
+use Rattle.document_state.specs.Meaning.{model_meaning}
+use Rattle.landscape.specs.Asked.{Asked}
 use Rattle.landscape.specs.declared.counts.Gathered.{Gathered}
 use Rattle.landscape.specs.declared.counts.Sent.{Sent}
 

@@ -4,8 +4,8 @@ use Rattle.unit_core.specs.declared.records.Record.{Record}
 use Rattle.unit_core.specs.declared.records.Record.TheVariants.{Commit, Accept, Direct, Execute, Ended}
 use Rattle.trfc_protocol.specs.declared.world.World.{World}
 use Rattle.trfc_protocol.specs.Worlds.{committed_by, is_up, log_of}
-use Rattle.model_rules.specs.declared.model_rules.ModelRules.{ModelRules}
-use Rattle.model_rules.specs.Meaning.{model_meaning}
+use Rattle.document_state.specs.declared.model_rules.ModelRules.{ModelRules}
+use Rattle.document_state.specs.Meaning.{model_meaning}
 use Rattle.landscape.specs.declared.counts.Counts.{Counts}
 
 -- so many more; a number stops at the greatest one of 64 bits

@@ -14,5 +14,7 @@ pub mod Shown
 pub mod Counted
 -- a landscape that is opened over empty volumes
 pub mod Opened
+-- what a command asks for
+pub mod Asked
 -- what only private functions cite
 pub mod steps

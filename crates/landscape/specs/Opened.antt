@@ -10,11 +10,11 @@ use Rattle.unit_codec.specs.Entries.{entry_with}
 use Rattle.unit_journal.specs.Log.{Stands, UnreadAt}
 use Rattle.unit_journal.specs.Settled.{IsBeforeOrAfter}
 use Rattle.trfc_protocol.specs.Start.{first_world, genesis_logs}
-use Rattle.system_journals.specs.OnDisk.{moment_of, moments_at}
+use Rattle.unit_journal.specs.OnDisk.{moment_of, moments_at}
 use Rattle.kept_world.specs.Kept.{KeptOf}
 use Rattle.landscape_opening.specs.Opening.{HoldsRecords}
-use Rattle.document_tables.specs.declared.document_tables.DocumentTables.{DocumentTables}
-use Rattle.model_rules.specs.declared.model_rules.ModelRules.{ModelRules}
+use Rattle.document_state.specs.declared.document_tables.DocumentTables.{DocumentTables}
+use Rattle.document_state.specs.declared.model_rules.ModelRules.{ModelRules}
 use Rattle.landscape.specs.declared.open_end.OpenEnd.{OpenEnd}
 use Rattle.landscape.specs.declared.open_end.OpenWhy.{OpenWhy}
 use Rattle.landscape.specs.declared.open_end.OpenWhy.TheVariants.{NotBuilt, OutOfMemory, Volume}

@@ -9,8 +9,8 @@ use Rattle.unit_core.specs.declared.records.Record.TheVariants.{Retry, Start, St
 use Rattle.unit_codec.specs.Fields.{is_queue}
 use Rattle.status_log.specs.declared.refusal.Refusal.TheVariants.{N5, N6}
 use Rattle.trfc_protocol.specs.Legal.{is_destination, is_open_at}
-use Rattle.model_rules.specs.Meaning.{model_meaning}
-use Rattle.command_records.specs.Asked.{Asked}
+use Rattle.document_state.specs.Meaning.{model_meaning}
+use Rattle.landscape.specs.Asked.{Asked}
 
 -- a queue of units that go to a destination is outbound; without one it is a queue of units that came in
 abbrev pub way_to : Option ℕ → Way

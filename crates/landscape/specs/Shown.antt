@@ -1,12 +1,12 @@
 -- What an operator is shown of a system of a landscape.
 use Rattle.std.specs.Prelude.{◌≡◌, ℕ, ◌&&◌, Bool, true, false, List, Option, Some, None, Result, Err}
 use Rattle.ale_base.specs.Tid.{TidOf, IsTid}
-use Rattle.document_tables.specs.declared.document_tables.DocumentTables.{DocumentTables}
-use Rattle.document_tables.specs.Tables.{AreTablesOf}
+use Rattle.document_state.specs.declared.document_tables.DocumentTables.{DocumentTables}
+use Rattle.document_state.specs.Tables.{AreTablesOf}
 use Rattle.kept_world.specs.Answers.{AreTablesNow}
 use Rattle.listings.specs.Listings.{ListedAs, system_of}
-use Rattle.model_rules.specs.declared.model_rules.ModelRules.{ModelRules}
-use Rattle.model_rules.specs.Meaning.{model_meaning}
+use Rattle.document_state.specs.declared.model_rules.ModelRules.{ModelRules}
+use Rattle.document_state.specs.Meaning.{model_meaning}
 use Rattle.status_log.specs.declared.listing.Listing.{Listing}
 use Rattle.status_log.specs.declared.refusal.Refusal.{Refusal}
 use Rattle.status_log.specs.declared.refusal.Refusal.TheVariants.{N2}

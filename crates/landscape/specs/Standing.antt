@@ -3,14 +3,14 @@ use Rattle.std.specs.Prelude.{◌≡◌, ℕ, true, false, Option, Some, None, l
 use Rattle.dist_model.specs.declared.lists.Lists.{Lists}
 use Rattle.dist_model.specs.Model.{IsModel}
 use Rattle.said_models.specs.OfLog.{model_of}
-use Rattle.document_tables.specs.declared.document_tables.DocumentTables.{DocumentTables}
-use Rattle.document_tables.specs.OfLog.{sent_by, applied_by}
-use Rattle.document_tables.specs.Tables.{AreTablesOf}
+use Rattle.document_state.specs.declared.document_tables.DocumentTables.{DocumentTables}
+use Rattle.document_state.specs.OfLog.{sent_by, applied_by}
+use Rattle.document_state.specs.Tables.{AreTablesOf}
 use Rattle.trfc_protocol.specs.declared.world.World.{World}
 use Rattle.trfc_protocol.specs.Legal.{IsLegal}
 use Rattle.trfc_protocol.specs.Worlds.{is_up, log_of}
-use Rattle.model_rules.specs.declared.model_rules.ModelRules.{ModelRules}
-use Rattle.model_rules.specs.Meaning.{model_meaning}
+use Rattle.document_state.specs.declared.model_rules.ModelRules.{ModelRules}
+use Rattle.document_state.specs.Meaning.{model_meaning}
 
 -- a system is up, and these are the tables of its log, which is legal and has a model of the landscape's systems in force
 pub record StandAt (world : World ModelRules) (system : ℕ) (tables : DocumentTables) : Type 0 where

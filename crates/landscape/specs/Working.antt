@@ -18,12 +18,12 @@ use Rattle.unit_landscape.specs.declared.answers.LateEnd.TheVariants as late
 use Rattle.unit_landscape.specs.declared.claims.InClaim.{InClaim}
 use Rattle.unit_landscape.specs.Calls.{stands_in}
 use Rattle.unit_landscape.specs.Late.{LateAs}
-use Rattle.document_tables.specs.declared.document_tables.DocumentTables.{DocumentTables}
-use Rattle.document_tables.specs.declared.made.Made.{Made}
-use Rattle.document_tables.specs.declared.made.Made.TheVariants.{Executed, Postings}
-use Rattle.document_tables.specs.OfLog.{postings_behind}
-use Rattle.model_rules.specs.declared.model_rules.ModelRules.{ModelRules}
-use Rattle.model_rules.specs.Meaning.{model_meaning}
+use Rattle.document_state.specs.declared.document_tables.DocumentTables.{DocumentTables}
+use Rattle.document_state.specs.declared.made.Made.{Made}
+use Rattle.document_state.specs.declared.made.Made.TheVariants.{Executed, Postings}
+use Rattle.document_state.specs.OfLog.{postings_behind}
+use Rattle.document_state.specs.declared.model_rules.ModelRules.{ModelRules}
+use Rattle.document_state.specs.Meaning.{model_meaning}
 
 -- these are the postings of the unit of an id by the log of its receiver, under the model in force there
 abbrev pub IsPreparedFor : World ModelRules → TidOf → List DocPosting → Type 0

@@ -4,3 +4,5 @@
 pub mod Ready
 -- the steps of an opening
 pub mod Opening
+-- how a command is judged by the tables of its system
+pub mod Judged

@@ -16,8 +16,7 @@ mod working;
 use ale_base::{OutOfMemory, SystemNo, Tid};
 use ale_volumes::Volumes;
 use dist_model::Model;
-use document_tables::DocumentTables;
-use model_rules::ModelRules;
+use document_state::{DocumentTables, ModelRules};
 use std::alloc::Global;
 use std::sync::Arc;
 use trfc_protocol::World;
@@ -33,8 +32,8 @@ pub struct Landscape<V: Volumes> {
 
 impl<V: Volumes> std::marker::Model for Landscape<V> {
     ghost use Rattle.kept_world.specs.Kept.{KeptOf};
-    ghost use Rattle.document_tables.specs.declared.document_tables.DocumentTables.{DocumentTables};
-    ghost use Rattle.model_rules.specs.declared.model_rules.ModelRules.{ModelRules};
+    ghost use Rattle.document_state.specs.declared.document_tables.DocumentTables.{DocumentTables};
+    ghost use Rattle.document_state.specs.declared.model_rules.ModelRules.{ModelRules};
     ghost use Rattle.landscape.specs.Begun.{AreBegun};
 
     ghost Value = { KeptOf ModelRules DocumentTables V };
@@ -48,15 +47,15 @@ impl<V: Volumes> Landscape<V> {
     ghost use Rattle.std.specs.Prelude.{◌≡◌, ◌-◌, ◌↔◌, true, IfOk};
     ghost use Rattle.std.specs.Arc.{arc_value};
     ghost use Rattle.std.specs.Option.{option_copied, option_map};
-    ghost use Rattle.document_tables.specs.Tables.{AreTablesOf};
+    ghost use Rattle.document_state.specs.Tables.{AreTablesOf};
     ghost use Rattle.trfc_protocol.specs.Worlds.{log_of, is_up, committed_unit};
-    ghost use Rattle.system_journals.specs.OnDisk.{moments_at};
-    ghost use Rattle.system_journals.specs.Changes.{with_moment};
+    ghost use Rattle.unit_journal.specs.OnDisk.{moments_at};
+    ghost use Rattle.unit_journal.specs.Changes.{with_moment};
     ghost use Rattle.kept_world.specs.Kept.{IsKept, overrun_at};
     ghost use Rattle.unit_landscape.specs.Kept.{IsLandscape};
     ghost use Rattle.unit_landscape.specs.Calls.{stands_out};
     ghost use Rattle.unit_landscape.specs.Quiet.{IsQuiet};
-    ghost use Rattle.model_rules.specs.Meaning.{model_meaning};
+    ghost use Rattle.document_state.specs.Meaning.{model_meaning};
     ghost use Rattle.landscape.specs.Begun.{AreBegun};
     ghost use Rattle.landscape.specs.Standing.{StandIfUp, WorksBy};
 

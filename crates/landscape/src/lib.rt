@@ -1,10 +1,11 @@
 //! Systems that work by a distribution model: commands, units and their application, over volumes.
 //!
 //! Contract: a command appends exactly the record that it asks for by the log of its system, and nothing where it asks for none, or is
-//! refused exactly for the first reason that applies; each call that moves a unit is its event of the protocol, under the models that
-//! the logs name. The definitions are in `specs/`: `Begun` (what is kept), `Standing` (the tables of a system), `Carried` (what commands
-//! ask for, and how they are carried out), `Operator` (what an operator asks for), `Shown` (what an operator is shown), `Counted` (how much the logs hold), `Working` (what is prepared for
-//! the work of a claim) and `Opened` (a landscape that is opened).
+//! refused exactly for the first reason that applies; each call that moves a unit is its event of the protocol, under the models that the
+//! logs name. The definitions are in `specs/`: `Begun` (what is kept), `Standing` (the tables of a system), `Carried` (what commands ask
+//! for, and how they are carried out), `Asked` (which record a command asks for by a log, or its first refusal),
+//! `Operator` (what an operator asks for), `Shown` (what an operator is shown), `Counted` (how much the logs hold), `Working` (what is
+//! prepared for the work of a claim) and `Opened` (a landscape that is opened).
 #![tactic(auto)]
 
 mod commands;
@@ -12,6 +13,10 @@ mod counts;
 mod ids;
 mod landscape;
 mod open_end;
+mod passing;
+mod putting;
+mod sending;
+mod wanted;
 
 pub use counts::{Counts, Gathered, Sent};
 pub use landscape::Landscape;

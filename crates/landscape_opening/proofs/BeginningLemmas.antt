@@ -33,8 +33,8 @@ use Rattle.trfc_protocol.specs.Start.{first_state, genesis_log}
 use Rattle.unit_core.specs.Systems.{of_system}
 use Rattle.trfc_protocol.proofs.WorldLemmas.{less_one}
 use Rattle.trfc_protocol.proofs.StartLemmas.{Safe-of_logs}
-use Rattle.system_journals.specs.declared.journals.SystemJournals.{SystemJournals}
-use Rattle.system_journals.specs.OnDisk.{moment_of, moments_at, last_moment, later, next_moment, entries_at, IsOnDisk}
+use Rattle.unit_journal.specs.declared.journals.SystemJournals.{SystemJournals}
+use Rattle.unit_journal.specs.OnDisk.{moment_of, moments_at, last_moment, later, next_moment, entries_at, IsOnDisk}
 use Rattle.kept_world.specs.Kept.{KeptOf, IsKept}
 use Rattle.kept_world.specs.declared.append_end.AppendEnd.{AppendEnd}
 use Rattle.kept_world.specs.declared.append_end.AppendEnd.TheVariants.{Full}

@@ -26,11 +26,11 @@ use Rattle.system_tables.specs.OfLog.{AreTablesOf}
 use Rattle.system_tables.proofs.TablesLemmas.{AreTablesOf-nothing}
 use Rattle.world_tables.specs.Claims.{claim_at}
 use Rattle.world_tables.specs.InStep.{AreTablesAt, AreInStep, AreInStepWith}
-use Rattle.system_journals.specs.declared.journals.SystemJournals.{SystemJournals}
-use Rattle.system_journals.specs.OnDisk.{count_of, moments_at, AreInOrder, entries_of, IsOnDisk}
-use Rattle.system_journals.specs.Changes.{IsNext}
-use Rattle.system_journals.proofs.KeptLemmas.{IsOnDisk-same, IsLeftOnDisk-same}
-use Rattle.system_journals.proofs.OrderLemmas.{AreInOrder-same, AreInOrder-none, AreInOrder-past}
+use Rattle.unit_journal.specs.declared.journals.SystemJournals.{SystemJournals}
+use Rattle.unit_journal.specs.OnDisk.{count_of, moments_at, AreInOrder, entries_of, IsOnDisk}
+use Rattle.unit_journal.specs.Changes.{IsNext}
+use Rattle.unit_journal.proofs.KeptLemmas.{IsOnDisk-same, IsLeftOnDisk-same}
+use Rattle.unit_journal.proofs.OrderLemmas.{AreInOrder-same, AreInOrder-none, AreInOrder-past}
 use Rattle.kept_world.specs.OnVolumes.{AreOnVolumes}
 use Rattle.kept_world.specs.Overruns.{no_overruns, AreOverrunsOf}
 use Rattle.kept_world.specs.Kept.{KeptOf}

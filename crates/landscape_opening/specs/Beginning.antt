@@ -7,9 +7,9 @@ use Rattle.trfc_protocol.specs.Meaning.{Meaning}
 use Rattle.trfc_protocol.specs.Worlds.{with_record, with_fall}
 use Rattle.trfc_protocol.specs.Start.{first_state}
 use Rattle.system_tables.specs.Tables.{TablesOf}
-use Rattle.system_journals.specs.declared.journals.SystemJournals.{SystemJournals}
-use Rattle.system_journals.specs.OnDisk.{moment_of, moments_at}
-use Rattle.system_journals.specs.Changes.{OnlyAt}
+use Rattle.unit_journal.specs.declared.journals.SystemJournals.{SystemJournals}
+use Rattle.unit_journal.specs.OnDisk.{moment_of, moments_at}
+use Rattle.unit_journal.specs.Changes.{OnlyAt}
 use Rattle.kept_world.specs.Kept.{KeptOf}
 use Rattle.landscape_opening.specs.declared.beginning.TheConstants.{MOST_TEXT}
 use Rattle.landscape_opening.specs.declared.beginning.BeginEnd.{BeginEnd}

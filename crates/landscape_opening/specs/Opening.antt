@@ -13,8 +13,8 @@ use Rattle.trfc_protocol.specs.declared.world.World.{World}
 use Rattle.trfc_protocol.specs.Meaning.{Meaning}
 use Rattle.trfc_protocol.specs.Start.{first_state, first_world, genesis_log}
 use Rattle.system_tables.specs.Tables.{no_tables}
-use Rattle.system_journals.specs.OnDisk.{moments_at}
-use Rattle.system_journals.specs.Changes.{IsNext}
+use Rattle.unit_journal.specs.OnDisk.{moments_at}
+use Rattle.unit_journal.specs.Changes.{IsNext}
 use Rattle.kept_world.specs.Kept.{KeptOf, IsKept}
 use Rattle.landscape_opening.specs.declared.opening.fault.OpenFault.{OpenFault}
 use Rattle.landscape_opening.specs.declared.opening.fault.OpenFault.TheVariants.{Volume, Damaged, Unread, NotEmpty, OutOfMemory}

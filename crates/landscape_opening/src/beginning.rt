@@ -6,7 +6,7 @@ ghost use Rattle.ale_volumes.specs.Faults.{CountsFault};
 ghost use Rattle.unit_core.specs.declared.records.Record.TheVariants.{Genesis};
 ghost use Rattle.unit_codec.specs.Entries.{entry_with};
 ghost use Rattle.unit_journal.specs.Settled.{IsBeforeOrAfter};
-ghost use Rattle.system_journals.specs.OnDisk.{moment_of};
+ghost use Rattle.unit_journal.specs.OnDisk.{moment_of};
 ghost use Rattle.unit_landscape.specs.Kept.{CommitWritable};
 ghost use Rattle.landscape_opening.specs.Beginning.{IsToBegin, BegunAs, HasBegun};
 

@@ -10,9 +10,9 @@ use kept_world::KeptWorld;
 use next::open_next;
 use std::alloc::Global;
 use std::marker::Model;
-use system_journals::SystemJournals;
 use system_tables::Application;
 use trfc_protocol::{Rules, World};
+use unit_journal::SystemJournals;
 use world_tables::WorldTables;
 
 /// The systems of a landscape whose volumes are opened so far: each is up, and its log is empty.
@@ -54,7 +54,7 @@ impl<R: Rules, A: Application, V: Volumes> Opening<R, A, V> {
     ghost use Rattle.ale_volumes.specs.Faults.{CountsFault};
     ghost use Rattle.byte_journal.specs.Settled.{IsLeftByOpening, LeavesOnlyFromSync};
     ghost use Rattle.trfc_protocol.specs.Start.{first_world};
-    ghost use Rattle.system_journals.specs.OnDisk.{count_of, moment_of};
+    ghost use Rattle.unit_journal.specs.OnDisk.{count_of, moment_of};
     ghost use Rattle.kept_world.specs.Overruns.{no_overruns};
     ghost use Rattle.landscape_opening.specs.Opening.{begun_world, IsOpened, OpenedAs, LeavesAs, LeftAs, HasFailed, vols_of};
 

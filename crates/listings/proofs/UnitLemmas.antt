@@ -23,8 +23,8 @@ use Rattle.status_log.specs.declared.line.UnitLine.{UnitLine}
 use Rattle.status_log.specs.declared.line.UnitState.{UnitState}
 use Rattle.status_log.specs.declared.line.UnitState.TheVariants as state
 use Rattle.said_models.specs.OfLog.{model_of}
-use Rattle.document_tables.specs.declared.document_tables.DocumentTables.{DocumentTables}
-use Rattle.document_tables.specs.Tables.{AreTablesOf as AreDocumentsOf}
+use Rattle.document_state.specs.declared.document_tables.DocumentTables.{DocumentTables}
+use Rattle.document_state.specs.Tables.{AreTablesOf as AreDocumentsOf}
 use Rattle.system_tables.specs.Tables.{TablesOf, queues_of, unit_numbered}
 use Rattle.system_tables.proofs.AskingLemmas.{mark-tables, outstanding-tables}
 use Rattle.listings.specs.OfSystem.{AreSystemOf}

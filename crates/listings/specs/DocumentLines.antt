@@ -8,7 +8,7 @@ use Rattle.status_log.specs.declared.status.Status.{Status}
 use Rattle.unit_core.specs.declared.records.Record.{Record}
 use Rattle.outbound_build.specs.declared.added.OutDocument.{OutDocument}
 use Rattle.inbound_post.specs.Application.{Arrived}
-use Rattle.document_tables.specs.OfLog.{sent_by, applied_by}
+use Rattle.document_state.specs.OfLog.{sent_by, applied_by}
 
 -- the line of the outbound document of a number, by the statuses of each: its partner is the system to which it was sent
 abbrev pub sent_line : (ℕ → List Status) → ℕ → OutDocument → DocLine

@@ -4,7 +4,7 @@ use Rattle.object_store.specs.declared.object.Object.{Object}
 use Rattle.object_store.specs.Objects.{listed}
 use Rattle.status_log.specs.declared.line.ObjectLine.{ObjectLine}
 use Rattle.unit_core.specs.declared.records.Record.{Record}
-use Rattle.document_tables.specs.OfLog.{applied_by}
+use Rattle.document_state.specs.OfLog.{applied_by}
 
 -- the line of an object: its kind, its key, and its fields that are not blank
 abbrev pub object_line : Object → ObjectLine

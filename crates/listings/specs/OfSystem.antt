@@ -5,8 +5,8 @@ use Rattle.unit_core.specs.declared.ale_unit.AleUnit.{AleUnit}
 use Rattle.unit_core.specs.declared.records.Record.{Record}
 use Rattle.system_tables.specs.Tables.{TablesOf}
 use Rattle.system_tables.specs.OfLog.{AreTablesOf}
-use Rattle.document_tables.specs.declared.document_tables.DocumentTables.{DocumentTables}
-use Rattle.document_tables.specs.Tables.{AreTablesOf as AreDocumentsOf}
+use Rattle.document_state.specs.declared.document_tables.DocumentTables.{DocumentTables}
+use Rattle.document_state.specs.Tables.{AreTablesOf as AreDocumentsOf}
 
 -- tables are those of a log, of the units that it commits and of the claims on outgoing and on incoming units, and its documents are kept
 -- beside them

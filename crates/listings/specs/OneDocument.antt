@@ -9,7 +9,7 @@ use Rattle.unit_core.specs.declared.raw_unit_doc.RawUnitDoc.{RawUnitDoc}
 use Rattle.unit_core.specs.declared.records.Record.{Record}
 use Rattle.outbound_build.specs.declared.added.OutDocument.{OutDocument}
 use Rattle.said_models.specs.OfLog.{model_of}
-use Rattle.document_tables.specs.OfLog.{sent_by}
+use Rattle.document_state.specs.OfLog.{sent_by}
 use Rattle.listings.specs.declared.shown_document.ShownDocument.{ShownDocument}
 use Rattle.listings.specs.Places.{places_under}
 

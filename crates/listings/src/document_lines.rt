@@ -5,18 +5,18 @@ ghost use Rattle.std.specs.List.{cons_option};
 ghost use Rattle.std.specs.Option.{option_map};
 ghost use Rattle.idoc_record.specs.Control.{field_of};
 ghost use Rattle.unit_core.specs.declared.records.Record.{Record};
-ghost use Rattle.outbound_log.specs.Statuses.{Tracked};
-ghost use Rattle.outbound_log.specs.Tables.{AreTablesOf as AreSent};
+ghost use Rattle.outbound_build.specs.Statuses.{Tracked};
+ghost use Rattle.outbound_build.specs.Tables.{AreTablesOf as AreSent};
 ghost use Rattle.inbound_post.specs.Application.{Application};
 ghost use Rattle.inbound_post.specs.Tables.{AreTablesOf as AreApplied};
-ghost use Rattle.document_tables.specs.Tables.{AreTablesOf};
+ghost use Rattle.document_state.specs.Tables.{AreTablesOf};
 ghost use Rattle.listings.specs.DocumentLines.{arrived_line, document_lines, numbered, sent_line};
 
 use ale_base::{DocNum, Items, OutOfMemory, Way};
-use document_tables::DocumentTables;
+use document_state::DocumentTables;
 use idoc_record::{Control, ControlField};
 use inbound_post::ApplicationTables;
-use outbound_log::OutboundTables;
+use outbound_build::OutboundTables;
 use status_log::{DocLine, Status};
 use std::alloc::Global;
 

@@ -2,11 +2,11 @@
 
 ghost use Rattle.std.specs.Prelude.{◌≡◌, List, IfOk, map};
 ghost use Rattle.unit_core.specs.declared.records.Record.{Record};
-ghost use Rattle.document_tables.specs.Tables.{AreTablesOf};
+ghost use Rattle.document_state.specs.Tables.{AreTablesOf};
 ghost use Rattle.listings.specs.ObjectLines.{object_line, object_lines};
 
 use ale_base::{Items, OutOfMemory};
-use document_tables::DocumentTables;
+use document_state::DocumentTables;
 use object_store::Object;
 use status_log::ObjectLine;
 use std::alloc::Global;

@@ -4,21 +4,20 @@ ghost use Rattle.std.specs.Prelude.{◌≡◌, ◌≤◌, ◌<◌, List, IfOk, I
 ghost use Rattle.std.specs.List.{AllByRecursion};
 ghost use Rattle.std.specs.Option.{option_copied, option_map};
 ghost use Rattle.unit_core.specs.declared.records.Record.{Record};
-ghost use Rattle.outbound_log.specs.Statuses.{Tracked};
-ghost use Rattle.outbound_log.specs.Tables.{AreTablesOf as AreSent};
+ghost use Rattle.outbound_build.specs.Statuses.{Tracked};
+ghost use Rattle.outbound_build.specs.Tables.{AreTablesOf as AreSent};
 ghost use Rattle.said_models.specs.OfLog.{model_of};
-ghost use Rattle.document_tables.specs.OfLog.{sent_by};
-ghost use Rattle.document_tables.specs.Tables.{AreTablesOf};
+ghost use Rattle.document_state.specs.OfLog.{sent_by};
+ghost use Rattle.document_state.specs.Tables.{AreTablesOf};
 ghost use Rattle.listings.specs.OneDocument.{document_shown, placed_lines, sent_numbered, shown_under};
 ghost use Rattle.listings.specs.Places.{HasDigits};
 
 use crate::ShownDocument;
 use crate::places::{MOST_NUMBERED, places_under};
 use ale_base::{DocNum, Items, OutOfMemory};
-use document_tables::DocumentTables;
+use document_state::DocumentTables;
 use idoc_record::{Control, Data, Place};
-use outbound_build::OutDocument;
-use outbound_log::OutboundTables;
+use outbound_build::{OutDocument, OutboundTables};
 use status_log::SegmentLine;
 use std::alloc::Global;
 use unit_core::RawUnitDoc;

@@ -4,7 +4,7 @@ ghost use Rattle.std.specs.Prelude.{◌≡◌, ℕ, List, Option, IfOk};
 ghost use Rattle.ale_base.specs.Tid.{TidOf};
 ghost use Rattle.unit_core.specs.declared.ale_unit.AleUnit.{AleUnit as UnitOf};
 ghost use Rattle.unit_core.specs.declared.records.Record.{Record};
-ghost use Rattle.document_tables.specs.Tables.{AreTablesOf as AreDocumentsOf};
+ghost use Rattle.document_state.specs.Tables.{AreTablesOf as AreDocumentsOf};
 ghost use Rattle.status_log.specs.declared.listing.Listing.TheVariants.{Docs, Units, Objects};
 ghost use Rattle.listings.specs.DocumentLines.{document_lines};
 ghost use Rattle.listings.specs.OneDocument.{document_shown};
@@ -15,7 +15,7 @@ ghost use Rattle.listings.specs.OfSystem.{AreSystemOf};
 
 use crate::{document, documents, objects, queues, units};
 use ale_base::{DocNum, SystemNo};
-use document_tables::DocumentTables;
+use document_state::DocumentTables;
 use status_log::{Listing, Refusal, Show};
 use std::alloc::Global;
 use system_tables::SystemTables;

@@ -7,13 +7,13 @@ ghost use Rattle.idoc_tree.specs.Forest.{preorder};
 ghost use Rattle.idoc_tree.specs.Nodes.{forest_of};
 ghost use Rattle.dist_model.specs.Model.{IsModel};
 ghost use Rattle.said_models.specs.OfLog.{model_of};
-ghost use Rattle.document_tables.specs.Tables.{AreTablesOf};
+ghost use Rattle.document_state.specs.Tables.{AreTablesOf};
 ghost use Rattle.listings.specs.Places.{HasDigits, places_as, places_by, places_in, places_under, root_places};
 ghost use Rattle.listings.specs.steps.Levels.{LevelsWithin};
 
 use ale_base::{Items, OutOfMemory};
 use dist_model::{Lists, MessageNo, Model};
-use document_tables::DocumentTables;
+use document_state::DocumentTables;
 use idoc_record::{Control, ControlField, Data, Place};
 use idoc_tree::{Node, SyntaxFault, build};
 use outbound_build::type_of;

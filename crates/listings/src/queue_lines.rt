@@ -4,13 +4,13 @@ ghost use Rattle.std.specs.Prelude.{◌≡◌, ◌++◌, ℕ, List, Option, IfOk
 ghost use Rattle.ale_base.specs.Tid.{TidOf};
 ghost use Rattle.unit_core.specs.declared.ale_unit.AleUnit.{AleUnit as UnitOf};
 ghost use Rattle.unit_core.specs.declared.records.Record.{Record};
-ghost use Rattle.document_tables.specs.Tables.{AreTablesOf as AreDocumentsOf};
+ghost use Rattle.document_state.specs.Tables.{AreTablesOf as AreDocumentsOf};
 ghost use Rattle.listings.specs.OfSystem.{AreSystemOf};
 ghost use Rattle.listings.specs.QueueLines.{AreQueueLines, partner_of, queue_line};
 
 use crate::system_names::name_under;
 use ale_base::{Items, OutOfMemory, Way};
-use document_tables::DocumentTables;
+use document_state::DocumentTables;
 use multi_queue::QueueCount;
 use status_log::QueueLine;
 use std::alloc::Global;

@@ -4,11 +4,11 @@ ghost use Rattle.std.specs.Prelude.{◌≡◌, List};
 ghost use Rattle.unit_core.specs.declared.records.Record.{Record};
 ghost use Rattle.outbound_build.specs.ControlRecord.{system_name};
 ghost use Rattle.said_models.specs.OfLog.{model_of};
-ghost use Rattle.document_tables.specs.Tables.{AreTablesOf};
+ghost use Rattle.document_state.specs.Tables.{AreTablesOf};
 ghost use Rattle.listings.specs.SystemNames.{name_under};
 
 use dist_model::Lists;
-use document_tables::DocumentTables;
+use document_state::DocumentTables;
 
 /// The name of the system of a number, by the model in force; no bytes where there is none.
 pub(crate) fn name_under(documents: &DocumentTables, system: u8) -> &[u8]

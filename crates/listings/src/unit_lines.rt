@@ -7,14 +7,14 @@ ghost use Rattle.ale_base.specs.Tid.{TidOf};
 ghost use Rattle.unit_core.specs.declared.ale_unit.AleUnit.{AleUnit as UnitOf};
 ghost use Rattle.unit_core.specs.declared.records.Record.{Record};
 ghost use Rattle.system_tables.specs.Tables.{unit_numbered};
-ghost use Rattle.document_tables.specs.Tables.{AreTablesOf as AreDocumentsOf};
+ghost use Rattle.document_state.specs.Tables.{AreTablesOf as AreDocumentsOf};
 ghost use Rattle.listings.specs.OfSystem.{AreSystemOf};
 ghost use Rattle.listings.specs.UnitLines.{unit_lines, waiting_as};
 ghost use Rattle.listings.specs.steps.Kept.{arrived_kept, arrived_kept_line, sent_kept, sent_kept_line};
 
 use crate::system_names::name_under;
 use ale_base::{Items, Mark, OutOfMemory, Tid, Way};
-use document_tables::DocumentTables;
+use document_state::DocumentTables;
 use status_log::{UnitLine, UnitState};
 use std::alloc::Global;
 use system_tables::SystemTables;

@@ -9,7 +9,7 @@ ghost use Rattle.model_keys.specs.Keys.{name_at, name_of, new_name, new_name_at,
 use crate::finding::{Cause, ReadError, at};
 use crate::tables::value_at;
 use ale_base::Items;
-use name_tables::Names;
+use dist_model::Names;
 use segment_defs::{is_name_within, is_segment_name};
 use std::alloc::Global;
 use toml::{Table, Value};

@@ -20,7 +20,7 @@ use Rattle.dist_model.specs.Field.{all_fields, HasEntry}
 use Rattle.dist_model.specs.Filter.{is_filter, same_filter, AreFilters, IsFilter}
 use Rattle.dist_model.specs.Message.{entries_at, message_entries, message_names}
 use Rattle.dist_model.specs.Model.{type_names}
-use Rattle.name_tables.proofs.DistinctLemmas.{is_text-symmetric, nat_eq-symmetric, IsDistinct-push, Symmetric}
+use Rattle.dist_model.proofs.DistinctLemmas.{is_text-symmetric, nat_eq-symmetric, IsDistinct-push, Symmetric}
 use Rattle.model_keys.specs.declared.finding.Cause.TheVariants.{Twice, Unknown, Wrong}
 use Rattle.model_keys.specs.Finding.{at, required}
 use Rattle.model_keys.specs.Each.{each}

@@ -16,7 +16,7 @@ use Rattle.dist_model.specs.declared.limits.TheConstants.{MOST_KINDS}
 use Rattle.dist_model.specs.Field.{first_fields}
 use Rattle.dist_model.specs.Kind.{kind_names, AreKinds, IsKind}
 use Rattle.dist_model.specs.Model.{type_names}
-use Rattle.name_tables.proofs.DistinctLemmas.{is_text-symmetric, IsDistinct-push}
+use Rattle.dist_model.proofs.DistinctLemmas.{is_text-symmetric, IsDistinct-push}
 use Rattle.model_keys.specs.declared.finding.Cause.TheVariants.{Wrong}
 use Rattle.model_keys.specs.Finding.{required}
 use Rattle.model_keys.specs.Each.{each}

@@ -24,7 +24,7 @@ use Rattle.dist_model.specs.Field.{all_fields}
 use Rattle.dist_model.specs.Kind.{kind_names}
 use Rattle.dist_model.specs.Message.{is_root_enough, message_names, root_segment, AreMessages, IsMessage, IsOwnField}
 use Rattle.dist_model.specs.Model.{idoc_type_names}
-use Rattle.name_tables.proofs.DistinctLemmas.{is_text-symmetric, IsDistinct-push}
+use Rattle.dist_model.proofs.DistinctLemmas.{is_text-symmetric, IsDistinct-push}
 use Rattle.model_keys.specs.declared.finding.Cause.TheVariants.{Wrong}
 use Rattle.model_keys.specs.Finding.{at, check, required}
 use Rattle.model_keys.specs.Each.{each}

@@ -22,8 +22,8 @@ use Rattle.dist_model.specs.Field.{all_fields, HasEntry, IsFieldAmong}
 use Rattle.dist_model.specs.Message.{entries_at, message_entries, message_names, AreReduced, IsReduced}
 use Rattle.dist_model.specs.Model.{type_names}
 use Rattle.dist_model.proofs.FieldLemmas.{entry_of_any}
-use Rattle.name_tables.proofs.SeenLemmas.{list_any-map}
-use Rattle.name_tables.proofs.DistinctLemmas.{is_text-symmetric, IsDistinct-push}
+use Rattle.dist_model.proofs.SeenLemmas.{list_any-map}
+use Rattle.dist_model.proofs.DistinctLemmas.{is_text-symmetric, IsDistinct-push}
 use Rattle.model_keys.specs.declared.finding.Cause.TheVariants.{Wrong}
 use Rattle.model_keys.specs.Finding.{required}
 use Rattle.model_keys.specs.Each.{each}

@@ -18,11 +18,10 @@ use crate::fields::known_field;
 use crate::keys::{FIELD, FILTER, FILTER_KEYS, MESSAGE, NAME, SEGMENT};
 use crate::things::{Named, thing_at};
 use ale_base::Items;
-use dist_model::{Filter, MOST_FILTERS, Message, MessageNo, entries_at, has_entry};
+use dist_model::{Filter, MOST_FILTERS, Message, MessageNo, Names, entries_at, has_entry};
 use model_keys::{
     Cause, ReadError, at, entry_of, list_or_none_at, name_at, segment_type_at, within,
 };
-use name_tables::Names;
 use segment_defs::{Definitions, IdocType, LONGEST_NAME, TypeNo, TypePlace};
 use std::alloc::Global;
 use toml::{Table, Value};

@@ -11,9 +11,8 @@ ghost use Rattle.model_messages.specs.Reduced.{keep_at, keep_of, kept_of, place_
 use crate::fields::known_field;
 use crate::keys::KEEP;
 use ale_base::{Items, OutOfMemory};
-use dist_model::{FieldPlace, MOST_KEPT};
+use dist_model::{FieldPlace, MOST_KEPT, Names, Numbers};
 use model_keys::{Cause, ReadError, at, list_at, within};
-use name_tables::{Names, Numbers};
 use segment_defs::{Definitions, TypeNo, TypePlace};
 use std::alloc::Global;
 use toml::{Table, Value};

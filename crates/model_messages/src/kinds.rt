@@ -14,11 +14,10 @@ ghost use Rattle.model_messages.specs.Kinds.{key_at, kind_of, kinds_at, kinds_of
 use crate::fields::first_field;
 use crate::keys::{KEY, KIND, KIND_KEYS, NAME, SEGMENT};
 use ale_base::Items;
-use dist_model::{Kind, MOST_KINDS};
+use dist_model::{Kind, MOST_KINDS, Names};
 use model_keys::{
     Cause, ReadError, at, entry_of, list_or_none_at, name_at, new_name_at, segment_type_at, within,
 };
-use name_tables::Names;
 use segment_defs::{Definitions, LONGEST_NAME, TypeNo};
 use std::alloc::Global;
 use toml::{Table, Value};

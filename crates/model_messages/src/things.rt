@@ -5,8 +5,8 @@ ghost use Rattle.toml.specs.View.{table_view};
 ghost use Rattle.model_keys.specs.Finding.{Gives};
 ghost use Rattle.model_messages.specs.Things.{thing_at};
 
+use dist_model::Names;
 use model_keys::{ReadError, reference_at};
-use name_tables::Names;
 use segment_defs::LONGEST_NAME;
 use std::alloc::Global;
 use toml::Table;

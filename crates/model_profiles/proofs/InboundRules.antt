@@ -12,8 +12,8 @@ use Rattle.toml.specs.Data.{Data, no_items, Members, get_member, as_str}
 use Rattle.ale_base.specs.Text.{is_text}
 use Rattle.ale_base.proofs.ListLemmas.{Contains-at}
 use Rattle.ale_base.proofs.SnocLemmas.{AllByRecursion-snoc}
-use Rattle.name_tables.specs.Triple.{same_triple}
-use Rattle.name_tables.proofs.DistinctLemmas.{IsDistinct-push}
+use Rattle.dist_model.specs.Triple.{same_triple}
+use Rattle.dist_model.proofs.DistinctLemmas.{IsDistinct-push}
 use Rattle.segment_defs.specs.declared.limits.TheConstants.{LONGEST_NAME}
 use Rattle.segment_defs.proofs.NameLemmas.{position-name}
 use Rattle.dist_model.specs.declared.inbound.Inbound.{Inbound}

@@ -4,7 +4,7 @@ use Rattle.std.proofs.Common.{◌≡◌, ℕ, ◌<◌, ◌≤◌, false, List, [
 use Rattle.std.proofs.lemmas.List.{map_push, length-map}
 use Rattle.toml.specs.Data.{Data, no_items, Members, get_member}
 use Rattle.ale_base.proofs.SnocLemmas.{AllByRecursion-snoc}
-use Rattle.name_tables.proofs.DistinctLemmas.{IsDistinct-push, same_triple-symmetric}
+use Rattle.dist_model.proofs.DistinctLemmas.{IsDistinct-push, same_triple-symmetric}
 use Rattle.segment_defs.specs.declared.definitions.Definitions.{Definitions}
 use Rattle.segment_defs.specs.declared.idoc_type.IdocType.{IdocType}
 use Rattle.segment_defs.specs.declared.segment_type.SegmentType.{SegmentType}

@@ -12,7 +12,7 @@ use Rattle.toml.specs.Data.{Data, Items, no_items, Members, no_members, member, 
 use Rattle.ale_base.specs.Text.{is_text}
 use Rattle.ale_base.proofs.ListLemmas.{AllByRecursion-at}
 use Rattle.ale_base.proofs.SnocLemmas.{AllByRecursion-snoc}
-use Rattle.name_tables.proofs.DistinctLemmas.{IsDistinct-push, same_triple-symmetric}
+use Rattle.dist_model.proofs.DistinctLemmas.{IsDistinct-push, same_triple-symmetric}
 use Rattle.segment_defs.specs.declared.definitions.Definitions.{Definitions}
 use Rattle.segment_defs.specs.declared.idoc_type.IdocType.{IdocType}
 use Rattle.dist_model.specs.declared.limits.TheConstants.{MOST_GROUPS, MOST_ROWS, MOST_VALUES}

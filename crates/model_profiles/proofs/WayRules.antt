@@ -6,7 +6,7 @@ use Rattle.std.proofs.lemmas.Option.{slice_get_within}
 use Rattle.toml.specs.Data.{Members}
 use Rattle.segment_defs.specs.declared.limits.TheConstants.{LONGEST_NAME}
 use Rattle.dist_model.specs.declared.limits.TheConstants.{LONGEST_SYSTEM}
-use Rattle.name_tables.specs.Triple.{same_triple}
+use Rattle.dist_model.specs.Triple.{same_triple}
 use Rattle.dist_model.specs.Way.{same_way, AreTwoSystems, IsWay, Way}
 use Rattle.model_keys.specs.declared.finding.Cause.TheVariants.{Twice, Wrong}
 use Rattle.model_keys.specs.Finding.{at}

@@ -4,7 +4,7 @@ use Rattle.std.specs.List.{list_any}
 use Rattle.toml.specs.Data.{Members}
 use Rattle.segment_defs.specs.declared.limits.TheConstants.{LONGEST_NAME}
 use Rattle.dist_model.specs.declared.limits.TheConstants.{LONGEST_SYSTEM}
-use Rattle.name_tables.specs.Triple.{same_triple}
+use Rattle.dist_model.specs.Triple.{same_triple}
 use Rattle.dist_model.specs.Way.{Way}
 use Rattle.model_keys.specs.declared.finding.Finding.{Finding}
 use Rattle.model_keys.specs.declared.finding.Cause.TheVariants.{Twice, Wrong}

@@ -1,7 +1,6 @@
 //! What the profiles of what is sent refer to.
 
-use dist_model::{Message, Reduced};
-use name_tables::Names;
+use dist_model::{Message, Names, Reduced};
 use segment_defs::{Definitions, IdocType};
 
 /// The parts of a model that profiles of what is sent refer to, with tables of their names.

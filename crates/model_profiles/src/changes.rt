@@ -11,12 +11,11 @@ ghost use Rattle.model_profiles.specs.Changes.{convert_of, converts_at, converts
 use crate::keys::{CONVERT, CONVERT_KEYS, FROM, REMOVE, SEGMENT, TO};
 use crate::values::{field_at, field_length, field_value_at};
 use ale_base::Items;
-use dist_model::{Convert, FieldPlace, MOST_CONVERSIONS};
+use dist_model::{Convert, FieldPlace, MOST_CONVERSIONS, Names};
 use model_keys::{
     Cause, ReadError, any_list_or_none_at, at, entry_of, list_or_none_at, segment_name_of,
     segment_type_at, within,
 };
-use name_tables::Names;
 use segment_defs::{Definitions, TypeNo};
 use std::alloc::Global;
 use toml::{Table, Value};

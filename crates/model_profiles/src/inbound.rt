@@ -10,9 +10,8 @@ ghost use Rattle.model_profiles.specs.Inbound.{inbound_at, inbound_of, inbounds_
 use crate::keys::{BACKGROUND, IMMEDIATE, INBOUND, INBOUND_KEYS, MESSAGE, MODE, RECEIVER, SENDER};
 use crate::ways::{new_triple, other_system_at, system_at};
 use ale_base::{Items, SystemNo};
-use dist_model::{Inbound, InboundMode, MOST_INBOUND};
+use dist_model::{Inbound, InboundMode, MOST_INBOUND, Names, Triples};
 use model_keys::{Cause, ReadError, at, entry_of, get, list_or_none_at, name_at, within};
-use name_tables::{Names, Triples};
 use segment_defs::LONGEST_NAME;
 use std::alloc::Global;
 use toml::{Table, Value};

@@ -11,9 +11,8 @@ ghost use Rattle.model_profiles.specs.QueueRules.{is_queue_byte, is_rule_text, m
 use crate::keys::{FIELD, RULE_KEYS, SEGMENT, TEXT};
 use crate::values::field_place;
 use ale_base::{Items, QueueName};
-use dist_model::{FieldPlace, MOST_RULES, QueueRule, has_entry};
+use dist_model::{FieldPlace, MOST_RULES, Names, QueueRule, has_entry};
 use model_keys::{Cause, ReadError, at, entry_of, get, list_or_none_at, within};
-use name_tables::Names;
 use segment_defs::{Definitions, TypeNo, TypePlace};
 use std::alloc::Global;
 use toml::{Table, Value};

@@ -14,10 +14,10 @@ use crate::values::{field_length, field_value_of};
 use crate::ways::new_way_at;
 use ale_base::Items;
 use dist_model::{
-    Choice, FieldPlace, Filter, Group, MOST_GROUPS, MOST_ROWS, MOST_VALUES, MessageNo, Row,
+    Choice, FieldPlace, Filter, Group, MOST_GROUPS, MOST_ROWS, MOST_VALUES, MessageNo, Names, Row,
+    Triples,
 };
 use model_keys::{ReadError, entry_of, list_of, list_or_none_at, table_of, unknown, within};
-use name_tables::{Names, Triples};
 use segment_defs::Definitions;
 use std::alloc::Global;
 use toml::{Table, Value};

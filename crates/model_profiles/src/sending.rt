@@ -10,9 +10,8 @@ ghost use Rattle.model_profiles.specs.Outbound.{is_reduction, outmod_at, outmod_
 
 use crate::basis::Basis;
 use crate::keys::{OUTMOD, PACKET, REDUCED, RELEASE};
-use dist_model::{LONGEST_RELEASE, MOST_PACKET, Message, MessageNo, Reduced};
+use dist_model::{LONGEST_RELEASE, MOST_PACKET, Message, MessageNo, Names, Reduced};
 use model_keys::{Cause, ReadError, at, get, name_of, number_of};
-use name_tables::Names;
 use segment_defs::LONGEST_NAME;
 use std::alloc::Global;
 use toml::{Table, Value};

@@ -8,9 +8,8 @@ ghost use Rattle.model_profiles.specs.Ways.{new_triple, new_way_at, other_system
 
 use crate::keys::{MESSAGE, RECEIVER, SENDER};
 use ale_base::SystemNo;
-use dist_model::{LONGEST_SYSTEM, MessageNo};
+use dist_model::{LONGEST_SYSTEM, MessageNo, Names, Triples};
 use model_keys::{Cause, ReadError, at, reference_at};
-use name_tables::{Names, Triples};
 use segment_defs::LONGEST_NAME;
 use std::alloc::Global;
 use toml::Table;

@@ -19,7 +19,7 @@ use Rattle.segment_defs.proofs.NameLemmas.{IsName_decided}
 use Rattle.model_keys.specs.declared.finding.Cause.TheVariants.{Limit, Wrong}
 use Rattle.model_keys.specs.Finding.{check, required}
 use Rattle.model_keys.specs.Keys.{new_name}
-use Rattle.name_tables.proofs.DistinctLemmas.{is_text-symmetric, IsDistinct-push}
+use Rattle.dist_model.proofs.DistinctLemmas.{is_text-symmetric, IsDistinct-push}
 use Rattle.model_keys.proofs.KeepsLemmas.{check-ok, each-invariant, from_bind, new_name-keeps, required-ok}
 use Rattle.model_text.specs.declared.keys.TheConstants.{ADDS}
 use Rattle.model_text.specs.Fields.{digits_on, field_names, field_of, field_parts, fields_of, is_length, length_in, length_spelled, parts_at, parts_of}

@@ -23,7 +23,7 @@ use Rattle.model_keys.specs.declared.finding.Cause.TheVariants.{Twice, Wrong}
 use Rattle.model_keys.specs.Finding.{at, check}
 use Rattle.model_keys.specs.Each.{each}
 use Rattle.model_keys.specs.Keys.{bool_or_at, entry_of, list_or_none_at, new_name_at, number_of, or_else, segment_type_at, some_list_at}
-use Rattle.name_tables.proofs.DistinctLemmas.{is_text-symmetric, IsDistinct-push, nat_eq-symmetric}
+use Rattle.dist_model.proofs.DistinctLemmas.{is_text-symmetric, IsDistinct-push, nat_eq-symmetric}
 use Rattle.model_keys.proofs.KeepsLemmas.{check-ok, each-invariant, each-length, from_bind, list_or_none_at-keeps, new_name_at-keeps, number_of-keeps}
 use Rattle.model_keys.proofs.KeepsLemmas.{segment_type_at-keeps, some_list_at-keeps, tested, untested}
 use Rattle.model_text.specs.declared.keys.TheConstants.{ENTRY_KEYS, IDOCTYPE, IDOCTYPE_KEYS, MANDATORY, MAX, MIN, NAME, SEGMENT, TYPE}

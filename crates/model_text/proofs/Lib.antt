@@ -22,3 +22,11 @@ pub mod IdocTypeRules
 pub mod ModelRules
 -- what a text says of a model that was read
 pub mod SaysLemmas
+-- tables of what was added
+pub mod TableLemmas
+-- lists, each element checked
+pub mod CheckedLemmas
+-- what passed
+pub mod ProfiledLemmas
+-- where all is checked, each profile leaves what is mandatory
+pub mod WholeLemmas

@@ -28,10 +28,10 @@ use Rattle.model_profiles.specs.Inbound.{inbound_at}
 use Rattle.model_profiles.proofs.RowRules.{rows_at-keeps}
 use Rattle.model_profiles.proofs.OutboundRules.{outbound_at-keeps}
 use Rattle.model_profiles.proofs.InboundRules.{inbound_at-keeps}
-use Rattle.model_checks.specs.Profiled.{all_profiled}
-use Rattle.model_checks.specs.Whole.{all_whole}
-use Rattle.model_checks.proofs.ProfiledLemmas.{all_profiled-keeps}
-use Rattle.model_checks.proofs.WholeLemmas.{all_whole-keeps}
+use Rattle.model_text.specs.Profiled.{all_profiled}
+use Rattle.model_text.specs.Whole.{all_whole}
+use Rattle.model_text.proofs.ProfiledLemmas.{all_profiled-keeps}
+use Rattle.model_text.proofs.WholeLemmas.{all_whole-keeps}
 use Rattle.model_text.specs.declared.basics.Basics.{Basics}
 use Rattle.model_text.specs.declared.subjects.Subjects.{Subjects}
 use Rattle.model_text.specs.declared.traffic.Traffic.{Traffic}

@@ -62,8 +62,8 @@ use Rattle.model_profiles.specs.Says.{SaysInbound, SaysOutbound, SaysRow}
 use Rattle.model_profiles.proofs.RowRules.{rows_at-says}
 use Rattle.model_profiles.proofs.OutboundRules.{outbound_at-says}
 use Rattle.model_profiles.proofs.InboundRules.{inbound_at-says}
-use Rattle.model_checks.specs.Profiled.{all_profiled}
-use Rattle.model_checks.specs.Whole.{all_whole}
+use Rattle.model_text.specs.Profiled.{all_profiled}
+use Rattle.model_text.specs.Whole.{all_whole}
 use Rattle.model_text.specs.declared.basics.Basics.{Basics}
 use Rattle.model_text.specs.declared.subjects.Subjects.{Subjects}
 use Rattle.model_text.specs.declared.traffic.Traffic.{Traffic}

@@ -28,7 +28,7 @@ use Rattle.model_keys.specs.declared.finding.Cause.TheVariants.{Wrong}
 use Rattle.model_keys.specs.Finding.{at}
 use Rattle.model_keys.specs.Each.{each}
 use Rattle.model_keys.specs.Keys.{any_list_at, entry_of, list_or_none_at, new_segment_name_at, reference_at, some_list_at}
-use Rattle.name_tables.proofs.DistinctLemmas.{is_text-symmetric, IsDistinct-push}
+use Rattle.dist_model.proofs.DistinctLemmas.{is_text-symmetric, IsDistinct-push}
 use Rattle.model_keys.proofs.KeepsLemmas.{each-invariant, each-length, from_bind, list_or_none_at-keeps, new_segment_name_at-keeps, reference_at-keeps}
 use Rattle.model_keys.proofs.KeepsLemmas.{some_list_at-keeps, tested}
 use Rattle.model_text.specs.declared.keys.TheConstants.{ADDS, NAME, RELEASE, SEGMENT, SEGMENT_KEYS, TYPE, VERSION, VERSION_KEYS}

@@ -19,7 +19,7 @@ use Rattle.model_keys.specs.declared.finding.Cause.TheVariants.{Wrong}
 use Rattle.model_keys.specs.Finding.{required}
 use Rattle.model_keys.specs.Each.{each}
 use Rattle.model_keys.specs.Keys.{entry_of, list_of, new_name_at, new_name_of, or_else, some_list_at}
-use Rattle.name_tables.proofs.DistinctLemmas.{is_text-symmetric, IsDistinct-push}
+use Rattle.dist_model.proofs.DistinctLemmas.{is_text-symmetric, IsDistinct-push}
 use Rattle.model_keys.proofs.KeepsLemmas.{each-invariant, each-length, from_bind, list_of-keeps, name_of-keeps, new_name_at-keeps, new_name_of-keeps}
 use Rattle.model_keys.proofs.KeepsLemmas.{required-ok, some_list_at-keeps}
 use Rattle.model_text.specs.declared.keys.TheConstants.{CLIENT, FUNCTIONS, NAME, RELEASES, STANDARD_CLIENT, STANDARD_FUNCTION, SYSTEM, SYSTEM_KEYS}

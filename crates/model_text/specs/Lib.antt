@@ -11,3 +11,8 @@ pub mod Rules
 pub mod Text
 -- what a text says, and no order of checks
 pub mod Says
+-- the elements of a list, each checked
+pub mod Checked
+-- what is checked
+pub mod Profiled
+pub mod Whole

@@ -21,8 +21,8 @@ use Rattle.model_messages.specs.Filters.{filters_at}
 use Rattle.model_profiles.specs.Rows.{rows_at}
 use Rattle.model_profiles.specs.Outbound.{outbound_at}
 use Rattle.model_profiles.specs.Inbound.{inbound_at}
-use Rattle.model_checks.specs.Profiled.{all_profiled}
-use Rattle.model_checks.specs.Whole.{all_whole}
+use Rattle.model_text.specs.Profiled.{all_profiled}
+use Rattle.model_text.specs.Whole.{all_whole}
 use Rattle.model_text.specs.declared.basics.Basics.{Basics}
 use Rattle.model_text.specs.declared.subjects.Subjects.{Subjects}
 use Rattle.model_text.specs.declared.traffic.Traffic.{Traffic}

@@ -10,10 +10,10 @@ ghost use Rattle.model_text.specs.Entries.{entries_of, entry_types, greatest_at,
 
 use crate::keys::{ENTRY_KEYS, MANDATORY, MAX, MIN, PARENT, SEGMENT, TYPE};
 use ale_base::Items;
+use dist_model::{Names, Numbers};
 use model_keys::{
     Cause, ReadError, at, bool_or_at, entry_of, get, number_of, segment_type_at, within,
 };
-use name_tables::{Names, Numbers};
 use segment_defs::{MOST_LEVELS, MOST_TIMES, TypeNo, TypePlace, levels_to};
 use std::alloc::Global;
 use toml::{Table, Value};

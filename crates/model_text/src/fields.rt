@@ -10,9 +10,9 @@ ghost use Rattle.model_text.specs.Fields.{digits_on, field_names, field_of, fiel
 
 use crate::keys::ADDS;
 use ale_base::Items;
+use dist_model::Names;
 use itoa::Buffer;
 use model_keys::{Cause, ReadError, at, new_name, within};
-use name_tables::Names;
 use segment_defs::{Field, LONGEST_NAME, MOST_BYTES, MOST_FIELDS, is_name_within};
 use std::alloc::Global;
 use toml::Value;

@@ -10,9 +10,8 @@ ghost use Rattle.model_text.specs.IdocTypes.{idoc_type_of, idoc_types_at, idoc_t
 use crate::entries::entries_of;
 use crate::keys::{IDOCTYPE, IDOCTYPE_KEYS, NAME, SEGMENT};
 use ale_base::Items;
-use dist_model::{MOST_ENTRIES, MOST_IDOC_TYPES};
+use dist_model::{MOST_ENTRIES, MOST_IDOC_TYPES, Names};
 use model_keys::{ReadError, entry_of, list_or_none_at, new_name_at, some_list_at, within};
-use name_tables::Names;
 use segment_defs::{IdocType, LONGEST_NAME};
 use std::alloc::Global;
 use toml::{Table, Value};

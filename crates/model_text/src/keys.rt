@@ -42,6 +42,8 @@ pub(crate) const ROW: &str = "row";
 
 pub(crate) const OUTBOUND: &str = "outbound";
 
+pub(crate) const REMOVE: &str = "remove";
+
 pub(crate) const INBOUND: &str = "inbound";
 
 /// The keys of the whole text.

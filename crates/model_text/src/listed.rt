@@ -3,8 +3,8 @@
 ghost use Rattle.std.specs.Prelude.{◌≡◌};
 
 use ale_base::Items;
+use dist_model::Names;
 use model_messages::Named;
-use name_tables::Names;
 
 /// Things with the table of their names. Each section is read into one by a function of its own: what holds several has
 /// few ways out, at each of which they are dropped.

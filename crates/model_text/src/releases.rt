@@ -7,9 +7,8 @@ ghost use Rattle.model_text.specs.Releases.{releases_at, releases_of};
 
 use crate::keys::RELEASES;
 use ale_base::Items;
-use dist_model::{LONGEST_RELEASE, MOST_RELEASES};
+use dist_model::{LONGEST_RELEASE, MOST_RELEASES, Names};
 use model_keys::{ReadError, new_name_of, some_list_at, within};
-use name_tables::Names;
 use std::alloc::Global;
 use toml::{Table, Value};
 

@@ -16,12 +16,11 @@ ghost use Rattle.model_text.specs.Segments.{is_later, release_at, segment_of, se
 use crate::fields::fields_of;
 use crate::keys::{ADDS, NAME, RELEASE, SEGMENT, SEGMENT_KEYS, TYPE, VERSION, VERSION_KEYS};
 use ale_base::{Items, OutOfMemory};
-use dist_model::LONGEST_RELEASE;
+use dist_model::{LONGEST_RELEASE, Names};
 use model_keys::{
     Cause, ReadError, any_list_at, at, entry_of, list_or_none_at, new_segment_name_at,
     reference_at, some_list_at, within,
 };
-use name_tables::Names;
 use segment_defs::{Field, MOST_TYPES, MOST_VERSIONS, SegmentType, Version};
 use std::alloc::Global;
 use toml::{Table, Value};

@@ -18,10 +18,9 @@ ghost use Rattle.model_text.specs.Rules.{IsBasics};
 use crate::basics::Basics;
 use crate::listed::{Listed, as_named};
 use ale_base::Items;
-use dist_model::{Filter, Kind, Message, Reduced};
+use dist_model::{Filter, Kind, Message, Names, Reduced};
 use model_keys::ReadError;
 use model_messages::{Named, filters_at, kinds_at, messages_at, reduced_at};
-use name_tables::Names;
 use std::alloc::Global;
 use toml::Table;
 

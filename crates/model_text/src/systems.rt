@@ -12,11 +12,10 @@ use crate::keys::{
     CLIENT, FUNCTIONS, NAME, STANDARD_CLIENT, STANDARD_FUNCTION, SYSTEM, SYSTEM_KEYS,
 };
 use ale_base::{Fixed, Items};
-use dist_model::{LONGEST_SYSTEM, MOST_FUNCTIONS, MOST_SYSTEMS, System};
+use dist_model::{LONGEST_SYSTEM, MOST_FUNCTIONS, MOST_SYSTEMS, Names, System};
 use model_keys::{
     Cause, ReadError, at, entry_of, get, list_of, name_of, new_name_at, some_list_at, within,
 };
-use name_tables::Names;
 use segment_defs::LONGEST_NAME;
 use std::alloc::Global;
 use toml::{Table, Value};

@@ -6,10 +6,11 @@ ghost use Rattle.model_text.specs.Model.{traffic_of};
 ghost use Rattle.model_text.specs.Rules.{IsBasics, AreSubjects, IsBasisOf};
 
 use crate::basics::Basics;
+use crate::profiled::all_profiled;
 use crate::subjects::Subjects;
+use crate::whole::all_whole;
 use ale_base::Items;
 use dist_model::{Inbound, Outbound, Row};
-use model_checks::{all_profiled, all_whole};
 use model_keys::ReadError;
 use model_profiles::{Basis, inbound_at, outbound_at, rows_at};
 use std::alloc::Global;

@@ -30,3 +30,9 @@ pub mod DocumentLemmas
 pub mod SizeLemmas
 -- documents have no more segments than the masters of their log
 pub mod ShortLemmas
+-- what documents get, one after the other
+pub mod GetsLemmas
+-- the tables behind one more record
+pub mod TablesLemmas
+-- one more record of a log
+pub mod TrackedLemmas

@@ -11,5 +11,9 @@ pub mod Added
 pub mod Committed
 -- what every unit of a log is
 pub mod Units
+-- when an outbound document gets which status
+pub mod Statuses
+-- the tables in which a system keeps that
+pub mod Tables
 -- copies of steps
 pub mod steps

@@ -10,3 +10,5 @@ pub mod Packets
 pub mod Texts
 -- what is kept behind some records, for `past_of` of `Committed`
 pub mod Behind
+-- what documents get, for `gets` of `Statuses`
+pub mod Adding

@@ -34,12 +34,12 @@ use Rattle.status_log.specs.declared.show.Show.TheVariants as show
 use Rattle.unit_landscape.specs.declared.answers.Late.{Late}
 use Rattle.unit_landscape.specs.Kept.{IsLandscape}
 use Rattle.unit_landscape.specs.Late.{IsLate, is_of_loss}
-use Rattle.command_records.specs.Asked.{Asked, asked_app, asked_dispatch, asked_gather, asked_put, asked_repost, has_inbound, pointers_noted}
+use Rattle.landscape.specs.Asked.{Asked, asked_app, asked_dispatch, asked_gather, asked_put, asked_repost, has_inbound, pointers_noted}
 use Rattle.kept_world.specs.Kept.{KeptOf}
-use Rattle.document_tables.specs.declared.document_tables.DocumentTables.{DocumentTables}
-use Rattle.model_rules.specs.declared.model_rules.ModelRules.{ModelRules}
-use Rattle.model_rules.specs.Allowed.{stands_at}
-use Rattle.model_rules.specs.Meaning.{model_meaning}
+use Rattle.document_state.specs.declared.document_tables.DocumentTables.{DocumentTables}
+use Rattle.document_state.specs.declared.model_rules.ModelRules.{ModelRules}
+use Rattle.document_state.specs.Allowed.{stands_at}
+use Rattle.document_state.specs.Meaning.{model_meaning}
 use Rattle.landscape.specs.Carried.{CarriedAs, asked_at, counts_asked, operator_event, sent_counts, status_at}
 use Rattle.landscape.specs.Operator.{asked_queue, asked_retry, start_of, way_at}
 use Rattle.landscape.specs.Working.{CameOrRefused}

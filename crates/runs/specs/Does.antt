@@ -17,7 +17,7 @@ use Rattle.status_log.specs.declared.show.Show.{Show}
 use Rattle.status_log.specs.declared.show.Show.TheVariants as show
 use Rattle.unit_landscape.specs.declared.answers.Late.{Late}
 use Rattle.unit_landscape.specs.declared.answers.Late.TheVariants as late
-use Rattle.command_records.specs.Asked.{Asked, asked_send, asked_put, asked_gather, asked_dispatch, asked_app, asked_repost, pointers_noted}
+use Rattle.landscape.specs.Asked.{Asked, asked_send, asked_put, asked_gather, asked_dispatch, asked_app, asked_repost, pointers_noted}
 use Rattle.landscape.specs.declared.counts.Gathered.{Gathered}
 use Rattle.landscape.specs.declared.counts.Sent.{Sent}
 use Rattle.landscape.specs.Carried.{CarriedAs, asked_at, counts_asked, operator_event, sent_counts, status_at}
@@ -29,7 +29,7 @@ use Rattle.report_text.specs.declared.reply.Reply.TheVariants as reply
 use Rattle.script_text.specs.declared.form.Form.{Form}
 use Rattle.script_text.specs.declared.form.Form.TheVariants as form
 use Rattle.unit_works.specs.Drained.{DrainedAs}
-use Rattle.wires.specs.Wires.{after_add, letters_left, letters_said}
+use Rattle.unit_works.specs.Wires.{after_add, letters_left, letters_said}
 use Rattle.runs.specs.declared.answered.Answered.{Answered}
 use Rattle.runs.specs.declared.inputs.Inputs.{Inputs}
 use Rattle.runs.specs.declared.stage.Stage.{Stage}

@@ -2,7 +2,7 @@
 use Rattle.std.specs.Prelude.{ℕ, ⊤, List, [], ◌++◌, Option, Some, None, length, map}
 use Rattle.trfc_protocol.specs.declared.world.SystemState.{SystemState}
 use Rattle.trfc_protocol.specs.declared.world.World.{World}
-use Rattle.model_rules.specs.declared.model_rules.ModelRules.{ModelRules}
+use Rattle.document_state.specs.declared.model_rules.ModelRules.{ModelRules}
 use Rattle.status_log.specs.declared.listing.Listing.{Listing}
 use Rattle.report_text.specs.Reply.{reply_line}
 use Rattle.report_text.specs.Reply.{IsPrintable as IsReplyPrintable}

@@ -2,7 +2,7 @@
 
 use ale_volumes::Volumes;
 use landscape::Landscape;
-use wires::Wires;
+use unit_works::Wires;
 
 /// What a run works on: the systems, and what becomes of the shipments of their units.
 #[derive(Drop)]

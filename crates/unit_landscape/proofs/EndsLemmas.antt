@@ -19,7 +19,7 @@ use Rattle.trfc_protocol.proofs.NextLemmas.{Next-without_claim}
 use Rattle.trfc_protocol.proofs.EventLemmas.{Safe-step}
 use Rattle.trfc_protocol.proofs.KeepingLemmas.{kept-is}
 use Rattle.unit_codec.specs.Entries.{entry_with}
-use Rattle.system_journals.specs.OnDisk.{entries_at, entries_of, length_with, moments_at, next_moment}
+use Rattle.unit_journal.specs.OnDisk.{entries_at, entries_of, length_with, moments_at, next_moment}
 use Rattle.world_tables.specs.Joining.{without_named, after_record}
 use Rattle.kept_world.specs.declared.append_end.AppendEnd.{AppendEnd}
 use Rattle.kept_world.specs.declared.append_end.AppendEnd.TheVariants.{Volume, Full, Before, After}

@@ -16,8 +16,8 @@ use Rattle.trfc_protocol.specs.RecordOf.{Writing, record_of}
 use Rattle.trfc_protocol.specs.Happens.{happens}
 use Rattle.trfc_protocol.specs.Safe.{Safe}
 use Rattle.trfc_protocol.proofs.RecordLemmas.{MayWrite-record}
-use Rattle.system_journals.specs.OnDisk.{next_moment, entries_at}
-use Rattle.system_journals.proofs.KeptLemmas.{IsOnDisk-stands}
+use Rattle.unit_journal.specs.OnDisk.{next_moment, entries_at}
+use Rattle.unit_journal.proofs.KeptLemmas.{IsOnDisk-stands}
 use Rattle.kept_world.specs.OnVolumes.{AreOnVolumes}
 use Rattle.kept_world.proofs.OnVolumesLemmas.{on_disk-up}
 use Rattle.kept_world.specs.Kept.{KeptOf}

@@ -15,8 +15,8 @@ use Rattle.trfc_protocol.specs.declared.event.ReplyTo.TheVariants.{Claim}
 use Rattle.trfc_protocol.specs.Meaning.{Meaning}
 use Rattle.trfc_protocol.specs.Worlds.{log_of}
 use Rattle.trfc_protocol.specs.RecordOf.{Writing, record_of}
-use Rattle.system_journals.specs.declared.journals.SystemJournals.{SystemJournals}
-use Rattle.system_journals.specs.OnDisk.{next_moment, entries_at, length_with}
+use Rattle.unit_journal.specs.declared.journals.SystemJournals.{SystemJournals}
+use Rattle.unit_journal.specs.OnDisk.{next_moment, entries_at, length_with}
 use Rattle.kept_world.specs.Kept.{KeptOf}
 use Rattle.kept_world.specs.Answers.{KeepsVolumes}
 use Rattle.kept_world.specs.Appending.{HasOneMore}

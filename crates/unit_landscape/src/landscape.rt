@@ -44,8 +44,8 @@ impl<R: Rules, A: Application, V: Volumes> UnitLandscape<R, A, V> {
     ghost use Rattle.std.specs.Option.{option_copied, option_map};
     ghost use Rattle.trfc_protocol.specs.Worlds.{log_of, is_up, committed_unit};
     ghost use Rattle.system_tables.specs.Tables.{TablesOf};
-    ghost use Rattle.system_journals.specs.OnDisk.{moments_at};
-    ghost use Rattle.system_journals.specs.Changes.{with_moment};
+    ghost use Rattle.unit_journal.specs.OnDisk.{moments_at};
+    ghost use Rattle.unit_journal.specs.Changes.{with_moment};
     ghost use Rattle.kept_world.specs.Kept.{IsKept, overrun_at};
     ghost use Rattle.unit_landscape.specs.Kept.{IsLandscape};
     ghost use Rattle.unit_landscape.specs.Tables.{AreTablesUp};

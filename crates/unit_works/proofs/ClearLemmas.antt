@@ -32,11 +32,11 @@ use Rattle.trfc_protocol.proofs.LegalLemmas.{is_free-parts}
 use Rattle.trfc_protocol.proofs.SafeLemmas.{committed_unit-is, received-is}
 use Rattle.kept_world.specs.Kept.{KeptOf}
 use Rattle.unit_landscape.specs.Kept.{IsLandscape}
-use Rattle.document_tables.specs.declared.document_tables.DocumentTables.{DocumentTables}
-use Rattle.model_rules.specs.declared.model_rules.ModelRules.{ModelRules}
-use Rattle.model_rules.specs.Meaning.{offered}
-use Rattle.wires.specs.declared.letter.Letter.TheVariants.{Whole}
-use Rattle.wires.specs.Wires.{letters_left, next_letter, rest_letters}
+use Rattle.document_state.specs.declared.document_tables.DocumentTables.{DocumentTables}
+use Rattle.document_state.specs.declared.model_rules.ModelRules.{ModelRules}
+use Rattle.document_state.specs.Meaning.{offered}
+use Rattle.unit_works.specs.declared.letter.Letter.TheVariants.{Whole}
+use Rattle.unit_works.specs.Wires.{letters_left, next_letter, rest_letters}
 use Rattle.unit_works.specs.Acts.{Act, Acted, HaveActed, confirm, execute, loses, ship}
 use Rattle.unit_works.specs.Events.{is_works_record}
 use Rattle.unit_works.specs.Through.{AreOffered, AreUp, IsClear, NoneLeft}

@@ -29,10 +29,10 @@ use Rattle.trfc_protocol.specs.Worlds.{committed_by, committed_unit, is_claimed,
 use Rattle.kept_world.specs.Kept.{KeptOf}
 use Rattle.unit_landscape.specs.Kept.{IsLandscape}
 use Rattle.landscape.specs.Shown.{AreUnconfirmedAt}
-use Rattle.document_tables.specs.declared.document_tables.DocumentTables.{DocumentTables}
-use Rattle.model_rules.specs.declared.model_rules.ModelRules.{ModelRules}
-use Rattle.wires.specs.declared.letter.Letter.{Letter}
-use Rattle.wires.specs.Wires.{letters_left, next_letter, rest_letters}
+use Rattle.document_state.specs.declared.document_tables.DocumentTables.{DocumentTables}
+use Rattle.document_state.specs.declared.model_rules.ModelRules.{ModelRules}
+use Rattle.unit_works.specs.declared.letter.Letter.{Letter}
+use Rattle.unit_works.specs.Wires.{letters_left, next_letter, rest_letters}
 use Rattle.unit_works.specs.Acts.{Act, HaveActed, confirm, each_but_last_cut, execute, is_cut, loses, ship, takes}
 use Rattle.unit_works.specs.Drained.{AreLost, AreOnce, DrainedAs, Found, FoundAs, GoThrough, HasGone, HasWorked, IsIdle, is_round}
 use Rattle.unit_works.specs.Claims.{AreOrGone, AreOrNone, NoneRuns}

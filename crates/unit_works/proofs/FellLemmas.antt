@@ -12,8 +12,8 @@ use Rattle.trfc_protocol.specs.RecordOf.{Writing, record_of}
 use Rattle.trfc_protocol.specs.Worlds.{is_up, log_of, rest_of, rest_or_none, state_of, up_or_not, with_fall}
 use Rattle.trfc_protocol.proofs.KeepingLemmas.{kept-is}
 use Rattle.trfc_protocol.proofs.RecordLemmas.{MayWrite-record}
-use Rattle.system_journals.specs.declared.journals.SystemJournals.{SystemJournals}
-use Rattle.system_journals.specs.OnDisk.{moments_at, next_moment}
+use Rattle.unit_journal.specs.declared.journals.SystemJournals.{SystemJournals}
+use Rattle.unit_journal.specs.OnDisk.{moments_at, next_moment}
 use Rattle.kept_world.specs.Kept.{KeptOf}
 use Rattle.unit_landscape.specs.Ends.{Failed, FellInstead, Overflowed}
 use Rattle.unit_landscape.specs.Kept.{IsLandscape}

@@ -40,3 +40,5 @@ pub mod IdleLemmas
 pub mod ClearLemmas
 -- works until none is left
 pub mod DrainedLemmas
+-- the numbers by which letters are kept
+pub mod NumberLemmas

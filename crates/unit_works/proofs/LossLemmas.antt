@@ -29,10 +29,10 @@ use Rattle.trfc_protocol.specs.RecordOf.{Writing}
 use Rattle.trfc_protocol.specs.Worlds.{committed_by, committed_unit, is_up, log_of}
 use Rattle.trfc_protocol.proofs.LegalLemmas.{is_free-parts}
 use Rattle.kept_world.specs.Kept.{KeptOf}
-use Rattle.document_tables.specs.declared.document_tables.DocumentTables.{DocumentTables}
-use Rattle.model_rules.specs.declared.model_rules.ModelRules.{ModelRules}
-use Rattle.wires.specs.declared.letter.Letter.{Letter}
-use Rattle.wires.specs.declared.letter.Letter.TheVariants.{Whole, LostRequest, LostReply, Twice, LostConfirmation}
+use Rattle.document_state.specs.declared.document_tables.DocumentTables.{DocumentTables}
+use Rattle.document_state.specs.declared.model_rules.ModelRules.{ModelRules}
+use Rattle.unit_works.specs.declared.letter.Letter.{Letter}
+use Rattle.unit_works.specs.declared.letter.Letter.TheVariants.{Whole, LostRequest, LostReply, Twice, LostConfirmation}
 use Rattle.unit_works.specs.Acts.{Act, Acted, HasConfirmed, HasShipped, HaveActed, confirm, execute, loses, ship, takes}
 use Rattle.unit_works.specs.Events.{arrives_under, is_confirmation, is_confirmed_under, is_execution, is_sent_under, is_shipping, is_work}
 use Rattle.unit_works.specs.Trips.{AppendedAs, HaveGrown, closing, confirmation, execution, forgot, is_done, is_due, learnt_under, may_ship, noted_of, one_at}

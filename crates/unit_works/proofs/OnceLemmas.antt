@@ -32,9 +32,9 @@ use Rattle.trfc_protocol.specs.RecordOf.{Writing}
 use Rattle.trfc_protocol.specs.Worlds.{committed_by, committed_unit, is_claimed, is_kind, is_up, log_of, offers_now}
 use Rattle.trfc_protocol.proofs.LegalLemmas.{is_free-parts}
 use Rattle.kept_world.specs.Kept.{KeptOf}
-use Rattle.document_tables.specs.declared.document_tables.DocumentTables.{DocumentTables}
-use Rattle.model_rules.specs.declared.model_rules.ModelRules.{ModelRules}
-use Rattle.wires.specs.declared.letter.Letter.{Letter}
+use Rattle.document_state.specs.declared.document_tables.DocumentTables.{DocumentTables}
+use Rattle.document_state.specs.declared.model_rules.ModelRules.{ModelRules}
+use Rattle.unit_works.specs.declared.letter.Letter.{Letter}
 use Rattle.unit_works.specs.Acts.{Act, Acted, HasShipped, HaveActed, confirm, each_but_last_cut, execute, is_cut, ship, takes}
 use Rattle.unit_works.specs.Claims.{NoneRuns}
 use Rattle.unit_works.specs.Drained.{IsSettled, TakesOnce, is_round}

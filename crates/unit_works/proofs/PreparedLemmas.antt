@@ -17,11 +17,11 @@ use Rattle.inbound_post.proofs.ApplicationLemmas.{past_of-push}
 use Rattle.log_models.specs.InForce.{system_after}
 use Rattle.said_models.specs.OfLog.{model_of, models_of, text_of}
 use Rattle.said_models.proofs.OfLogLemmas.{model_of-stay, models_of-stay}
-use Rattle.document_tables.specs.OfLog.{applied_by, postings_behind}
+use Rattle.document_state.specs.OfLog.{applied_by, postings_behind}
 use Rattle.trfc_protocol.specs.declared.world.World.{World}
 use Rattle.trfc_protocol.specs.Worlds.{committed_unit, log_of}
-use Rattle.model_rules.specs.declared.model_rules.ModelRules.{ModelRules}
-use Rattle.model_rules.specs.Meaning.{model_meaning}
+use Rattle.document_state.specs.declared.model_rules.ModelRules.{ModelRules}
+use Rattle.document_state.specs.Meaning.{model_meaning}
 use Rattle.landscape.specs.Working.{IsPreparedFor}
 use Rattle.unit_landscape.specs.declared.answers.Arrival.{Arrival}
 use Rattle.unit_landscape.specs.declared.answers.Arrival.TheVariants as arrival

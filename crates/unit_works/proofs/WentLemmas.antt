@@ -21,9 +21,9 @@ use Rattle.trfc_protocol.specs.Worlds.{committed_unit, is_up, log_of, log_or_non
 use Rattle.trfc_protocol.proofs.EventLemmas.{Safe-step}
 use Rattle.trfc_protocol.proofs.RecordLemmas.{MayWrite-record}
 use Rattle.trfc_protocol.proofs.WorldLemmas.{is_up-known, state_of-least, state_of-most}
-use Rattle.system_journals.specs.declared.journals.SystemJournals.{SystemJournals}
-use Rattle.system_journals.specs.Changes.{OnlyAt}
-use Rattle.system_journals.specs.OnDisk.{last_moment, later, moment_of, moments_at, next_moment}
+use Rattle.unit_journal.specs.declared.journals.SystemJournals.{SystemJournals}
+use Rattle.unit_journal.specs.Changes.{OnlyAt}
+use Rattle.unit_journal.specs.OnDisk.{last_moment, later, moment_of, moments_at, next_moment}
 use Rattle.kept_world.specs.Appending.{HasOneMore}
 use Rattle.kept_world.specs.Kept.{KeptOf, overrun_at}
 use Rattle.kept_world.specs.Overruns.{overrun_in}

@@ -29,10 +29,10 @@ use Rattle.unit_landscape.specs.declared.answers.Arrival.{Arrival}
 use Rattle.unit_landscape.specs.declared.answers.Arrival.TheVariants as arrival
 use Rattle.unit_landscape.specs.declared.answers.Reply.{Reply}
 use Rattle.unit_landscape.specs.declared.answers.Reply.TheVariants.{Lost}
-use Rattle.document_tables.specs.declared.document_tables.DocumentTables.{DocumentTables}
-use Rattle.model_rules.specs.declared.model_rules.ModelRules.{ModelRules}
-use Rattle.model_rules.specs.Meaning.{model_meaning}
-use Rattle.model_rules.specs.LawfulLemmas.{lawful}
+use Rattle.document_state.specs.declared.document_tables.DocumentTables.{DocumentTables}
+use Rattle.document_state.specs.declared.model_rules.ModelRules.{ModelRules}
+use Rattle.document_state.specs.Meaning.{model_meaning}
+use Rattle.document_state.specs.LawfulLemmas.{lawful}
 use Rattle.unit_landscape.specs.declared.answers.Finished.{Finished}
 use Rattle.unit_landscape.specs.declared.answers.Finished.TheVariants as finished
 use Rattle.unit_landscape.specs.declared.claims.InClaim.{InClaim}
@@ -42,9 +42,9 @@ use Rattle.unit_landscape.specs.declared.answers.Confirmed.TheVariants.{Down}
 use Rattle.unit_landscape.specs.Appending.{HoldsIn}
 use Rattle.unit_landscape.specs.Calls.{is_on, is_out, reply_event, stands_in, stands_out}
 use Rattle.unit_landscape.specs.Kept.{IsLandscape}
-use Rattle.wires.specs.declared.letter.Letter.{Letter}
-use Rattle.wires.specs.declared.letter.Letter.TheVariants.{Whole}
-use Rattle.wires.specs.Wires.{letters_left, next_letter}
+use Rattle.unit_works.specs.declared.letter.Letter.{Letter}
+use Rattle.unit_works.specs.declared.letter.Letter.TheVariants.{Whole}
+use Rattle.unit_works.specs.Wires.{letters_left, next_letter}
 use Rattle.unit_works.specs.Claims.{AreOrGone, OneFell}
 use Rattle.unit_works.specs.Events.{arrives_under, is_answered_under, is_arrival, is_confirmation, is_confirmed_under, is_confirming, is_delivery, is_end}
 use Rattle.unit_works.specs.Events.{is_claim, is_run, is_execution, is_lost, is_reply, is_shipping, is_work, told_of}

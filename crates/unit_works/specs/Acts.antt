@@ -6,12 +6,12 @@ use Rattle.unit_core.specs.declared.ale_unit.AleUnit.{AleUnit}
 use Rattle.trfc_protocol.specs.Worlds.{committed_unit}
 use Rattle.trfc_protocol.specs.Offered.{answer_to, offers_received_now}
 use Rattle.kept_world.specs.Kept.{KeptOf}
-use Rattle.document_tables.specs.declared.document_tables.DocumentTables.{DocumentTables}
-use Rattle.model_rules.specs.declared.model_rules.ModelRules.{ModelRules}
-use Rattle.model_rules.specs.Meaning.{model_meaning}
-use Rattle.wires.specs.declared.letter.Letter.{Letter}
-use Rattle.wires.specs.declared.letter.Letter.TheVariants.{LostConfirmation}
-use Rattle.wires.specs.Wires.{letters_left, next_letter}
+use Rattle.document_state.specs.declared.document_tables.DocumentTables.{DocumentTables}
+use Rattle.document_state.specs.declared.model_rules.ModelRules.{ModelRules}
+use Rattle.document_state.specs.Meaning.{model_meaning}
+use Rattle.unit_works.specs.declared.letter.Letter.{Letter}
+use Rattle.unit_works.specs.declared.letter.Letter.TheVariants.{LostConfirmation}
+use Rattle.unit_works.specs.Wires.{letters_left, next_letter}
 use Rattle.unit_works.specs.Events.{is_confirmation, is_execution, is_shipping}
 use Rattle.unit_works.specs.Trips.{AppendedAs, shipment, execution, confirmation, may_ship, may_execute, is_due, forgot}
 use Rattle.unit_works.specs.Worked.{HasTaken, HaveOnlyClaimed, Lines, Worked}

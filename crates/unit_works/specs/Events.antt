@@ -8,8 +8,8 @@ use Rattle.trfc_protocol.specs.declared.event.ReplyTo.TheVariants.{Claim, Forgot
 use Rattle.trfc_protocol.specs.declared.event.Action.TheVariants.{Revoke}
 use Rattle.unit_landscape.specs.declared.answers.Reply.{Reply}
 use Rattle.unit_landscape.specs.declared.answers.Reply.TheVariants as reply
-use Rattle.wires.specs.declared.letter.Letter.{Letter}
-use Rattle.wires.specs.declared.letter.Letter.TheVariants.{Whole, LostRequest, LostReply, Twice, LostConfirmation}
+use Rattle.unit_works.specs.declared.letter.Letter.{Letter}
+use Rattle.unit_works.specs.declared.letter.Letter.TheVariants.{Whole, LostRequest, LostReply, Twice, LostConfirmation}
 
 -- the records that works append: a unit is marked or done, is taken in, executed or run, fails, and its id is forgotten
 abbrev pub is_works_record : Record → Bool

@@ -22,5 +22,7 @@ pub mod Through
 pub mod Drained
 -- the two parts of a drain
 pub mod Rounds
+-- letters, and those that are left of units
+pub mod Wires
 -- what only private functions cite
 pub mod steps

@@ -8,13 +8,13 @@ use Rattle.unit_core.specs.Filters.{done_in}
 use Rattle.unit_core.specs.Queues.{is_listed}
 use Rattle.trfc_protocol.specs.Worlds.{committed_unit, is_up, log_of}
 use Rattle.kept_world.specs.Kept.{KeptOf}
-use Rattle.document_tables.specs.declared.document_tables.DocumentTables.{DocumentTables}
-use Rattle.model_rules.specs.Meaning.{model_meaning}
+use Rattle.document_state.specs.declared.document_tables.DocumentTables.{DocumentTables}
+use Rattle.document_state.specs.Meaning.{model_meaning}
 use Rattle.unit_works.specs.Acts.{Act, takes}
 use Rattle.unit_works.specs.Drained.{HasGone, HasWorked, IsIdle, is_round}
 use Rattle.unit_works.specs.Events.{is_work}
 use Rattle.unit_works.specs.Trips.{is_due}
-use Rattle.model_rules.specs.declared.model_rules.ModelRules.{ModelRules}
+use Rattle.document_state.specs.declared.model_rules.ModelRules.{ModelRules}
 use Rattle.unit_works.specs.Worked.{Lines, Worked}
 
 -- an id is of one of the first systems

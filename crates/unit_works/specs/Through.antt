@@ -7,9 +7,9 @@ use Rattle.unit_core.specs.Filters.{done_in, ended_in, executed, forgotten_in, i
 use Rattle.unit_core.specs.Queues.{is_among, is_listed}
 use Rattle.trfc_protocol.specs.declared.world.World.{World}
 use Rattle.trfc_protocol.specs.Worlds.{committed_unit, is_up, log_of, offers_now}
-use Rattle.model_rules.specs.declared.model_rules.ModelRules.{ModelRules}
-use Rattle.model_rules.specs.Meaning.{model_meaning}
-use Rattle.wires.specs.Wires.{letters_left}
+use Rattle.document_state.specs.declared.model_rules.ModelRules.{ModelRules}
+use Rattle.document_state.specs.Meaning.{model_meaning}
+use Rattle.unit_works.specs.Wires.{letters_left}
 use Rattle.unit_works.specs.Worked.{Lines}
 
 module _ {R : Type 0} (world : World R) where

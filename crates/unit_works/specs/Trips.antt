@@ -23,7 +23,7 @@ use Rattle.trfc_protocol.specs.Offered.{is_stopped_outbound, is_stopped_inbound,
 use Rattle.trfc_protocol.specs.RecordOf.{Writing}
 use Rattle.kept_world.specs.Kept.{KeptOf, overrun_at}
 use Rattle.unit_landscape.specs.Writes.{IsTooLong}
-use Rattle.wires.specs.declared.letter.Letter.{Letter}
+use Rattle.unit_works.specs.declared.letter.Letter.{Letter}
 use Rattle.unit_works.specs.Events.{arrives_under, is_answered_under, is_confirmed_under, is_sent_under}
 
 -- the records that come to a system's log, in order, of those that are appended

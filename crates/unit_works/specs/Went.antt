@@ -11,7 +11,7 @@ use Rattle.trfc_protocol.specs.Happens.{run}
 use Rattle.trfc_protocol.specs.Meaning.{Meaning}
 use Rattle.trfc_protocol.specs.Legal.{may_follow}
 use Rattle.trfc_protocol.specs.Worlds.{committed_unit, is_up, log_of, rest_of}
-use Rattle.system_journals.specs.OnDisk.{last_moment, later, moment_of, moments_at, next_moment}
+use Rattle.unit_journal.specs.OnDisk.{last_moment, later, moment_of, moments_at, next_moment}
 use Rattle.kept_world.specs.Kept.{KeptOf, overrun_at}
 use Rattle.unit_landscape.specs.Writes.{IsTooLong}
 use Rattle.unit_works.specs.Events.{is_works_record}

@@ -11,14 +11,14 @@ use Rattle.trfc_protocol.specs.Offered.{is_stopped_inbound, is_stopped_outbound,
 use Rattle.trfc_protocol.specs.Worlds.{committed_unit, log_of, without_claim}
 use Rattle.kept_world.specs.Kept.{KeptOf}
 use Rattle.kept_world.specs.Answers.{first_to_go}
-use Rattle.document_tables.specs.declared.document_tables.DocumentTables.{DocumentTables}
-use Rattle.model_rules.specs.declared.model_rules.ModelRules.{ModelRules}
-use Rattle.model_rules.specs.Meaning.{model_meaning}
+use Rattle.document_state.specs.declared.document_tables.DocumentTables.{DocumentTables}
+use Rattle.document_state.specs.declared.model_rules.ModelRules.{ModelRules}
+use Rattle.document_state.specs.Meaning.{model_meaning}
 use Rattle.unit_landscape.specs.declared.claims.InClaim.{InClaim}
 use Rattle.unit_landscape.specs.declared.claims.OutClaim.{OutClaim}
 use Rattle.unit_landscape.specs.Appending.{HoldsIn}
 use Rattle.unit_landscape.specs.Calls.{stands_in, stands_out}
-use Rattle.wires.specs.Wires.{letters_left, next_letter}
+use Rattle.unit_works.specs.Wires.{letters_left, next_letter}
 use Rattle.unit_works.specs.Claims.{AreOrGone}
 use Rattle.unit_works.specs.Events.{is_execution, is_work}
 use Rattle.unit_works.specs.Finished.{finished_in}

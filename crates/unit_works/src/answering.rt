@@ -11,7 +11,7 @@ ghost use Rattle.trfc_protocol.specs.declared.held.Held.{Held};
 ghost use Rattle.trfc_protocol.specs.declared.held.HeldKind.TheVariants.{Direct};
 ghost use Rattle.trfc_protocol.specs.Offered.{answer_to};
 ghost use Rattle.trfc_protocol.specs.Worlds.{committed_unit, without_claim};
-ghost use Rattle.model_rules.specs.Meaning.{model_meaning};
+ghost use Rattle.document_state.specs.Meaning.{model_meaning};
 ghost use Rattle.unit_landscape.specs.declared.answers.Arrival.TheVariants.{Down};
 ghost use Rattle.unit_landscape.specs.Calls.{reply_event, stands_out};
 ghost use Rattle.landscape.specs.Working.{IsPreparedFor};
@@ -23,6 +23,7 @@ ghost use Rattle.unit_works.specs.Worked.{Worked};
 ghost use Rattle.unit_works.specs.steps.Arriving.{AnsweredSo, ClaimsAre, DeliveredSo, IsAnswered, IsReadyFor, Says, Tells, event_of};
 ghost use Rattle.unit_works.specs.steps.Ending.{IsRun, ended_by};
 
+use crate::Letter;
 use crate::arriving::arrive_under;
 use crate::ending::{ended_by, finish};
 use crate::letters::arrives_under;
@@ -32,7 +33,6 @@ use inbound_post::Prepared;
 use landscape::Landscape;
 use std::alloc::Global;
 use unit_landscape::{Arrival, Finished, OutClaim, Reply, WorkEnd};
-use wires::Letter;
 
 /// What a receiver replies, and how many runs ended before it did.
 #[derive(Drop)]

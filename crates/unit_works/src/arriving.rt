@@ -6,19 +6,19 @@ ghost use Rattle.unit_core.specs.declared.ale_unit.AleUnit.{AleUnit as UnitOf};
 ghost use Rattle.trfc_protocol.specs.Worlds.{committed_unit};
 ghost use Rattle.unit_landscape.specs.declared.answers.Arrival.{Arrival as ArrivalOf};
 ghost use Rattle.unit_landscape.specs.Calls.{Arrived, stands_out};
-ghost use Rattle.model_rules.specs.Meaning.{model_meaning};
+ghost use Rattle.document_state.specs.Meaning.{model_meaning};
 ghost use Rattle.unit_works.specs.Events.{is_arrival};
 ghost use Rattle.unit_works.specs.Finished.{finished_in};
 ghost use Rattle.unit_works.specs.Worked.{Worked};
 ghost use Rattle.unit_works.specs.steps.Arriving.{ArrivedSo, BeginsNone, BeginsOn, BringsNothing, ClaimsCome, is_twice};
 
+use crate::Letter;
 use crate::letters::is_twice;
 use ale_base::OutOfMemory;
 use ale_volumes::Volumes;
 use landscape::Landscape;
 use unit_core::AleUnit;
 use unit_landscape::{Arrival, OutClaim};
-use wires::Letter;
 
 /// The unit of a claim arrives, under a letter that lets it. How it is answered at first: what becomes of it as it arrives twice is dropped.
 pub(crate) fn arrive_under<V: Volumes>(

@@ -11,7 +11,7 @@ ghost use Rattle.unit_core.specs.Queues.{is_listed};
 ghost use Rattle.system_tables.specs.OfLog.{is_unconfirmed};
 ghost use Rattle.trfc_protocol.specs.Worlds.{committed_unit, is_up, log_of};
 ghost use Rattle.unit_landscape.specs.Calls.{is_forgotten};
-ghost use Rattle.model_rules.specs.Meaning.{model_meaning};
+ghost use Rattle.document_state.specs.Meaning.{model_meaning};
 ghost use Rattle.unit_works.specs.Claims.{AreOrGone};
 ghost use Rattle.unit_works.specs.Events.{is_confirmation, is_confirmed_under, is_confirming, is_sent_under};
 ghost use Rattle.unit_works.specs.Finished.{finished_in};
@@ -20,15 +20,15 @@ ghost use Rattle.unit_works.specs.Worked.{HaveEnded, Worked};
 ghost use Rattle.unit_works.specs.Trips.{IsDueOf};
 ghost use Rattle.unit_works.specs.steps.Confirming.{Forgets, SentSo};
 ghost use Rattle.unit_works.specs.Rounds.{VisitedSo};
-ghost use Rattle.wires.specs.declared.letter.Letter.TheVariants.{Whole};
-ghost use Rattle.wires.specs.Wires.{letters_left, next_letter};
+ghost use Rattle.unit_works.specs.declared.letter.Letter.TheVariants.{Whole};
+ghost use Rattle.unit_works.specs.Wires.{letters_left, next_letter};
 
 use crate::letters::{is_confirmed_under, is_sent_under};
+use crate::{Letter, Wires};
 use ale_base::{OutOfMemory, Tid};
 use ale_volumes::Volumes;
 use landscape::Landscape;
 use unit_landscape::{Closed, Confirmed};
-use wires::{Letter, Wires};
 
 /// Sends the confirmation of a unit that is done and not ended, and then the reply to it. Nothing changes where it is not done or ended,
 /// or one of its systems is down, or no unit has this id. Where it is done and not ended and both its systems are up, the logs grow by

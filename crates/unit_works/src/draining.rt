@@ -5,13 +5,13 @@ ghost use Rattle.ale_base.specs.Tid.{TidOf};
 ghost use Rattle.unit_works.specs.Claims.{AreOrGone};
 ghost use Rattle.unit_works.specs.Rounds.{IsTo, RoundsAs, VisitedSo};
 
+use crate::Wires;
 use crate::confirming::confirm_each;
 use crate::rounds::go_round;
 use ale_base::{OutOfMemory, SystemNo};
 use ale_volumes::Volumes;
 use landscape::Landscape;
 use std::alloc::Global;
-use wires::Wires;
 
 /// More rounds than any drain goes: each but the last does a work at least, and each of at most 16 times 65,536 units is claimed twice,
 /// to be shipped and to be executed, unless a system falls.

@@ -7,7 +7,7 @@ ghost use Rattle.trfc_protocol.specs.Worlds.{without_claim};
 ghost use Rattle.unit_landscape.specs.Appending.{HoldsIn};
 ghost use Rattle.unit_landscape.specs.Calls.{stands_in};
 ghost use Rattle.landscape.specs.Working.{IsPreparedFor};
-ghost use Rattle.model_rules.specs.Meaning.{model_meaning};
+ghost use Rattle.document_state.specs.Meaning.{model_meaning};
 ghost use Rattle.unit_works.specs.Claims.{AreOrGone};
 ghost use Rattle.unit_works.specs.Events.{is_end};
 ghost use Rattle.unit_works.specs.Finished.{finished_in};

@@ -3,7 +3,7 @@
 ghost use Rattle.std.specs.Prelude.{◌≡◌, IsNone, IfOk, IfSome, OnErr};
 ghost use Rattle.std.specs.Result.{is_ok};
 ghost use Rattle.landscape.specs.Working.{IsPreparedFor};
-ghost use Rattle.model_rules.specs.Meaning.{model_meaning};
+ghost use Rattle.document_state.specs.Meaning.{model_meaning};
 ghost use Rattle.unit_works.specs.Events.{is_run};
 ghost use Rattle.unit_works.specs.Finished.{finished_in};
 ghost use Rattle.unit_works.specs.Worked.{HaveOnlyClaimed, NothingIn, Worked};

@@ -4,8 +4,8 @@ ghost use Rattle.std.specs.Prelude.{◌≡◌};
 ghost use Rattle.unit_works.specs.Events.{arrives_under, is_answered_under, is_confirmed_under, is_sent_under, told_of};
 ghost use Rattle.unit_works.specs.steps.Arriving.{is_twice};
 
+use crate::Letter;
 use unit_landscape::Reply;
-use wires::Letter;
 
 /// Whether the request arrives.
 pub(crate) fn arrives_under(letter: Letter) -> bool

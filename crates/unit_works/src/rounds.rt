@@ -5,13 +5,13 @@ ghost use Rattle.unit_works.specs.Claims.{AreOrGone};
 ghost use Rattle.unit_works.specs.Drained.{FoundAs, IsIdle};
 ghost use Rattle.unit_works.specs.steps.Rounds.{NothingAt, NothingTo, joined};
 
+use crate::Wires;
 use crate::executing::execute_next;
 use crate::shipping::ship_next;
 use ale_base::{OutOfMemory, SystemNo};
 use ale_volumes::Volumes;
 use landscape::Landscape;
 use std::alloc::Global;
-use wires::Wires;
 
 /// Ships and executes the first unit that is offered at each system. How many runs and executions ended. None exactly where nothing is
 /// offered at any system, and then nothing has changed.

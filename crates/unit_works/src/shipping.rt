@@ -6,7 +6,7 @@ ghost use Rattle.unit_core.specs.declared.ale_unit.AleUnit.{AleUnit};
 ghost use Rattle.trfc_protocol.specs.Offered.{answer_to};
 ghost use Rattle.trfc_protocol.specs.Worlds.{committed_unit, without_claim};
 ghost use Rattle.unit_landscape.specs.Calls.{stands_out};
-ghost use Rattle.model_rules.specs.Meaning.{model_meaning};
+ghost use Rattle.document_state.specs.Meaning.{model_meaning};
 ghost use Rattle.landscape.specs.Working.{IsPreparedFor};
 ghost use Rattle.unit_works.specs.Claims.{AreOrGone};
 ghost use Rattle.unit_works.specs.Events.{is_claim, is_shipping};
@@ -20,13 +20,13 @@ ghost use Rattle.unit_works.specs.Claiming.{IsShipped};
 use crate::answering::{Answered, deliver, reply};
 use crate::confirming::confirm_under;
 use crate::letters::told_under;
+use crate::{Letter, Wires};
 use ale_base::{OutOfMemory, SystemNo};
 use ale_volumes::Volumes;
 use inbound_post::Prepared;
 use landscape::Landscape;
 use std::alloc::Global;
 use unit_landscape::{OutClaim, Reply};
-use wires::{Letter, Wires};
 
 /// Claims the first unit that is offered outbound at a system, and ships it under its next letter: it arrives, and a run of it ends; its
 /// sender learns of the answer; and where it is done then, it is confirmed. The logs grow by exactly the records of that, one after the

@@ -4,7 +4,7 @@ ghost use Rattle.std.specs.Prelude.{◌≤◌, IfSome};
 
 use ale_base::{Items, OutOfMemory, SystemNo};
 use ale_volumes::MemoryVolumes;
-use model_rules::ModelRules;
+use document_state::ModelRules;
 use plain_law::Logs;
 use said_models::Readings;
 use std::alloc::Global;

@@ -2,8 +2,8 @@
 use Rattle.std.specs.Prelude.{ℕ, Bool}
 use Rattle.trfc_protocol.specs.declared.world.World.{World}
 use Rattle.kept_world.specs.Kept.{KeptOf}
-use Rattle.document_tables.specs.declared.document_tables.DocumentTables.{DocumentTables}
-use Rattle.model_rules.specs.declared.model_rules.ModelRules.{ModelRules}
+use Rattle.document_state.specs.declared.document_tables.DocumentTables.{DocumentTables}
+use Rattle.document_state.specs.declared.model_rules.ModelRules.{ModelRules}
 use Rattle.unit_works.specs.Drained.{IsIdle}
 use Rattle.unit_works.specs.Events.{is_work}
 use Rattle.unit_works.specs.Worked.{HaveOnlyClaimed, Worked}

@@ -10,9 +10,9 @@ use Rattle.byte_journal.specs.declared.fault.AppendFault.TheVariants.{Volume as 
 use Rattle.trfc_protocol.specs.Meaning.{Meaning}
 use Rattle.trfc_protocol.specs.Worlds.{is_up, with_fall}
 use Rattle.trfc_protocol.specs.Safe.{AreApart}
-use Rattle.system_journals.specs.declared.journals.SystemJournals.{SystemJournals}
-use Rattle.system_journals.specs.OnDisk.{next_moment, moments_at, entries_at, length_with, IsOnDisk, IsLeftOnDisk}
-use Rattle.system_journals.specs.Changes.{OnlyAt}
+use Rattle.unit_journal.specs.declared.journals.SystemJournals.{SystemJournals}
+use Rattle.unit_journal.specs.OnDisk.{next_moment, moments_at, entries_at, length_with, IsOnDisk, IsLeftOnDisk}
+use Rattle.unit_journal.specs.Changes.{OnlyAt}
 use Rattle.world_tables.specs.declared.world_tables.WorldTables.{WorldTables}
 use Rattle.world_tables.specs.Entered.{IsEntered, HasCount}
 use Rattle.world_tables.specs.InStep.{AreInStepWith}

@@ -3,7 +3,7 @@ use Rattle.std.specs.Prelude.{◌≡◌, ℕ, ◌-◌, ◌≤◌, ◌<◌, Optio
 use Rattle.ale_volumes.specs.declared.volume.Volume.{Volume as OneVolume}
 use Rattle.ale_volumes.specs.Clock.{KeepsVolume}
 use Rattle.unit_journal.specs.Log.{Stands}
-use Rattle.system_journals.specs.OnDisk.{count_of, moment_of, moments_at}
+use Rattle.unit_journal.specs.OnDisk.{count_of, moment_of, moments_at}
 use Rattle.kept_world.specs.Kept.{KeptOf}
 use Rattle.landscape_opening.specs.declared.beginning.BeginEnd.{BeginEnd}
 use Rattle.landscape_opening.specs.declared.beginning.BeginEnd.TheVariants as begin
@@ -11,8 +11,8 @@ use Rattle.landscape_opening.specs.declared.opening.fault.OpenFault.{OpenFault}
 use Rattle.landscape_opening.specs.declared.opening.fault.OpenFault.TheVariants as open_fault
 use Rattle.landscape_opening.specs.declared.opening.fault.NotOpened.{NotOpened}
 use Rattle.landscape_opening.specs.Opening.{begun_world}
-use Rattle.document_tables.specs.declared.document_tables.DocumentTables.{DocumentTables}
-use Rattle.model_rules.specs.declared.model_rules.ModelRules.{ModelRules}
+use Rattle.document_state.specs.declared.document_tables.DocumentTables.{DocumentTables}
+use Rattle.document_state.specs.declared.model_rules.ModelRules.{ModelRules}
 use Rattle.landscape.specs.declared.open_end.OpenEnd.{OpenEnd}
 use Rattle.landscape.specs.declared.open_end.OpenWhy.{OpenWhy}
 use Rattle.landscape.specs.declared.open_end.OpenWhy.TheVariants.{NotBuilt, OutOfMemory, Volume}

@@ -17,13 +17,13 @@ use Rattle.kept_world.specs.Answers.{KeepsVolumes}
 use Rattle.unit_landscape.specs.Ends.{Happened, Failed, IsFull, Stays, FellBehind}
 use Rattle.unit_landscape.specs.Writes.{WritesOnly}
 use Rattle.unit_landscape.specs.Appending.{at}
-use Rattle.document_tables.specs.Made.{GoesWith}
-use Rattle.document_tables.specs.declared.document_tables.DocumentTables.{DocumentTables}
-use Rattle.model_rules.specs.declared.model_rules.ModelRules.{ModelRules}
-use Rattle.model_rules.specs.Allowed.{allowed}
-use Rattle.model_rules.specs.Meaning.{model_meaning}
-use Rattle.command_records.specs.declared.wanted.Wanted.{Wanted}
-use Rattle.command_records.specs.Asked.{Asked}
+use Rattle.document_state.specs.Made.{GoesWith}
+use Rattle.document_state.specs.declared.document_tables.DocumentTables.{DocumentTables}
+use Rattle.document_state.specs.declared.model_rules.ModelRules.{ModelRules}
+use Rattle.document_state.specs.Allowed.{allowed}
+use Rattle.document_state.specs.Meaning.{model_meaning}
+use Rattle.landscape.specs.declared.wanted.Wanted.{Wanted}
+use Rattle.landscape.specs.Asked.{Asked}
 use Rattle.landscape.specs.declared.counts.Gathered.{Gathered}
 use Rattle.landscape.specs.Carried.{counts_of}
 

@@ -4,9 +4,11 @@ ghost use Rattle.std.specs.Prelude.{◌≡◌};
 
 use super::Landscape;
 use crate::commands::{ended, last_of};
+use crate::passing::{app, repost};
+use crate::putting::{pointers_noted, put};
+use crate::wanted::Wanted;
 use ale_base::{Change, DocNum, OutOfMemory, SystemNo};
 use ale_volumes::Volumes;
-use command_records::{Wanted, app, pointers_noted, put, repost};
 use status_log::{Refusal, Status};
 
 impl<V: Volumes> Landscape<V> {
@@ -15,8 +17,8 @@ impl<V: Volumes> Landscape<V> {
     ghost use Rattle.kept_world.specs.Answers.{KeepsVolumes};
     ghost use Rattle.unit_landscape.specs.Writes.{WritesOnly};
     ghost use Rattle.unit_landscape.specs.Appending.{at};
-    ghost use Rattle.command_records.specs.Asked.{asked_put, asked_app, asked_repost, pointers_noted};
-    ghost use Rattle.command_records.specs.Judged.{is_applications};
+    ghost use Rattle.landscape.specs.Asked.{asked_put, asked_app, asked_repost, pointers_noted};
+    ghost use Rattle.landscape.specs.steps.Judged.{is_applications};
     ghost use Rattle.landscape.specs.Carried.{CarriedAs, DiskAsked, asked_at, operator_event, status_at};
     ghost use Rattle.landscape.specs.steps.Ready.{IsReady, IsJudged, ReadyAs, EndedAs, DoneAs, DiskJudged};
 

@@ -5,12 +5,13 @@ ghost use Rattle.unit_core.specs.declared.records.Record.TheVariants as log;
 
 use super::Landscape;
 use crate::commands::{counts_of, ended, units_of};
+use crate::sending::{dispatch, gather, send};
+use crate::wanted::Wanted;
 use crate::{Gathered, Sent};
 use ale_base::SystemNo;
 use ale_volumes::Volumes;
 use application_rules::MOST_SEGMENTS;
-use command_records::{Wanted, dispatch, gather, send};
-use document_tables::Made;
+use document_state::Made;
 use outbound_build::Added;
 use status_log::Refusal;
 use unit_core::{RawUnitDoc, Record};
@@ -23,8 +24,8 @@ impl<V: Volumes> Landscape<V> {
     ghost use Rattle.kept_world.specs.Answers.{KeepsVolumes};
     ghost use Rattle.unit_landscape.specs.Writes.{WritesOnly};
     ghost use Rattle.unit_landscape.specs.Appending.{at};
-    ghost use Rattle.document_tables.specs.declared.made.Made.TheVariants as made;
-    ghost use Rattle.command_records.specs.Asked.{asked_send, asked_gather, asked_dispatch};
+    ghost use Rattle.document_state.specs.declared.made.Made.TheVariants as made;
+    ghost use Rattle.landscape.specs.Asked.{asked_send, asked_gather, asked_dispatch};
     ghost use Rattle.landscape.specs.Carried.{CarriedAs, DiskAsked, asked_at, counts_asked, counts_of, sent_counts};
     ghost use Rattle.landscape.specs.steps.Ready.{IsReady, IsJudged, ReadyAs, EndedAs, DoneAs, CountsAs, DiskJudged};
 

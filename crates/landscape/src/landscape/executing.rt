@@ -6,7 +6,7 @@ use super::Landscape;
 use crate::commands::late_refused;
 use ale_base::{Items, OutOfMemory, Tid};
 use ale_volumes::Volumes;
-use document_tables::Made;
+use document_state::Made;
 use inbound_post::{DocPosting, Prepared};
 use status_log::Refusal;
 use std::sync::Arc;
@@ -27,9 +27,9 @@ impl<V: Volumes> Landscape<V> {
     ghost use Rattle.unit_landscape.specs.Calls.{FinishedAs, finish_event, is_offered_function, stands_in};
     ghost use Rattle.unit_landscape.specs.Late.{LateAs, late_record};
     ghost use Rattle.unit_landscape.specs.Writes.{DiskAs};
-    ghost use Rattle.document_tables.specs.Made.{GoesWith};
-    ghost use Rattle.document_tables.specs.OfLog.{postings_behind};
-    ghost use Rattle.model_rules.specs.Meaning.{model_meaning};
+    ghost use Rattle.document_state.specs.Made.{GoesWith};
+    ghost use Rattle.document_state.specs.OfLog.{postings_behind};
+    ghost use Rattle.document_state.specs.Meaning.{model_meaning};
     ghost use Rattle.landscape.specs.Working.{CameOrRefused, IsExecutedWith, IsKindOf, IsMadeFor, IsPreparedFor};
 
     /// The work of a claim ends: the unit is executed where its receiver offers its function, with what was prepared of its documents,

@@ -5,7 +5,7 @@ ghost use Rattle.std.specs.Prelude.{◌≡◌};
 use super::Landscape;
 use ale_base::SystemNo;
 use ale_volumes::Volumes;
-use document_tables::DocumentTables;
+use document_state::DocumentTables;
 use listings::{listing, system_of};
 use status_log::{Listing, Refusal, Show};
 use system_tables::SystemTables;

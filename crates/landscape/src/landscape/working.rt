@@ -24,7 +24,7 @@ impl<V: Volumes> Landscape<V> {
     ghost use Rattle.unit_landscape.specs.Ends.{Happened, IsShort};
     ghost use Rattle.unit_landscape.specs.Writes.{DiskAs};
     ghost use Rattle.unit_landscape.specs.Appending.{Arrives};
-    ghost use Rattle.model_rules.specs.Meaning.{model_meaning};
+    ghost use Rattle.document_state.specs.Meaning.{model_meaning};
 
     /// Claims the first unit that is offered outbound at a system, to be shipped. None exactly where the system is down or nothing is
     /// offered there. After an `Err` nothing has changed.

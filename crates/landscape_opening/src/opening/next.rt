@@ -6,8 +6,8 @@ ghost use Rattle.ale_volumes.specs.Faults.{CountsFault};
 ghost use Rattle.byte_journal.specs.Log.{ReadsAs};
 ghost use Rattle.byte_journal.specs.Settled.{IsLeftByOpening, LeavesOnlyFromSync};
 ghost use Rattle.system_tables.specs.Tables.{no_tables};
-ghost use Rattle.system_journals.specs.OnDisk.{count_of, HaveMoments, IsOnDisk};
-ghost use Rattle.system_journals.specs.Changes.{IsNext};
+ghost use Rattle.unit_journal.specs.OnDisk.{count_of, HaveMoments, IsOnDisk};
+ghost use Rattle.unit_journal.specs.Changes.{IsNext};
 ghost use Rattle.kept_world.specs.Kept.{kept_of};
 ghost use Rattle.landscape_opening.specs.Opening.{IsOpening, IsOpened, with_opened, EmptyAs, LeavesEmpty};
 
@@ -15,9 +15,9 @@ use super::OpenFault;
 use ale_base::{Items, OutOfMemory};
 use ale_volumes::Volumes;
 use std::alloc::Global;
-use system_journals::SystemJournals;
 use system_tables::{Application, SystemTables};
 use trfc_protocol::{Rules, SystemState};
+use unit_journal::SystemJournals;
 use world_tables::WorldTables;
 
 /// Opens the volume of the next system, whose log is to be empty, with the application's tables of that system.

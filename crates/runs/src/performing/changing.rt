@@ -3,7 +3,7 @@
 ghost use Rattle.std.specs.Prelude.{◌≡◌, IfOk};
 ghost use Rattle.script_text.specs.declared.form.Form.TheVariants as form;
 ghost use Rattle.trfc_protocol.specs.Worlds.{log_of};
-ghost use Rattle.command_records.specs.Asked.{asked_app, asked_put, asked_repost, pointers_noted};
+ghost use Rattle.landscape.specs.Asked.{asked_app, asked_put, asked_repost, pointers_noted};
 ghost use Rattle.landscape.specs.Carried.{status_at};
 ghost use Rattle.report_text.specs.declared.reply.Reply.TheVariants.{Pointers, Posted};
 ghost use Rattle.runs.specs.Does.{Does, Operates};

@@ -3,7 +3,7 @@
 ghost use Rattle.std.specs.Prelude.{◌≡◌, IfOk};
 ghost use Rattle.script_text.specs.declared.form.Form.TheVariants as form;
 ghost use Rattle.trfc_protocol.specs.Worlds.{log_of};
-ghost use Rattle.command_records.specs.Asked.{asked_gather, asked_dispatch};
+ghost use Rattle.landscape.specs.Asked.{asked_gather, asked_dispatch};
 ghost use Rattle.landscape.specs.Carried.{counts_asked, sent_counts};
 ghost use Rattle.report_text.specs.declared.reply.Reply.TheVariants.{Units};
 ghost use Rattle.runs.specs.Does.{Commits, Does, asked_master, numbered, shown_gathered, shown_sent};

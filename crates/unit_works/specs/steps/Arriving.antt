@@ -15,10 +15,10 @@ use Rattle.unit_landscape.specs.declared.answers.Arrival.TheVariants.{New, Run, 
 use Rattle.unit_landscape.specs.declared.claims.InClaim.{InClaim}
 use Rattle.unit_landscape.specs.declared.claims.OutClaim.{OutClaim}
 use Rattle.inbound_post.specs.declared.prepared.DocPosting.{DocPosting}
-use Rattle.model_rules.specs.declared.model_rules.ModelRules.{ModelRules}
+use Rattle.document_state.specs.declared.model_rules.ModelRules.{ModelRules}
 use Rattle.landscape.specs.Working.{IsPreparedFor}
-use Rattle.wires.specs.declared.letter.Letter.{Letter}
-use Rattle.wires.specs.declared.letter.Letter.TheVariants.{Twice}
+use Rattle.unit_works.specs.declared.letter.Letter.{Letter}
+use Rattle.unit_works.specs.declared.letter.Letter.TheVariants.{Twice}
 use Rattle.unit_core.specs.declared.records.Record.TheVariants as log
 use Rattle.trfc_protocol.specs.declared.answer.Answer.{Answer}
 use Rattle.trfc_protocol.specs.declared.event.CoreAnswer.{CoreAnswer}

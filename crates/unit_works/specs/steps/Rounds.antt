@@ -1,7 +1,7 @@
 -- Rounds of all systems.
 use Rattle.std.specs.Prelude.{◌≤◌, ◌+◌, ℕ, Option, Some, None}
 use Rattle.trfc_protocol.specs.declared.world.World.{World}
-use Rattle.model_rules.specs.declared.model_rules.ModelRules.{ModelRules}
+use Rattle.document_state.specs.declared.model_rules.ModelRules.{ModelRules}
 use Rattle.unit_works.specs.Worked.{NothingIn, NothingOut}
 
 -- nothing is offered at a system

@@ -1,3 +1,4 @@
+use Rattle.std.specs.Arc.{arc_value}
 use Rattle.std.proofs.Common.{ap, inr}
 use Rattle.ale_base.specs.Faults.{Rose}
 use Rattle.ale_host.proofs.EndingLemmas.{EndsBehindModel-later, behind-model, if_err, if_ok, is-read}
@@ -8,7 +9,7 @@ returns-in-Ok-clause-ends g c =
     let told = g.F.Files.told in
     let faults = g.F.Files.faults in
     if_err c.read_behind_model.result c.read_behind_model.ensures.ends (λ end behind. inr (
-      c.in-Ok.said.model,
+      arc_value c.in-Ok.said.model,
       (c.in-Ok.said.text, c.in-Ok.ensures.says.in_file, c.in-Ok.ensures.says.says),
       EndsBehindModel-later (told c.args.files.now) (told c.read_model.new.files) (Rose (faults c.read_model.new.files) (faults c.read_behind_model.new.files))
           (Rose (faults c.args.files.now) (faults c.read_behind_model.new.files)) c.args.documents.now c.args.script.now end c.read_model.ensures.kept

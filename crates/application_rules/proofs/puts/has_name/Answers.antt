@@ -1,7 +1,7 @@
 use Rattle.std.proofs.Common.{List, ℕ, ◌∙◌}
 use Rattle.ale_base.specs.Text.{is_text}
 use Rattle.ale_base.specs.declared.change.FieldValue.{FieldValue}
-use Rattle.name_tables.proofs.SeenLemmas.{list_any-map}
+use Rattle.dist_model.proofs.SeenLemmas.{list_any-map}
 use Rattle.application_rules.proofs.puts.has_name.Goals as goal
 
 pub returns : goal.returns

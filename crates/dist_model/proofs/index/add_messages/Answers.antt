@@ -1,7 +1,7 @@
 use Rattle.std.proofs.Common.{[]}
 use Rattle.ale_base.specs.Text.{is_text}
 use Rattle.dist_model.specs.declared.message.Message.{Message}
-use Rattle.name_tables.proofs.DistinctLemmas.{added_next, is_text-symmetric}
+use Rattle.dist_model.proofs.DistinctLemmas.{added_next, is_text-symmetric}
 use Rattle.dist_model.proofs.index.add_messages.Goals as goal
 
 pub loop-message-preserved : goal.loop-message-preserved

@@ -1,6 +1,6 @@
 use Rattle.ale_base.specs.Text.{is_text}
 use Rattle.dist_model.specs.declared.message.Reduced.{Reduced}
-use Rattle.name_tables.proofs.DistinctLemmas.{added_next, is_text-symmetric}
+use Rattle.dist_model.proofs.DistinctLemmas.{added_next, is_text-symmetric}
 use Rattle.dist_model.proofs.index.add_reduced.Goals as goal
 
 pub loop-one-preserved : goal.loop-one-preserved

@@ -3,8 +3,8 @@ use Rattle.std.proofs.Common.{◌≡◌, [], Some, ap, sym, ◌∙◌}
 use Rattle.std.proofs.lemmas.Option.{slice_get-get_or}
 use Rattle.ale_base.specs.Text.{is_text}
 use Rattle.ale_base.proofs.ListLemmas.{AllByRecursion-at}
-use Rattle.name_tables.specs.Triple.{same_triple}
-use Rattle.name_tables.proofs.DistinctLemmas.{added_next, same_triple-symmetric}
+use Rattle.dist_model.specs.Triple.{same_triple}
+use Rattle.dist_model.proofs.DistinctLemmas.{added_next, same_triple-symmetric}
 use Rattle.dist_model.specs.declared.inbound.Inbound.{Inbound}
 use Rattle.dist_model.specs.Index.{inbound_triple, name_place}
 use Rattle.dist_model.proofs.IndexLemmas.{is_some, name_place-found, triple_same, triples-apart}

@@ -1,8 +1,8 @@
 use Rattle.std.proofs.Common.{[]}
-use Rattle.name_tables.specs.Triple.{same_triple}
+use Rattle.dist_model.specs.Triple.{same_triple}
 use Rattle.dist_model.specs.declared.outbound.Outbound.{Outbound}
 use Rattle.dist_model.specs.Way.{outbound_way}
-use Rattle.name_tables.proofs.DistinctLemmas.{added_next, same_triple-symmetric}
+use Rattle.dist_model.proofs.DistinctLemmas.{added_next, same_triple-symmetric}
 use Rattle.dist_model.proofs.index.ways_of.Goals as goal
 
 pub loop-profile-preserved : goal.loop-profile-preserved

@@ -1,7 +1,7 @@
 use Rattle.std.proofs.Common.{subst}
 use Rattle.kept_world.specs.Kept.{KeptOf}
-use Rattle.document_tables.specs.declared.document_tables.DocumentTables.{DocumentTables}
-use Rattle.model_rules.specs.declared.model_rules.ModelRules.{ModelRules}
+use Rattle.document_state.specs.declared.document_tables.DocumentTables.{DocumentTables}
+use Rattle.document_state.specs.declared.model_rules.ModelRules.{ModelRules}
 use Rattle.unit_landscape.specs.Kept.{IsLandscape}
 use Rattle.unit_works.proofs.DrainedLemmas.{idle-all}
 use Rattle.unit_works.proofs.WorkedLemmas.{meaning}

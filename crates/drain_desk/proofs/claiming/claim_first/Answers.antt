@@ -1,8 +1,8 @@
 use Rattle.std.specs.Prelude.{IsNone}
 use Rattle.std.proofs.Common.{true, refl, sym, subst, ◌∙◌}
 use Rattle.kept_world.specs.Kept.{KeptOf}
-use Rattle.document_tables.specs.declared.document_tables.DocumentTables.{DocumentTables}
-use Rattle.model_rules.specs.declared.model_rules.ModelRules.{ModelRules}
+use Rattle.document_state.specs.declared.document_tables.DocumentTables.{DocumentTables}
+use Rattle.document_state.specs.declared.model_rules.ModelRules.{ModelRules}
 use Rattle.unit_works.specs.steps.Rounds.{NothingAt}
 use Rattle.unit_works.proofs.DrainedLemmas.{nothing-more}
 use Rattle.drain_desk.proofs.ClaimingLemmas.{claims-same}

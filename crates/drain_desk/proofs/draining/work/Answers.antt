@@ -4,8 +4,8 @@ use denote.Param.Send.{arg_send, param_send}
 use Rattle.std.proofs.Common.{sym, subst}
 use Rattle.unit_works.specs.Worked.{Lines}
 use Rattle.kept_world.specs.Kept.{KeptOf}
-use Rattle.document_tables.specs.declared.document_tables.DocumentTables.{DocumentTables}
-use Rattle.model_rules.specs.declared.model_rules.ModelRules.{ModelRules}
+use Rattle.document_state.specs.declared.document_tables.DocumentTables.{DocumentTables}
+use Rattle.document_state.specs.declared.model_rules.ModelRules.{ModelRules}
 use Rattle.drain_desk.specs.Desk.{AreGoingOn}
 use Rattle.drain_desk.proofs.DrainLemmas.{going-first}
 use Rattle.drain_desk.proofs.SendLemmas.{DrainDesk-send, Work-send}

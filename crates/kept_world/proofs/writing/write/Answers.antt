@@ -4,8 +4,8 @@ use Rattle.unit_codec.specs.Entries.{entry_with}
 use Rattle.unit_journal.specs.Settled.{IsBeforeOrAfter}
 use Rattle.trfc_protocol.specs.Worlds.{log_of}
 use Rattle.world_tables.specs.Entered.{IsEntered}
-use Rattle.system_journals.specs.OnDisk.{next_moment, entries_at}
-use Rattle.system_journals.proofs.KeptLemmas.{IsOnDisk-stands}
+use Rattle.unit_journal.specs.OnDisk.{next_moment, entries_at}
+use Rattle.unit_journal.proofs.KeptLemmas.{IsOnDisk-stands}
 use Rattle.kept_world.proofs.OnVolumesLemmas.{on_disk-up}
 use Rattle.kept_world.proofs.WritingLemmas.{ends, faults-ended, last-of_entered}
 use Rattle.kept_world.proofs.writing.write.Goals as goal

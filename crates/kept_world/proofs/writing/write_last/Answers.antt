@@ -6,7 +6,7 @@ use Rattle.unit_core.specs.declared.records.Record.{Record}
 use Rattle.unit_codec.specs.Condition.{IsWritable}
 use Rattle.unit_codec.specs.Entries.{entry_with}
 use Rattle.unit_journal.specs.Settled.{IsBeforeOrAfter}
-use Rattle.system_journals.specs.OnDisk.{next_moment, entries_at}
+use Rattle.unit_journal.specs.OnDisk.{next_moment, entries_at}
 use Rattle.kept_world.specs.steps.Writing.{IsWriteOf}
 use Rattle.kept_world.proofs.writing.write_last.Goals as goal
 

@@ -1,6 +1,6 @@
 use Rattle.std.proofs.Common.{◌≡◌, ◌++◌, suc, drop}
-use Rattle.outbound_log.specs.Statuses.{Tracked}
-use Rattle.outbound_log.specs.Tables.{AreTablesOf}
+use Rattle.outbound_build.specs.Statuses.{Tracked}
+use Rattle.outbound_build.specs.Tables.{AreTablesOf}
 use Rattle.listings.specs.DocumentLines.{numbered, sent_line}
 use Rattle.listings.proofs.document_lines.push_sent.Given as goal
 

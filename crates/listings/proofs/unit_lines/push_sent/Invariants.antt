@@ -1,6 +1,6 @@
 use Rattle.std.proofs.Common.{◌≡◌, ◌++◌, List, drop, map}
 use Rattle.unit_core.specs.declared.records.Record.{Record}
-use Rattle.document_tables.specs.Tables.{AreTablesOf}
+use Rattle.document_state.specs.Tables.{AreTablesOf}
 use Rattle.listings.specs.steps.Kept.{sent_kept_line}
 use Rattle.listings.proofs.unit_lines.push_sent.Given as goal
 

@@ -1,6 +1,6 @@
 use Rattle.std.proofs.Common.{nat_eq, [], ◌∙◌}
 use Rattle.segment_defs.specs.declared.idoc_type.TypePlace.{TypePlace}
-use Rattle.name_tables.proofs.DistinctLemmas.{added_next, nat_eq-symmetric}
+use Rattle.dist_model.proofs.DistinctLemmas.{added_next, nat_eq-symmetric}
 use Rattle.model_messages.proofs.keep.types_of.Goals as goal
 
 pub loop-entry-preserved : goal.loop-entry-preserved

@@ -3,8 +3,8 @@ use Rattle.std.proofs.Common.{true, false, refl, sym, subst}
 use Rattle.unit_core.proofs.TidLemmas.{unit_named-Some}
 use Rattle.trfc_protocol.specs.Worlds.{committed_by}
 use Rattle.kept_world.specs.Kept.{KeptOf}
-use Rattle.document_tables.specs.declared.document_tables.DocumentTables.{DocumentTables}
-use Rattle.model_rules.specs.declared.model_rules.ModelRules.{ModelRules}
+use Rattle.document_state.specs.declared.document_tables.DocumentTables.{DocumentTables}
+use Rattle.document_state.specs.declared.model_rules.ModelRules.{ModelRules}
 use Rattle.unit_works.specs.Events.{is_arrival}
 use Rattle.unit_works.specs.steps.Arriving.{BeginsOn, ClaimsCome}
 use Rattle.unit_works.proofs.WorkedLemmas.{arrived-on, meaning, on, short-of, still}

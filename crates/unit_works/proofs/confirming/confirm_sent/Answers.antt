@@ -1,6 +1,6 @@
 use Rattle.std.proofs.Common.{true, refl, cond, [], sym, subst, ◌∙◌}
 use Rattle.std.specs.Prelude.{OnOk}
-use Rattle.wires.specs.declared.letter.Letter.TheVariants.{Whole}
+use Rattle.unit_works.specs.declared.letter.Letter.TheVariants.{Whole}
 use Rattle.unit_works.specs.Trips.{Appended, confirmation, forgot}
 use Rattle.unit_works.specs.Events.{is_confirmation}
 use Rattle.unit_works.proofs.WorkedLemmas.{still}

@@ -1,7 +1,7 @@
 use Rattle.std.proofs.Common.{true, refl, cond, [], sym, subst, ◌∙◌}
 use Rattle.std.specs.Prelude.{OnOk}
 use Rattle.std.specs.Result.{is_ok}
-use Rattle.wires.specs.declared.letter.Letter.TheVariants.{Whole}
+use Rattle.unit_works.specs.declared.letter.Letter.TheVariants.{Whole}
 use Rattle.unit_works.specs.Trips.{Appended, confirmation, forgot}
 use Rattle.unit_works.specs.Events.{is_confirmation, is_confirming}
 use Rattle.unit_works.proofs.WorkedLemmas.{confirmation-confirms, still, wider}

@@ -1,7 +1,7 @@
 use Rattle.std.proofs.Common.{true, false, ◌+◌, ◌*◌, arith, sym, subst}
 use Rattle.kept_world.specs.Kept.{KeptOf}
-use Rattle.document_tables.specs.declared.document_tables.DocumentTables.{DocumentTables}
-use Rattle.model_rules.specs.declared.model_rules.ModelRules.{ModelRules}
+use Rattle.document_state.specs.declared.document_tables.DocumentTables.{DocumentTables}
+use Rattle.document_state.specs.declared.model_rules.ModelRules.{ModelRules}
 use Rattle.unit_works.specs.Drained.{Found}
 use Rattle.unit_works.specs.Events.{is_work}
 use Rattle.unit_works.specs.steps.Rounds.{NothingAt, NothingTo, joined}

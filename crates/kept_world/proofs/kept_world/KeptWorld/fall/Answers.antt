@@ -1,6 +1,6 @@
 use Rattle.std.proofs.Common.{◌≡◌, ◌-◌, true, None, refl, sym, ap, subst, ◌∙◌}
 use Rattle.trfc_protocol.specs.Worlds.{log_of, is_up}
-use Rattle.system_journals.proofs.KeptLemmas.{IsLeft-of}
+use Rattle.unit_journal.proofs.KeptLemmas.{IsLeft-of}
 use Rattle.kept_world.specs.OnVolumes.{AreOnVolumes}
 use Rattle.kept_world.specs.Overruns.{with_overrun, AreOverrunsOf}
 use Rattle.kept_world.proofs.OverrunsLemmas.{overruns-fell}

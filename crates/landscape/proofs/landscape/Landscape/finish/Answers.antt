@@ -8,10 +8,10 @@ use Rattle.trfc_protocol.specs.Worlds.{committed_unit, is_up, log_of, offers_now
 use Rattle.unit_landscape.specs.Calls.{finish_event, is_offered_function}
 use Rattle.unit_landscape.specs.Kept.{IsLandscape}
 use Rattle.unit_landscape.proofs.HappenedLemmas.{disk-seen}
-use Rattle.document_tables.specs.Made.{GoesWith}
+use Rattle.document_state.specs.Made.{GoesWith}
 use Rattle.kept_world.specs.Kept.{KeptOf}
-use Rattle.document_tables.specs.declared.document_tables.DocumentTables.{DocumentTables}
-use Rattle.model_rules.specs.declared.model_rules.ModelRules.{ModelRules}
+use Rattle.document_state.specs.declared.document_tables.DocumentTables.{DocumentTables}
+use Rattle.document_state.specs.declared.model_rules.ModelRules.{ModelRules}
 use Rattle.landscape.specs.Begun.{AreBegun}
 use Rattle.landscape.specs.Working.{IsMadeFor}
 use Rattle.landscape.proofs.BegunLemmas.{meaning, is_lawful, begun-finished}

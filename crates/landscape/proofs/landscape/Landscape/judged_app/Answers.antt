@@ -1,7 +1,7 @@
 use Rattle.trfc_protocol.specs.Worlds.{log_of}
-use Rattle.command_records.specs.Judged.{is_applications}
-use Rattle.command_records.specs.Asked.{asked_app}
-use Rattle.command_records.proofs.AllowedLemmas.{app-may}
+use Rattle.landscape.specs.steps.Judged.{is_applications}
+use Rattle.landscape.specs.Asked.{asked_app}
+use Rattle.landscape.proofs.AllowedLemmas.{app-may}
 use Rattle.landscape.proofs.CarriedLemmas.{ready-err, ready-ok}
 use Rattle.landscape.proofs.landscape.Landscape.judged_app.Goals as goal
 

@@ -1,7 +1,7 @@
 use Rattle.trfc_protocol.specs.Legal.{is_commit}
 use Rattle.trfc_protocol.specs.Worlds.{log_of}
-use Rattle.command_records.specs.Asked.{asked_gather}
-use Rattle.command_records.proofs.AllowedLemmas.{gather-may}
+use Rattle.landscape.specs.Asked.{asked_gather}
+use Rattle.landscape.proofs.AllowedLemmas.{gather-may}
 use Rattle.landscape.proofs.CarriedLemmas.{ready-by}
 use Rattle.landscape.proofs.landscape.Landscape.judged_gather.Goals as goal
 

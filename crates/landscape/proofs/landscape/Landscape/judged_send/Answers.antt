@@ -1,7 +1,7 @@
 use Rattle.trfc_protocol.specs.Legal.{is_commit}
 use Rattle.trfc_protocol.specs.Worlds.{log_of}
-use Rattle.command_records.specs.Asked.{asked_send}
-use Rattle.command_records.proofs.AllowedLemmas.{send-may}
+use Rattle.landscape.specs.Asked.{asked_send}
+use Rattle.landscape.proofs.AllowedLemmas.{send-may}
 use Rattle.landscape.proofs.CarriedLemmas.{ready-err, ready-ok}
 use Rattle.landscape.proofs.landscape.Landscape.judged_send.Goals as goal
 

@@ -3,8 +3,8 @@ use Rattle.unit_landscape.specs.Late.{late_record}
 use Rattle.unit_landscape.specs.Writes.{DiskAs}
 use Rattle.unit_landscape.proofs.LateEndsLemmas.{late-still}
 use Rattle.kept_world.specs.Kept.{KeptOf}
-use Rattle.document_tables.specs.declared.document_tables.DocumentTables.{DocumentTables}
-use Rattle.model_rules.specs.declared.model_rules.ModelRules.{ModelRules}
+use Rattle.document_state.specs.declared.document_tables.DocumentTables.{DocumentTables}
+use Rattle.document_state.specs.declared.model_rules.ModelRules.{ModelRules}
 use Rattle.landscape.proofs.BegunLemmas.{meaning, begun-late}
 use Rattle.landscape.proofs.landscape.Landscape.late_ended.Goals as goal
 

@@ -1,9 +1,9 @@
 use Rattle.std.specs.Arc.{arc_value}
 use Rattle.std.proofs.Common.{◌≡◌, ℕ, List, length, refl, sym, subst, ◌∙◌}
 use Rattle.kept_world.specs.Kept.{KeptOf}
-use Rattle.document_tables.specs.declared.document_tables.DocumentTables.{DocumentTables}
-use Rattle.model_rules.specs.declared.model_rules.ModelRules.{ModelRules}
-use Rattle.model_rules.proofs.WritableLemmas.{commit-writable}
+use Rattle.document_state.specs.declared.document_tables.DocumentTables.{DocumentTables}
+use Rattle.document_state.specs.declared.model_rules.ModelRules.{ModelRules}
+use Rattle.document_state.proofs.WritableLemmas.{commit-writable}
 use Rattle.landscape.specs.Begun.{AreBegun}
 use Rattle.landscape.specs.Opened.{HasOpened}
 use Rattle.landscape.specs.steps.Opening.{AreBegunSoFar}

@@ -1,7 +1,7 @@
 use Rattle.trfc_protocol.specs.declared.world.World.{World}
 use Rattle.unit_landscape.proofs.HappenedLemmas.{disk-seen}
 use Rattle.unit_landscape.specs.Calls.{reply_event}
-use Rattle.model_rules.specs.declared.model_rules.ModelRules.{ModelRules}
+use Rattle.document_state.specs.declared.model_rules.ModelRules.{ModelRules}
 use Rattle.landscape.proofs.BegunLemmas.{meaning, is_lawful, begun-replied}
 use Rattle.landscape.proofs.landscape.Landscape.reply.Goals as goal
 

@@ -1,5 +1,5 @@
-use Rattle.command_records.specs.Judged.{is_applications}
-use Rattle.command_records.specs.Asked.{asked_repost}
+use Rattle.landscape.specs.steps.Judged.{is_applications}
+use Rattle.landscape.specs.Asked.{asked_repost}
 use Rattle.landscape.specs.Carried.{asked_at}
 use Rattle.landscape.proofs.CarriedLemmas.{disk-asked}
 use Rattle.landscape.proofs.landscape.Landscape.repost.Goals as goal

@@ -1,5 +1,5 @@
 use Rattle.trfc_protocol.specs.Legal.{is_commit}
-use Rattle.command_records.specs.Asked.{asked_send}
+use Rattle.landscape.specs.Asked.{asked_send}
 use Rattle.landscape.specs.Carried.{asked_at}
 use Rattle.landscape.proofs.CarriedLemmas.{disk-asked}
 use Rattle.landscape.proofs.landscape.Landscape.send.Goals as goal

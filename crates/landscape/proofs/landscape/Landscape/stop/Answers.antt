@@ -2,8 +2,8 @@ use Rattle.std.specs.Prelude.{⊤}
 use Rattle.std.proofs.Common.{ℕ, ap, sym, subst}
 use Rattle.ale_base.specs.declared.way.Way.{Way}
 use Rattle.kept_world.specs.Kept.{KeptOf}
-use Rattle.document_tables.specs.declared.document_tables.DocumentTables.{DocumentTables}
-use Rattle.model_rules.specs.declared.model_rules.ModelRules.{ModelRules}
+use Rattle.document_state.specs.declared.document_tables.DocumentTables.{DocumentTables}
+use Rattle.document_state.specs.declared.model_rules.ModelRules.{ModelRules}
 use Rattle.unit_core.specs.declared.records.Record.TheVariants as log
 use Rattle.landscape.specs.Carried.{CarriedAs, DiskAsked, asked_at, operator_event}
 use Rattle.landscape.specs.Operator.{asked_queue, stop_of}

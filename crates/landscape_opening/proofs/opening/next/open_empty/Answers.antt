@@ -1,6 +1,6 @@
 use Rattle.std.proofs.Common.{List, subst}
 use Rattle.unit_core.specs.declared.records.Record.{Record}
-use Rattle.system_journals.specs.OnDisk.{count_of, entries_at, moments_at, IsOnDisk}
+use Rattle.unit_journal.specs.OnDisk.{count_of, entries_at, moments_at, IsOnDisk}
 use Rattle.landscape_opening.proofs.OpeningLemmas.{entries-some}
 use Rattle.landscape_opening.proofs.opening.next.open_empty.Goals as goal
 

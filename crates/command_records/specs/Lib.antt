@@ -1,4 +1,0 @@
--- what a command asks for
-pub mod Asked
--- how it is judged
-pub mod Judged

@@ -1,0 +1,230 @@
+//! What a record of the log does to the tables.
+
+ghost use Rattle.std.specs.Prelude.{◌≡◌, ℕ, Some, IsTrue, OnOk, IfOk};
+ghost use Rattle.std.specs.Arc.{arc_value};
+ghost use Rattle.std.specs.Option.{option_map};
+ghost use Rattle.ale_base.specs.Tid.{TidOf};
+ghost use Rattle.dist_model.specs.declared.lists.Lists.{Lists as ListsOf};
+ghost use Rattle.unit_core.specs.declared.ale_unit.AleUnit.{AleUnit as UnitOf};
+ghost use Rattle.unit_core.specs.declared.records.Record.TheVariants.{Direct, Execute};
+ghost use Rattle.unit_core.specs.Queues.{unit_named};
+ghost use Rattle.outbound_build.specs.Added.{adds_any};
+ghost use Rattle.outbound_build.specs.Committed.{no_more};
+ghost use Rattle.inbound_post.specs.Application.{Application as ApplicationOf};
+ghost use Rattle.inbound_post.specs.Tables.{AreTablesOf as AreApplied};
+ghost use Rattle.document_state.specs.Made.{is_noted_alone};
+ghost use Rattle.document_state.specs.steps.Applying.{AddsAs, MadeUnder, applied_under, postings_under, renumbered_at};
+
+use crate::{DocumentTables, Made};
+use ale_base::{Items, OutOfMemory};
+use dist_model::Model;
+use inbound_post::{ApplicationTables, DocPosting};
+use outbound_build::Added;
+use std::alloc::Global;
+use std::sync::Arc;
+use system_tables::Application;
+use unit_core::{AleUnit, Record};
+
+impl Application for DocumentTables {
+    ghost use Rattle.document_state.specs.Made.{GoesWith};
+    ghost use Rattle.document_state.specs.Tables.{AreTablesOf};
+
+    type Extra = Made;
+
+    ghost stands = { λ tables log. AreTablesOf log tables };
+
+    ghost goes_with = { λ tables log next made. GoesWith log next made };
+
+    fn nothing() -> Made {
+        Made::Nothing
+    }
+
+    fn note(&mut self, alloc: Global, next: &Record, made: Made) -> Result<(), OutOfMemory> {
+        self.note_under(alloc, next, made)?;
+        match next {
+            Record::Genesis { text, .. } => self.bring(alloc, next, text.as_slice()),
+            Record::Model { text } => self.bring(alloc, next, text.as_slice()),
+            _ => Ok(()),
+        }
+    }
+}
+
+impl DocumentTables {
+    ghost use Rattle.std.specs.Prelude.{◌≡◌, ◌++◌, ◌∷◌, [], List, Some, IfOk, OnOk};
+    ghost use Rattle.unit_core.specs.declared.records.Record.{Record};
+    ghost use Rattle.said_models.specs.OfLog.{text_of};
+    ghost use Rattle.document_state.specs.Made.{GoesWith};
+    ghost use Rattle.document_state.specs.Tables.{AreTablesOf};
+    ghost use Rattle.document_state.specs.steps.Applying.{said_behind};
+    ghost use Rattle.document_state.specs.steps.Between.{IsBetween};
+
+    /// Notes a record under the model in force before it.
+    fn note_under(&mut self, alloc: Global, next: &Record, made: Made) -> Result<(), OutOfMemory>
+        ensures { (log : List Record) → AreTablesOf log self.old → GoesWith log next.now made → OnOk result (IsBetween log next.now self.new) }
+    {
+        let added = apply(alloc, &mut self.inbound, &self.model, next, made)?;
+        self.outbound.take(alloc, next, added)
+    }
+
+    /// The text of a record comes into force, which was noted under the model before it.
+    fn bring(&mut self, alloc: Global, next: &Record, text: &[u8]) -> Result<(), OutOfMemory>
+        requires { text_of next.now ≡ Some text.now }
+        ensures { (log : List Record) → IsBetween log next.now self.old → OnOk result (AreTablesOf (log ++ next.now ∷ []) self.new) }
+    {
+        let model = self.model_said(alloc, text)?;
+        renumber(alloc, &mut self.inbound, &self.model, &model, next)?;
+        self.model = model;
+        self.has_begun = true;
+        Ok(())
+    }
+
+    /// The model in force behind a record with this text: what the text says, if each text before it says one.
+    fn model_said(&self, alloc: Global, text: &[u8]) -> Result<Option<Arc<Model>>, OutOfMemory>
+        ensures { IfOk result (λ model. option_map arc_value model
+            ≡ said_behind (self.now).has_begun (option_map arc_value (self.now).model) text.now) }
+    {
+        if self.has_begun && self.model.is_none() {
+            return Ok(None);
+        }
+        self.readings.model(alloc, text)
+    }
+}
+
+/// What a record does to the inbound documents, objects and pointers, under the model in force and with what was made for it; and what
+/// it adds to the outbound documents and units.
+fn apply(
+    alloc: Global,
+    inbound: &mut ApplicationTables,
+    model: &Option<Arc<Model>>,
+    next: &Record,
+    made: Made,
+) -> Result<Added, OutOfMemory>
+    ensures added { IfOk result (AddsAs made) }
+    ensures applied { (application : ApplicationOf) (system : ℕ) → AreApplied application inbound.old
+        → MadeUnder (option_map arc_value model.now) system application next.now made
+        → OnOk result (AreApplied (applied_under (option_map arc_value model.now) system application next.now) inbound.new) }
+{
+    match made {
+        Made::Sent(added) => {
+            take_up(inbound, model, next);
+            Ok(added)
+        }
+        Made::Postings(postings) => {
+            execute_direct(alloc, inbound, model, next, postings.as_slice())?;
+            Ok(none_added(alloc))
+        }
+        Made::Executed { unit, postings } => {
+            execute(alloc, inbound, model, &unit, postings.as_slice())?;
+            Ok(none_added(alloc))
+        }
+        Made::Nothing => {
+            change(alloc, inbound, model, next)?;
+            Ok(none_added(alloc))
+        }
+    }
+}
+
+/// No documents and no units.
+pub(crate) fn none_added(alloc: Global) -> Added
+    ensures { result ≡ no_more }
+{
+    Added {
+        documents: Items::new(alloc),
+        units: Items::new(alloc),
+    }
+}
+
+/// A gathering takes up the pointers of its message type; every other Commit, and a Dispatch, leave them.
+fn take_up(inbound: &mut ApplicationTables, model: &Option<Arc<Model>>, next: &Record)
+    ensures { (application : ApplicationOf) (system : ℕ) → AreApplied application inbound.old → IsTrue (adds_any next.now)
+        → AreApplied (applied_under (option_map arc_value model.now) system application next.now) inbound.new }
+{
+    if let (Some(model), Record::Commit { origin, .. }) = (model, next) {
+        inbound.commit(model, origin);
+    }
+}
+
+/// A unit is received and executed at once: of its documents becomes what was prepared.
+fn execute_direct(
+    alloc: Global,
+    inbound: &mut ApplicationTables,
+    model: &Option<Arc<Model>>,
+    next: &Record,
+    postings: &[DocPosting],
+) -> Result<(), OutOfMemory>
+    ensures { (application : ApplicationOf) (system : ℕ) (unit : UnitOf) → AreApplied application inbound.old → next.now ≡ Direct unit
+        → postings.now ≡ postings_under (option_map arc_value model.now) system unit
+        → OnOk result (AreApplied (applied_under (option_map arc_value model.now) system application next.now) inbound.new) }
+{
+    match (model, next) {
+        (Some(_), Record::Direct { unit }) => {
+            inbound.execute(alloc, unit.sender, unit.docs.as_slice(), postings)
+        }
+        _ => Ok(()),
+    }
+}
+
+/// A unit that was received is executed: of its documents becomes what was prepared.
+fn execute(
+    alloc: Global,
+    inbound: &mut ApplicationTables,
+    model: &Option<Arc<Model>>,
+    unit: &AleUnit,
+    postings: &[DocPosting],
+) -> Result<(), OutOfMemory>
+    ensures { (application : ApplicationOf) (system : ℕ) (tid : TidOf) → AreApplied application inbound.old
+        → ((lists : ListsOf) → option_map arc_value model.now ≡ Some lists → unit_named tid application.received ≡ Some unit.now)
+        → postings.now ≡ postings_under (option_map arc_value model.now) system unit.now
+        → OnOk result (AreApplied (applied_under (option_map arc_value model.now) system application (Execute tid)) inbound.new) }
+{
+    match model {
+        None => Ok(()),
+        Some(_) => inbound.execute(alloc, unit.sender, unit.docs.as_slice(), postings),
+    }
+}
+
+/// What a record does for which nothing was made: an object is changed, or a document is passed to the application again.
+fn change(
+    alloc: Global,
+    inbound: &mut ApplicationTables,
+    model: &Option<Arc<Model>>,
+    next: &Record,
+) -> Result<(), OutOfMemory>
+    ensures { (application : ApplicationOf) (system : ℕ) → AreApplied application inbound.old → IsTrue (is_noted_alone next.now)
+        → OnOk result (AreApplied (applied_under (option_map arc_value model.now) system application next.now) inbound.new) }
+{
+    let Some(model) = model else {
+        return Ok(());
+    };
+    match next {
+        Record::Put { kind, key, fields } => {
+            let _count = inbound.put(
+                alloc,
+                model,
+                kind.as_slice(),
+                key.as_slice(),
+                fields.as_slice(),
+            )?;
+            Ok(())
+        }
+        Record::App { doc } | Record::Repost { doc } => inbound.pass_again(alloc, model, *doc),
+        _ => Ok(()),
+    }
+}
+
+/// Where a record brings another model into force, the pointers go by its numbers of message types.
+fn renumber(
+    alloc: Global,
+    inbound: &mut ApplicationTables,
+    before: &Option<Arc<Model>>,
+    after: &Option<Arc<Model>>,
+    next: &Record,
+) -> Result<(), OutOfMemory>
+    ensures { (application : ApplicationOf) → AreApplied application inbound.old → OnOk result (AreApplied
+        (renumbered_at (option_map arc_value before.now) (option_map arc_value after.now) next.now application) inbound.new) }
+{
+    match (before, after, next) {
+        (Some(before), Some(after), Record::Model { .. }) => inbound.remodel(alloc, before, after),
+        _ => Ok(()),
+    }
+}

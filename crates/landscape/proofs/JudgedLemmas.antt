@@ -1,0 +1,162 @@
+-- How what a command asks for comes about, by the model in force and what was found under it.
+use Rattle.std.specs.Prelude.{if◌then◌else◌, nat_le, nat_lt, slice_get, Ok, Err}
+use Rattle.std.specs.List.{filter_map}
+use Rattle.std.specs.Option.{option_map_or}
+use Rattle.std.proofs.Common.{◌≡◌, inl, inr, ℕ, zero, suc, ◌+◌, ◌≤◌, ◌<◌, Bool, true, false, Option, Some, None, List, [], ◌∷◌, length, refl, sym, ap, ◌∙◌}
+use Rattle.std.proofs.Common.{arith}
+use Rattle.std.proofs.lemmas.Bool.Decides.{nat_tests}
+use Rattle.std.proofs.lemmas.List.{length-map}
+use Rattle.std.proofs.lemmas.List.Elements.{All-contains, All-from_recursion}
+use Rattle.std.proofs.lemmas.Option.{slice_get_within}
+use Rattle.ale_base.proofs.ListLemmas.{AllByRecursion-at, AllByRecursion-of, slice_get-within}
+use Rattle.ale_base.specs.declared.tid.TheConstants.Tid.{MAX_UNIT}
+use Rattle.dist_model.specs.declared.lists.Lists.{Lists}
+use Rattle.dist_model.specs.declared.message.Message.{Message}
+use Rattle.dist_model.specs.Message.{IsReduced, message_names}
+use Rattle.dist_model.specs.Model.{IsModel, message_named}
+use Rattle.dist_model.proofs.LookupLemmas.{message-named}
+use Rattle.unit_core.specs.declared.raw_unit_doc.RawUnitDoc.{RawUnitDoc}
+use Rattle.unit_core.specs.declared.records.Record.{Record}
+use Rattle.unit_core.specs.declared.records.Record.TheVariants.{Commit, Dispatch}
+use Rattle.log_models.specs.InForce.{in_force, models_in}
+use Rattle.said_models.specs.Said.{said}
+use Rattle.said_models.specs.OfLog.{model_of, models_of, text_of}
+use Rattle.said_models.proofs.OfLogLemmas.{models_of-texts}
+use Rattle.said_models.proofs.SaidLemmas.{said-kept}
+use Rattle.status_log.specs.declared.refusal.Refusal.{Refusal}
+use Rattle.status_log.specs.declared.refusal.Refusal.TheVariants.{N4, N11, N12, OutOfMemory}
+use Rattle.application_rules.specs.Gathered.{gathered}
+use Rattle.application_rules.specs.Masters.{master_fault}
+use Rattle.outbound_build.specs.declared.added.Added.{Added}
+use Rattle.trfc_protocol.specs.Legal.{is_commit}
+use Rattle.document_state.specs.Made.{GoesWith}
+use Rattle.document_state.specs.declared.made.Made.TheVariants.{Sent}
+use Rattle.document_state.specs.OfLog.{applied_by, sent_by, added_behind}
+use Rattle.document_state.specs.Allowed.{waits_any}
+use Rattle.landscape.specs.Asked.{Asked, asked_dispatch, asked_gather, asked_send, by_model, gathered_for, gathered_or_none, sent_or_refused, units_with}
+use Rattle.landscape.specs.Asked.{with_room}
+use Rattle.landscape.specs.steps.Judged.{IsMaster, JudgedAs}
+
+-- where there is no model in force all names are unknown
+pub without-model : (log : List Record) (asked : Lists → Asked) → model_of log ≡ None → by_model log asked ≡ Err N12
+without-model log asked none = ap (λ found. option_map_or asked found (Err N12)) none
+
+-- there is room for as many units as there may be, and for no more
+pub room-there : (log : List Record) (next : Record) → length (sent_by log).past.units + length (added_behind log next).units ≤ 65536
+    → with_room log next ≡ Ok (Some next)
+room-there log next few =
+    let count = length (sent_by log).past.units + length (added_behind log next).units in
+    let has : nat_le count MAX_UNIT ≡ true = grind (arith, nat_tests, few) in
+    ap (λ b. if b then Ok (Some next) else Err (N11 (units_with log next))) has
+
+pub room-wanting : (log : List Record) (next : Record) (count : ℕ) → count ≡ length (sent_by log).past.units + length (added_behind log next).units →
+    65536 < count
+    → with_room log next ≡ Err (N11 count)
+room-wanting log next count counts many =
+    let most = length (sent_by log).past.units + length (added_behind log next).units in
+    let not : nat_le most MAX_UNIT ≡ false = grind (arith, nat_tests, counts, many) in
+    ap (λ b. if b then Ok (Some next) else Err (N11 (units_with log next))) not ∙ ap (λ n. Err (N11 n)) (sym counts)
+
+module _ (log : List Record) (model : Lists) (is : model_of log ≡ Some model) where
+  -- under the model in force
+  pub under-model : (asked : Lists → Asked) → by_model log asked ≡ asked model
+  under-model asked = ap (λ found. option_map_or asked found (Err N12)) is
+
+  -- a master is committed alone where it may be one
+  pub send-good : (master : RawUnitDoc) → master_fault model master ≡ None → asked_send log master ≡ with_room log (Commit None (master ∷ []))
+  send-good master good =
+      under-model (λ m. sent_or_refused (with_room log) master (master_fault m master)) ∙ ap (sent_or_refused (with_room log) master) good
+
+  -- and is refused for its fault
+  pub send-refused : (T : Type 0) (kind : Record → Bool) (master : RawUnitDoc) (why : Refusal) → IsMaster {T = T} (master_fault model master) (Err why)
+      → JudgedAs log kind (asked_send log master) (Err why)
+  send-refused T kind master N12 fault = under-model (λ m. sent_or_refused (with_room log) master (master_fault m master))
+      ∙ ap (sent_or_refused (with_room log) master) fault
+  send-refused T kind master (N4 syntax) fault =
+      under-model (λ m. sent_or_refused (with_room log) master (master_fault m master)) ∙ ap (sent_or_refused (with_room log) master) fault
+  send-refused T kind master OutOfMemory fault = tt
+  send-refused T kind master _ fault = absurd fault
+
+  -- a name stands for a message type
+  pub gather-known : (name : List ℕ) (message : ℕ) (type : Message) → message_named name model ≡ Some message → slice_get model.messages message ≡ Some type
+      → asked_gather log name ≡ gathered_for log model message type
+  gather-known name message type named here =
+      under-model (λ m. option_map_or (λ n. option_map_or (gathered_for log m n) (slice_get m.messages n) (Ok None)) (message_named name m) (Err N12))
+      ∙ ap (λ found. option_map_or (λ n. option_map_or (gathered_for log model n) (slice_get model.messages n) (Ok None)) found (Err N12)) named
+      ∙ ap (λ found. option_map_or (gathered_for log model message) found (Ok None)) here
+
+  -- or for none
+  pub gather-unknown : (name : List ℕ) → message_named name model ≡ None → asked_gather log name ≡ Err N12
+  gather-unknown name none =
+      under-model (λ m. option_map_or (λ n. option_map_or (gathered_for log m n) (slice_get m.messages n) (Ok None)) (message_named name m) (Err N12))
+      ∙ ap (λ found. option_map_or (λ n. option_map_or (gathered_for log model n) (slice_get model.messages n) (Ok None)) found (Err N12)) none
+
+-- what a record that commits documents adds goes with it
+pub sent-goes : (log : List Record) (next : Record) (added : Added) → is_commit next ≡ true → added ≡ added_behind log next → GoesWith log next (Sent added)
+sent-goes log (Commit origin docs) added kind is = is
+sent-goes log Dispatch added kind is = is
+sent-goes log _ added kind is = absurd (cc)
+
+-- a model in force keeps what a model keeps
+pub model-kept : (log : List Record) (model : Lists) → model_of log ≡ Some model → IsModel model
+model-kept log model is = of (models_in log) is
+  where
+    of : (count : ℕ) → in_force (models_of log) count ≡ Some model → IsModel model
+    of zero none = absurd (let lies : ◌≡◌ {A = Option Lists} None (Some model) = none in cc)
+    of (suc last) here =
+        AllByRecursion-at IsModel (models_of log) last model
+        (models_of-texts IsModel log (AllByRecursion-of (λ text. (m : Lists) → said text ≡ Some m → IsModel m) said-kept (filter_map text_of log))) here
+
+-- what is gathered is committed, where it is something
+pub gathered-some : (commits : Record → Asked) (name : List ℕ) (docs : List RawUnitDoc) → ((docs ≡ []) → ⊥)
+    → gathered_or_none commits name docs ≡ commits (Commit (Some name) docs)
+gathered-some commits name [] some = absurd (some refl)
+gathered-some commits name (doc ∷ docs) some = refl
+
+-- what waits is dispatched, where something waits
+pub dispatch-some : (log : List Record) (model : Lists) → model_of log ≡ Some model → ((sent_by log).past.outbox.waiting ≡ [] → ⊥)
+    → asked_dispatch log ≡ with_room log Dispatch
+dispatch-some log model is some =
+    under-model log model is (λ m. if waits_any log then with_room log Dispatch else Ok None)
+    ∙ ap (λ b. if b then with_room log Dispatch else Ok None) (of (sent_by log).past.outbox.waiting some)
+  where
+    of : {W : Type 0} (waiting : List W) → (waiting ≡ [] → ⊥) → nat_lt 0 (length waiting) ≡ true
+    of [] some = absurd (some refl)
+    of (one ∷ others) some = let least : 1 ≤ length (one ∷ others) = omega arith in grind (arith, nat_tests, least)
+
+-- a message type that lists fields whose changes make documents gathers
+pub gathers : (log : List Record) (model : Lists) (message : ℕ) (type : Message) → (type.pointers ≡ [] → ⊥)
+    → gathered_for log model message type
+    ≡ gathered_or_none (with_room log) type.name (gathered model (applied_by log).application.objects (applied_by log).application.pointers message)
+gathers log model message type some =
+    ap (λ b. if b then gathered_or_none (with_room log) type.name
+    (gathered model (applied_by log).application.objects (applied_by log).application.pointers message) else Ok None)
+    (of type.pointers some)
+  where
+    of : (places : List ℕ) → (places ≡ [] → ⊥) → nat_le 1 (length places) ≡ true
+    of [] some = absurd (some refl)
+    of (place ∷ others) some = let least : 1 ≤ length (place ∷ others) = omega arith in grind (arith, nat_tests, least)
+
+pub not_empty : {A : Type 0} (xs : List A) → (xs ≡ [] → ⊥) → 1 ≤ length xs
+not_empty [] some = absurd (some refl)
+not_empty (x ∷ xs) some = omega arith
+
+-- a name stands for a message type of the model
+pub named-within : (model : Lists) → IsModel model → (name : List ℕ) (message : ℕ) → message_named name model ≡ Some message → message < length model.messages
+named-within model kept name message named = elim ((message-named model kept name (message_named name model) refl message).0 named) [
+  | inl own ↦
+      let within = slice_get_within (message_names model.messages) message name own in
+      let count = length-map model.messages (λ (m : Message). m.name) in
+      omega (arith, within, count)
+  | inr reduced ↦
+      let each = All-from_recursion (IsReduced model.definitions model.types model.messages) model.reduced kept.reduced.each in
+      let is = All-contains (IsReduced model.definitions model.types model.messages) model.reduced reduced.one each reduced.among in
+      let basic = is.basic in
+      let same = reduced.basic in
+      omega (arith, basic, same)
+]
+
+-- so there is one of its number
+pub named-there : (model : Lists) → IsModel model → (name : List ℕ) (message : ℕ) → message_named name model ≡ Some message
+    → (type : Message) × (slice_get model.messages message ≡ Some type)
+named-there model kept name message named = slice_get-within model.messages message (named-within model kept name message named)

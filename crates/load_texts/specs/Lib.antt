@@ -1,2 +1,0 @@
--- the texts of a load
-pub mod Load

@@ -1,6 +1,0 @@
-use Rattle.name_tables.specs.Triple.{same_triple}
-use Rattle.model_checks.proofs.TableLemmas.{position-any}
-use Rattle.model_checks.proofs.profiled.has_way.Goals as goal
-
-pub returns : goal.returns
-returns c = rw (c.is_some.ensures, c.place.ensures.place) (position-any (same_triple c.args.way) c.args.ways.now)

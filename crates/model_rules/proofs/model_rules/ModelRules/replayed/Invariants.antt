@@ -1,6 +1,0 @@
-use Rattle.std.proofs.Common.{take}
-use Rattle.model_rules.specs.steps.Replaying.{IsReplayOf}
-use Rattle.model_rules.proofs.model_rules.ModelRules.replayed.Given as goal
-
-abbrev pub invariant-loop-place : goal.invariant-loop-place
-invariant-loop-place l = IsReplayOf (take l.place l.log) l.replay

@@ -1,5 +1,0 @@
-use Rattle.std.proofs.Common.{◌≡◌, ◌++◌, map, take}
-use Rattle.model_rules.proofs.replay.push_units.Given as goal
-
-abbrev pub invariant-loop-one : goal.invariant-loop-one
-invariant-loop-one l = l.units ≡ l.fn.units ++ map (λ one. one.unit) (take l.one-index l.more)

@@ -1,2 +1,0 @@
--- triples of numbers
-pub mod Triple

@@ -1,0 +1,107 @@
+//! The outbound documents of a log with their statuses.
+
+use crate::adding::{add_made, pass, push_carried};
+use crate::{AddFault, Added, OutDocument, Outbox};
+use ale_base::{DocNum, Items, OutOfMemory, SystemNo};
+use dist_model::Model;
+use status_log::{Status, StatusLog};
+use std::alloc::Global;
+use unit_core::Record;
+
+/// The outbound documents of a system with their statuses, and which units carry them, as its log has made them.
+///
+/// After an `Err` of `take` nothing is said of the tables: they are to be made again from the log.
+#[derive(Drop)]
+pub struct OutboundTables {
+    outbox: Outbox,
+    /// The documents, by their numbers from 1.
+    documents: Items<OutDocument>,
+    /// The numbers of the documents that each unit carries, by the numbers of the units from 1.
+    carried: Items<Items<DocNum>>,
+    statuses: StatusLog,
+}
+
+impl OutboundTables {
+    ghost use Rattle.std.specs.Prelude.{◌≡◌, ◌≤◌, ◌<◌, ℕ, Err, IfOk, OnOk, length, slice_get};
+    ghost use Rattle.std.specs.Option.{option_copied};
+    ghost use Rattle.outbound_build.specs.Added.{added_by, units_with};
+    ghost use Rattle.outbound_build.specs.Statuses.{Tracked, nothing_tracked, tracked_with};
+    ghost use Rattle.outbound_build.specs.Tables.{AreTablesOf};
+
+    /// The tables of a log that has no record. It takes no memory.
+    pub fn new(alloc: Global) -> OutboundTables
+        ensures { AreTablesOf nothing_tracked result }
+    {
+        OutboundTables {
+            outbox: Outbox::new(alloc),
+            documents: Items::new(alloc),
+            carried: Items::new(alloc),
+            statuses: StatusLog::new(alloc),
+        }
+    }
+
+    /// How many outbound documents there are.
+    pub fn count(&self) -> usize
+        ensures { (tracked : Tracked) → AreTablesOf tracked self.now → result ≡ length tracked.past.documents }
+    {
+        self.documents.len()
+    }
+
+    /// The outbound document at a place from 0, whose number is one more. None exactly where there is none.
+    pub fn document(&self, place: usize) -> Option<&OutDocument>
+        ensures { (tracked : Tracked) → AreTablesOf tracked self.now → option_copied result ≡ slice_get tracked.past.documents place }
+    {
+        self.documents.get(place)
+    }
+
+    /// The statuses of the document of a number, in the order in which it got them; none where there is no such document.
+    pub fn statuses(&self, doc: DocNum) -> &[Status]
+        ensures { (tracked : Tracked) → AreTablesOf tracked self.now → result.now ≡ tracked.statuses doc.0 }
+    {
+        self.statuses.list(doc)
+    }
+
+    /// What is to be known of the log, so that one more record can be added.
+    pub fn outbox(&self) -> &Outbox
+        ensures { (tracked : Tracked) → AreTablesOf tracked self.now → result.now ≡ tracked.past.outbox }
+    {
+        &self.outbox
+    }
+
+    /// What one more record of a system's log adds, under the model in force there. Nothing changes; `take` takes it in.
+    ///
+    /// `TooMany` comes exactly where the log would have more than 65,536 units, with their number.
+    pub fn added(
+        &self,
+        alloc: Global,
+        model: &Model,
+        system: SystemNo,
+        next: &Record,
+    ) -> Result<Added, AddFault>
+        ensures added { (tracked : Tracked) → AreTablesOf tracked self.now
+            → IfOk result (λ added. added ≡ added_by model.now system tracked.past.outbox next.now) }
+        ensures few { (tracked : Tracked) → AreTablesOf tracked self.now
+            → OnOk result (units_with model.now system tracked.past.outbox next.now ≤ 65536) }
+        ensures too_many { (tracked : Tracked) → AreTablesOf tracked self.now → (count : ℕ) → result ≡ Err (AddFault.TooMany count)
+            → (count ≡ units_with model.now system tracked.past.outbox next.now) × (65536 < count) }
+    {
+        self.outbox.added(alloc, model, system, next)
+    }
+
+    /// Takes in a record and what it adds: its documents with their first statuses, and what the record says of those before it.
+    pub fn take(&mut self, alloc: Global, next: &Record, added: Added) -> Result<(), OutOfMemory>
+        ensures { (tracked : Tracked) → AreTablesOf tracked self.old → OnOk result (AreTablesOf (tracked_with tracked next.now added) self.new) }
+    {
+        self.outbox.take(alloc, next, &added)?;
+        add_made(&mut self.statuses, added.documents.as_slice())?;
+        pass(
+            &mut self.statuses,
+            self.carried.as_slice(),
+            next,
+            added.units.as_slice(),
+        )?;
+        let Added { documents, units } = added;
+        push_carried(&mut self.carried, units)?;
+        self.documents.append(documents)
+    }
+}

@@ -1,4 +1,0 @@
--- The moments of one log, among those of all.
-pub mod Moments
--- What the opening of one volume gave.
-pub mod Opened

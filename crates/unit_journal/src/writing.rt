@@ -1,0 +1,83 @@
+//! The write of a record to the journal of a system.
+
+ghost use Rattle.std.specs.Prelude.{◌≡◌, ◌≢◌, ℕ, List, [], ◌∷◌, ◌++◌, ◌+◌, ◌-◌, ◌<◌, ◌↔◌, length, OnOk, OnErr, IsErrOf, Some};
+ghost use Rattle.ale_volumes.specs.Clock.{LeavesOnly, KeepsOthers};
+ghost use Rattle.ale_volumes.specs.Faults.{CountsFault};
+ghost use Rattle.byte_journal.specs.Log.{most_bytes};
+ghost use Rattle.unit_core.specs.declared.records.Record.{Record};
+ghost use Rattle.unit_codec.specs.Condition.{IsWritable};
+ghost use Rattle.unit_codec.specs.Entries.{entry_with};
+ghost use Rattle.unit_journal.specs.Settled.{IsBeforeOrAfter};
+
+use crate::SystemJournals;
+use crate::moments::{last, later, note, take_back};
+use ale_base::SystemNo;
+use ale_volumes::Volumes;
+use byte_journal::AppendFault;
+use unit_core::Record;
+
+impl SystemJournals {
+    ghost use Rattle.unit_journal.specs.OnDisk.{next_moment, moments_at, entries_at, length_with, IsOnDisk, IsLeftOnDisk};
+    ghost use Rattle.unit_journal.specs.Changes.{OnlyAt};
+
+    /// Adds a record to the log of a system that is up. Its moment is the one that is set, or the last of the log where that
+    /// is larger. At `Ok` it is acknowledged: each crash from then on leaves it.
+    ///
+    /// After every `Err` the journals are as before. After `Volume` the record may be in the log on the volume or not, and the
+    /// system is to be opened again before further use. `Full` comes where its volume would have more than 67,108,864 bytes,
+    /// and names that length; then nothing was written. After `OutOfMemory` the log on the volume is as before.
+    pub fn write<V: Volumes>(
+        &mut self,
+        vols: &mut V,
+        system: SystemNo,
+        next: &Record,
+    ) -> Result<(), AppendFault>
+        requires entry { IsWritable next.now }
+        requires on_disk { (log : List Record) × IsOnDisk V.told V.volume vols.old (system - 1) self.old log }
+
+        // The log on the volume has the record; or perhaps, where the volume failed; or it has it not.
+        ensures written { (log : List Record) → IsOnDisk V.told V.volume vols.old (system - 1) self.old log →
+            OnOk result (IsOnDisk V.told V.volume vols.new (system - 1) self.new (log ++ next.now ∷ [])) }
+        ensures torn { (log : List Record) → IsOnDisk V.told V.volume vols.old (system - 1) self.old log →
+            IsErrOf result AppendFault.Volume → IsLeftOnDisk V.told V.volume vols.new (system - 1) self.new log (Some next.now) }
+        ensures unwritten { (log : List Record) → IsOnDisk V.told V.volume vols.old (system - 1) self.old log →
+            IsErrOf result AppendFault.OutOfMemory → IsOnDisk V.told V.volume vols.new (system - 1) self.new log }
+
+        // When the volume is too small, and the length that it would have.
+        ensures full { (log : List Record) → IsOnDisk V.told V.volume vols.old (system - 1) self.old log → (place : ℕ) →
+            result ≢ Err AppendFault.OutOfMemory → (result ≡ Err (AppendFault.Full place))
+            ↔ ((place ≡ length_with (entries_at self.old (system - 1) log) (entry_with (next_moment self.old (system - 1)) next.now)) × (most_bytes < place)) }
+        ensures full_same { (place : ℕ) → result ≡ Err (AppendFault.Full place) → vols.new ≡ vols.old }
+
+        // What stays: all after an error, and always all that is of other systems.
+        ensures err { OnErr result (self.new ≡ self.old) }
+        ensures one { OnlyAt (system - 1) self.old self.new }
+        ensures grown { OnOk result (moments_at self.new (system - 1) ≡ moments_at self.old (system - 1) ++ next_moment self.old (system - 1) ∷ []) }
+
+        // A crash at any moment of the call leaves the log from before it, or with the record and its moment.
+        ensures any_moment { V.told → (log : List Record) → IsOnDisk V.told V.volume vols.old (system - 1) self.old log →
+            LeavesOnly V.moment V.images_since vols.old vols.new (system - 1)
+            (IsBeforeOrAfter (entries_at self.old (system - 1) log) (entry_with (next_moment self.old (system - 1)) next.now)) }
+        ensures others { V.told → KeepsOthers V.volume V.moment V.images_since vols.old vols.new (system - 1) }
+        ensures faults { CountsFault (IsErrOf result AppendFault.Volume) (V.faults vols.old) (V.faults vols.new) (system - 1) }
+    {
+        let place = system.get() as usize - 1;
+        let moment = self.next_moment(system);
+        // The moment first: a write that succeeded can't be taken back, and a moment can.
+        note(&mut self.moments, place, moment)?;
+        match self.journals.at_mut(place).append(vols, moment, next) {
+            Ok(()) => Ok(()),
+            Err(fault) => {
+                take_back(&mut self.moments, place);
+                Err(fault)
+            }
+        }
+    }
+
+    /// The moment of the next record of a system: the larger of the one that is set and the last of its log.
+    fn next_moment(&self, system: SystemNo) -> Option<u64>
+        ensures { result ≡ next_moment self.now (system - 1) }
+    {
+        later(self.moment, last(self.moments(system)))
+    }
+}

@@ -1,2 +1,0 @@
--- the numbers by which letters are kept
-pub mod NumberLemmas

@@ -1,2 +1,0 @@
--- letters, and those that are left of units
-pub mod Wires
