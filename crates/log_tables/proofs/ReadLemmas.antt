@@ -217,29 +217,48 @@ module _ {A : Type 0} (rules : Meaning) (lawful : IsLawful rules) (few : CommitF
 
   -- ---- step by step, as the code goes
 
-  entered_are : (more a : List AleUnit) (t0 t1 t2 : TablesOf A) → t0 ≡ its.tables → t1 ≡ held next t0 → t2 ≡ entered a t1 → a ≡ more
-      → t2 ≡ entered more (held next its.tables)
-  entered_are more a t0 t1 t2 here holds enters same =
-      enters ∙ ap (λ units. entered units t1) same ∙ ap (λ (t : TablesOf A). entered more t) (holds ∙ ap (λ (t : TablesOf A). held next t) here)
+  held_are : (t0 t1 : TablesOf A) → t0 ≡ its.tables → t1 ≡ held next t0 → t1 ≡ held next its.tables
+  held_are t0 t1 here holds = holds ∙ ap (λ (t : TablesOf A). held next t) here
 
-  pub can-note-at : (more a b : List AleUnit) (t0 t1 t2 : TablesOf A) → t0 ≡ its.tables → t1 ≡ held next t0 → t2 ≡ entered a t1 → a ≡ more → b ≡ more
-      → rules.committed system (log ++ next ∷ []) ≡ rules.committed system log ++ more → CanNote next b (Some 0) t2
-  can-note-at more a b t0 t1 t2 here holds enters same_a same_b commits =
-      subst (λ units. CanNote next units (Some 0) t2) (sym same_b)
-      (subst (λ (t : TablesOf A). CanNote next more (Some 0) t) (sym (entered_are more a t0 t1 t2 here holds enters same_a)) (can-note more commits))
+  -- units that are entered change nothing of what noting asks
+  can-note-held : (more : List AleUnit) → rules.committed system (log ++ next ∷ []) ≡ rules.committed system log ++ more
+      → CanNote next more (Some 0) (held next its.tables)
+  can-note-held more commits =
+      let can = can-note more commits in
+      record { outgoing = can.outgoing; incoming = can.incoming }
 
-  pub IsRead-at : (goes : A → List Record → Type 0) (more a b : List AleUnit) (t0 t1 t2 t3 : TablesOf A) (p0 p3 : List ((ℕ × ℕ) × ℕ)) (d0 d3 f0 f3 : List TidOf) (place : ℕ)
-      → t0 ≡ its.tables → t1 ≡ held next t0 → t2 ≡ entered a t1 → a ≡ more → b ≡ more → p0 ≡ its.places → d0 ≡ its.done → f0 ≡ its.forgotten → place ≡ length log
+  pub can-note-at : (more a : List AleUnit) (t0 t1 : TablesOf A) → t0 ≡ its.tables → t1 ≡ held next t0 → a ≡ more
+      → rules.committed system (log ++ next ∷ []) ≡ rules.committed system log ++ more → CanNote next a (Some 0) t1
+  can-note-at more a t0 t1 here holds same commits =
+      subst (λ units. CanNote next units (Some 0) t1) (sym same)
+      (subst (λ (t : TablesOf A). CanNote next more (Some 0) t) (sym (held_are t0 t1 here holds)) (can-note-held more commits))
+
+  -- a record that is noted before its units are entered, as if they were entered before
+  entered_after : (goes : A → List Record → Type 0) (more : List AleUnit) (t1 t2 : TablesOf A) → Noted stands goes next more t1 t2
+      → Noted stands goes next more (entered more t1) (entered more t2)
+  entered_after goes more t1 t2 noted = record {
+    units = ap (λ units. units ++ more) noted.units;
+    received = noted.received;
+    seen = noted.seen;
+    unconfirmed = noted.unconfirmed;
+    outgoing = noted.outgoing;
+    incoming = noted.incoming;
+    application = noted.application;
+  }
+
+  pub IsRead-at : (goes : A → List Record → Type 0) (more a : List AleUnit) (t0 t1 t2 t3 : TablesOf A) (p0 p3 : List ((ℕ × ℕ) × ℕ)) (d0 d3 f0 f3 : List TidOf) (place : ℕ)
+      → t0 ≡ its.tables → t1 ≡ held next t0 → a ≡ more → t3 ≡ entered more t2 → p0 ≡ its.places → d0 ≡ its.done → f0 ≡ its.forgotten → place ≡ length log
       → rules.committed system (log ++ next ∷ []) ≡ rules.committed system log ++ more
-      → goes t0.application log → Noted stands goes next b t2 t3
+      → goes t0.application log → Noted stands goes next a t1 t2
       → Placed (taken_by next) place (place_of p0) (place_of p3) → Listed (done_by next) d0 d3 → Listed (forgotten_by next) f0 f3
       → IsRead rules stands system (log ++ next ∷ []) (record { tables = t3; places = p3; done = d3; forgotten = f3 })
-  IsRead-at goes more a b t0 t1 t2 t3 p0 p3 d0 d3 f0 f3 place here holds enters same_a same_b same_p same_d same_f last commits made noted placed done
-      forgotten =
+  IsRead-at goes more a t0 t1 t2 t3 p0 p3 d0 d3 f0 f3 place here holds same enters same_p same_d same_f last commits made noted placed done forgotten =
+      let as_held = subst (λ (t : TablesOf A). Noted stands goes next more t t2) (held_are t0 t1 here holds)
+      (subst (λ units. Noted stands goes next units t1 t2) same noted) in
       IsRead-noted goes more (record { tables = t3; places = p3; done = d3; forgotten = f3 }) commits
       (subst (λ (t : TablesOf A). goes t.application log) here made)
-      (subst (λ (t : TablesOf A). Noted stands goes next more t t3) (entered_are more a t0 t1 t2 here holds enters same_a)
-      (subst (λ units. Noted stands goes next units t2 t3) same_b noted))
+      (subst (λ (t : TablesOf A). Noted stands goes next more (entered more (held next its.tables)) t) (sym enters)
+      (entered_after goes more (held next its.tables) t2 as_held))
       (subst (λ p. Placed (taken_by next) (length log) (place_of p) (place_of p3)) same_p
       (subst (λ n. Placed (taken_by next) n (place_of p0) (place_of p3)) last placed))
       (subst (λ d. Listed (done_by next) d d3) same_d done)

@@ -42,9 +42,9 @@ pub(crate) fn note<R: LogRules>(
         executed,
     )?;
     hold(&mut its.tables, next);
-    its.tables.enter(units.as_slice())?;
     its.tables
         .note(alloc, next, units.as_slice(), Some(0), extra)?;
+    its.tables.take_over(units)?;
     note_place(&mut its.places, log.len(), next)?;
     note_done(&mut its.done, next)?;
     note_forgotten(&mut its.forgotten, next)?;

@@ -1,6 +1,7 @@
 -- Rules that list each system's units beforehand.
 use Rattle.std.specs.Prelude.{ℕ, zero, suc, ◌+◌, Bool, true, false, not, ◌==◌, ◌&&◌, ◌||◌, nat_le, nat_lt, nat_eq, List, [], ◌∷◌, length, take, codes}
-use Rattle.std.specs.Prelude.{slice_index_or, if◌then◌else◌}
+use Rattle.std.specs.Prelude.{slice_index_or, slice_get, if◌then◌else◌}
+use Rattle.std.specs.Option.{option_to_list}
 use Rattle.std.specs.Cmp.Lexicographic.{pointwise}
 use Rattle.ale_base.specs.declared.system_no.TheConstants.SystemNo.{MAX}
 use Rattle.ale_base.specs.declared.tid.TheConstants.Tid.{MAX_UNIT}
@@ -11,13 +12,17 @@ use Rattle.unit_core.specs.Queues.{are_different}
 use Rattle.trfc_protocol.specs.Meaning.{Meaning}
 use Rattle.trfc_protocol.specs.Legal.{is_model}
 
--- whether this is unit k of a system: its id says so, the system sends it, another one receives it, and the names of its
--- queues differ
+-- the most queues of a unit in one direction
+abbrev pub most_queues : ℕ
+most_queues = 8
+
+-- whether this is unit k of a system: its id says so, the system sends it, another one receives it, the names of its
+-- queues differ, and its outbound ones are few
 abbrev pub is_unit : ℕ → ℕ → ℕ → AleUnit → Bool
 is_unit systems system k unit =
     (unit.tid.system == system) && (unit.tid.unit == k) && (unit.sender == system)
     && nat_le 1 unit.receiver && nat_le unit.receiver systems && not (unit.receiver == system)
-    && are_different unit.outq && are_different unit.inq
+    && are_different unit.outq && are_different unit.inq && nat_le (length unit.outq) most_queues
 
 -- whether these are the units of a system from unit k on
 abbrev pub are_units : ℕ → ℕ → ℕ → List AleUnit → Bool
@@ -48,6 +53,10 @@ is_commit_record _ = false
 abbrev pub commits_of : List Record → ℕ
 commits_of [] = 0
 commits_of (next ∷ log) = (if is_commit_record next then 1 else 0) + commits_of log
+
+-- the unit of a list that a record commits behind a log, and none where it is no Commit
+abbrev pub units_by : List AleUnit → List Record → Record → List AleUnit
+units_by list log next = if is_commit_record next then option_to_list (slice_get list (commits_of log)) else []
 
 -- The k-th Commit of a system commits the k-th unit of its list, and may follow while there is one. A Model may always
 -- follow, no other record of the application may, and one function is offered.

@@ -12,10 +12,11 @@ use Rattle.unit_core.specs.declared.records.Record.TheVariants.{Commit}
 use Rattle.ale_base.specs.Prefix.{IsPrefix}
 use Rattle.unit_core.specs.Queues.{are_different}
 use Rattle.trfc_protocol.specs.Legal.{IsUnitAt, IsLawful, is_commit}
-use Rattle.protocol_scenes.specs.ListedRules.{is_unit, are_units, are_lists, are_listed, list_of, is_commit_record, commits_of, listed_meaning}
+use Rattle.protocol_scenes.specs.ListedRules.{most_queues, is_unit, are_units, are_lists, are_listed, list_of, is_commit_record, commits_of, listed_meaning}
 
 is_unit-at : (systems system k : ℕ) (unit : AleUnit) → is_unit systems system (k + 1) unit ≡ true → IsUnitAt systems system k unit
 is_unit-at systems system k unit is =
+    let few = nat_le (length unit.outq) most_queues in
     let inbound = are_different unit.inq in
     let outbound = are_different unit.outq in
     let other = not (unit.receiver == system) in
@@ -24,7 +25,8 @@ is_unit-at systems system k unit is =
     let from = unit.sender == system in
     let number = unit.tid.unit == (k + 1) in
     let home = unit.tid.system == system in
-    let n = and_parts (home && number && from && least && most && other && outbound) inbound is in
+    let p = and_parts (home && number && from && least && most && other && outbound && inbound) few is in
+    let n = and_parts (home && number && from && least && most && other && outbound) inbound p.0 in
     let m = and_parts (home && number && from && least && most && other) outbound n.0 in
     let a = and_parts (home && number && from && least && most) other m.0 in
     let b = and_parts (home && number && from && least) most a.0 in
@@ -43,7 +45,7 @@ is_unit-at systems system k unit is =
       inbound_names = n.1;
     }
 
-are_units-at : (systems system k : ℕ) (units : List AleUnit) → are_units systems system (k + 1) units ≡ true → (j : ℕ) (d : AleUnit) → j < length units
+pub are_units-at : (systems system k : ℕ) (units : List AleUnit) → are_units systems system (k + 1) units ≡ true → (j : ℕ) (d : AleUnit) → j < length units
     → IsUnitAt systems system (k + j) (slice_index_or units j d)
 are_units-at systems system k [] are j d within = absurd (omega arith)
 are_units-at systems system k (u ∷ us) are zero d within =
@@ -70,7 +72,8 @@ are_lists-at systems first (l ∷ ls) are (suc j) =
     let there = are_lists-at systems (first + 1) ls a.1 j in
     (there.0, subst (λ (n : ℕ). are_units systems n 1 (slice_index_or ls j []) ≡ true) moved there.1)
 
-list_of-at : (lists : List (List AleUnit)) → are_listed lists ≡ true → (system : ℕ)
+-- the units of each list, by the test that they passed
+pub list_of-at : (lists : List (List AleUnit)) → are_listed lists ≡ true → (system : ℕ)
     → (length (list_of lists system) ≤ MAX_UNIT) × (are_units (length lists) system 1 (list_of lists system) ≡ true)
 list_of-at lists are zero = (omega arith, refl)
 list_of-at lists are (suc k) =
@@ -79,7 +82,7 @@ list_of-at lists are (suc k) =
     let moved : 1 + k ≡ suc k = omega arith in
     (there.0, subst (λ (n : ℕ). are_units (length lists) n 1 (slice_index_or lists k []) ≡ true) moved there.1)
 
-index-take : (units : List AleUnit) (n j : ℕ) (d : AleUnit) → j < length (take n units)
+pub index-take : (units : List AleUnit) (n j : ℕ) (d : AleUnit) → j < length (take n units)
     → (j < length units) × (slice_index_or (take n units) j d ≡ slice_index_or units j d)
 index-take [] zero j d within = absurd (omega arith)
 index-take [] (suc n) j d within = absurd (omega arith)

@@ -27,12 +27,14 @@ pub(crate) enum ItemWord {
     Law,
     Walks,
     Legal,
+    Read,
+    Breach,
     Told,
     Marked,
     Stopped,
 }
 
-const ITEMS: [(&'static [u8], ItemWord); 13] = [
+const ITEMS: [(&'static [u8], ItemWord); 15] = [
     (b"systems", ItemWord::Systems),
     (b"unit", ItemWord::Unit),
     (b"committed", ItemWord::Committed),
@@ -43,6 +45,8 @@ const ITEMS: [(&'static [u8], ItemWord); 13] = [
     (b"law", ItemWord::Law),
     (b"walks", ItemWord::Walks),
     (b"legal", ItemWord::Legal),
+    (b"read", ItemWord::Read),
+    (b"breach", ItemWord::Breach),
     (b"told", ItemWord::Told),
     (b"marked", ItemWord::Marked),
     (b"stopped", ItemWord::Stopped),

@@ -4,7 +4,7 @@ use crate::events::{
     ClaimEvent, UnitEvent, claim_event, commit, fall, opening, operation, revocation, unit_event,
 };
 use crate::records::{UnitRecord, model, no_document, record_of, switch};
-use ale_base::{Items, OutOfMemory, Way};
+use ale_base::{Items, Way};
 use case_form::Dice;
 use std::alloc::Global;
 use trfc_protocol::{CoreAnswer, Event};

@@ -2,6 +2,7 @@
 
 use crate::bench::ItemWord;
 use crate::fault::Fault;
+use crate::judging::{Verdict, breach_of, read_at};
 use crate::laws::{AllLogs, put_broken};
 use crate::listed_rules::ListedRules;
 use crate::listing::{put_numbered, put_of_unit, put_system};
@@ -10,6 +11,8 @@ use crate::units::Lists;
 use crate::words::Words;
 use ale_base::{Items, OutOfMemory, QueueName, SystemNo, Tid, Way};
 use case_form::{BlockLine, Text};
+use log_reading::Cause;
+use once_check::{Breach, Clause};
 use std::alloc::Global;
 use trfc_protocol::is_legal;
 use unit_core::{
@@ -22,6 +25,8 @@ pub(crate) struct Given {
     alloc: Global,
     /// The logs, from system 1 on.
     logs: AllLogs,
+    /// The moments of their records.
+    moments: Items<Items<Option<u64>>>,
     /// How many of its units each system committed.
     committed: usize,
 }
@@ -32,6 +37,7 @@ impl Given {
         Given {
             alloc,
             logs: Items::new(alloc),
+            moments: Items::new(alloc),
             committed: usize::MAX,
         }
     }
@@ -46,11 +52,13 @@ impl Given {
         Ok(())
     }
 
-    /// Reads new logs: each line is a system and a record.
+    /// Reads new logs: each line is a system and a record, and its moment where it has one.
     pub(crate) fn read_logs(&mut self, lists: &Lists, block: &[BlockLine]) -> Result<(), Fault> {
         self.logs = Items::new(self.alloc);
+        self.moments = Items::new(self.alloc);
         for _ in lists {
             self.logs.push(Items::new(self.alloc))?;
+            self.moments.push(Items::new(self.alloc))?;
         }
         for line in block {
             self.read_line(lists, line.text.as_slice())?;
@@ -62,11 +70,12 @@ impl Given {
     fn read_line(&mut self, lists: &Lists, line: &[u8]) -> Result<(), Fault> {
         let mut words = Words::of(line);
         let at = words.system()?.get() as usize - 1;
-        if at >= self.logs.len() {
+        if at >= self.logs.len() || at >= self.moments.len() {
             return Err(Fault::NoSystem);
         }
         let record = read_record(self.alloc, lists, &mut words)?;
         self.logs.at_mut(at).push(record)?;
+        self.moments.at_mut(at).push(words.moment()?)?;
         words.end()
     }
 
@@ -83,6 +92,8 @@ impl Given {
             ItemWord::Marked => self.put_marked(text, words),
             ItemWord::Stopped => self.put_stopped(text, words),
             ItemWord::Legal => Ok(self.put_legal(text, lists)?),
+            ItemWord::Read => Ok(self.put_read(text, lists, words.rest())?),
+            ItemWord::Breach => Ok(self.put_breach(text, lists)?),
             _ => Ok(put_broken(self.alloc, text, lists, &self.logs, Some(self.committed))?),
         }
     }
@@ -100,6 +111,30 @@ impl Given {
             }
         }
         Ok(())
+    }
+
+    /// Puts what each log is read as, by rules that list these units, where a Genesis has this text.
+    fn put_read(&self, text: &mut Text, lists: &Lists, genesis: &[u8]) -> Result<(), OutOfMemory> {
+        let Some(rules) = ListedRules::of(lists.clone()?) else {
+            return text.put_line(b"refused");
+        };
+        for (place, (log, moments)) in self.logs.iter().zip(self.moments.iter()).enumerate() {
+            let log = log.as_slice();
+            let read = read_at(self.alloc, &rules, place, genesis, moments.as_slice(), log)?;
+            put_verdict(text, place, read)?;
+        }
+        Ok(())
+    }
+
+    /// Puts the first breach of the law.
+    fn put_breach(&self, text: &mut Text, lists: &Lists) -> Result<(), OutOfMemory> {
+        let Some(rules) = ListedRules::of(lists.clone()?) else {
+            return text.put_line(b"refused");
+        };
+        match breach_of(self.alloc, &rules, &self.logs, self.committed)? {
+            None => text.put_line(b"none"),
+            Some(breach) => put_breach_at(text, breach),
+        }
     }
 
     /// Puts what the log of a system tells of its units.
@@ -140,6 +175,45 @@ impl Given {
         }
         Ok(put_none(text)?)
     }
+}
+
+/// Puts a line: the system at a place, and what its log is read as.
+fn put_verdict(text: &mut Text, place: usize, read: Verdict) -> Result<(), OutOfMemory> {
+    match read {
+        Verdict::Refused => put_place(text, place, b"refused"),
+        Verdict::Good => put_place(text, place, b"read"),
+        Verdict::Bad(bad) => {
+            put_system(text, place)?;
+            put_numbered(text, b"record", bad.number)?;
+            put_cause(text, bad.cause)
+        }
+    }
+}
+
+/// Puts the rest of a line: why a record is bad.
+fn put_cause(text: &mut Text, cause: Cause) -> Result<(), OutOfMemory> {
+    match cause {
+        Cause::System { kept, expected } => {
+            put_numbered(text, b" of system", u64::from(kept))?;
+            put_numbered(text, b" in the log of", u64::from(expected))?;
+        }
+        Cause::Model { place } => put_numbered(text, b" of a model that differs at", place)?,
+        Cause::Illegal => text.put(b" illegal")?,
+    }
+    text.end_line()
+}
+
+/// Puts a line: the record that breaks the law, and the letter of the clause.
+fn put_breach_at(text: &mut Text, breach: Breach) -> Result<(), OutOfMemory> {
+    put_system(text, usize::from(breach.system.get()) - 1)?;
+    put_numbered(text, b"record", breach.number)?;
+    text.put_line(match breach.clause {
+        Clause::WasCommitted => b" breaks b",
+        Clause::InOrder => b" breaks c",
+        Clause::WasTaken => b" breaks e",
+        Clause::WasDone => b" breaks f",
+        Clause::WasForgotten => b" breaks g",
+    })
 }
 
 /// Puts to which systems the queue of a name is stopped.

@@ -9,6 +9,9 @@ use std::alloc::Global;
 use trfc_protocol::Rules;
 use unit_core::{AleUnit, Record, are_different};
 
+/// The most outbound queues of a unit.
+pub(crate) const MOST_QUEUES: usize = 8;
+
 /// Rules that list each system's units beforehand: the k-th Commit of a system commits the k-th unit of its list, and is
 /// allowed while there is one. A Model is always allowed, and no other record of the application is.
 /// `IDOC_INBOUND_ASYNCHRONOUS` alone is offered, by every model.
@@ -21,7 +24,6 @@ pub struct ListedRules {
 
 impl ListedRules {
     ghost use Rattle.std.specs.Prelude.{◌≡◌, ◌↔◌, IsTrue, IsSome, IfSome};
-    ghost use Rattle.std.specs.Option.{option_copied};
     ghost use Rattle.protocol_scenes.specs.ListedRules.{are_listed, list_of};
 
     /// The function that is offered.
@@ -29,7 +31,8 @@ impl ListedRules {
 
     /// The rules with these lists, the first of which is that of system 1. None exactly where they are not the units of
     /// one to sixteen systems: unit k of a list has the id of its system and k, that system as sender, another one of
-    /// them as receiver, and names of queues that differ in each direction, and a list has at most 65,536 units.
+    /// them as receiver, names of queues that differ in each direction, and at most eight outbound ones, and a list has at most
+    /// 65,536 units.
     pub fn of(units: Items<Items<AleUnit>>) -> Option<ListedRules>
         ensures some { IsSome result ↔ IsTrue (are_listed units) }
         ensures units { IfSome result (λ rules. rules.units ≡ units) }
@@ -44,7 +47,7 @@ impl ListedRules {
     }
 
     /// The units of a system.
-    fn list(&self, system: SystemNo) -> &[AleUnit]
+    pub(crate) fn list(&self, system: SystemNo) -> &[AleUnit]
         ensures { result.now ≡ list_of self.now.units system }
     {
         match self.units.get(system.get() as usize - 1) {
@@ -116,13 +119,13 @@ pub(crate) fn commits_of(log: &[Record]) -> usize
     count
 }
 
-fn is_model(entry: &Record) -> bool
+pub(crate) fn is_model(entry: &Record) -> bool
     ensures { result ≡ is_model entry.now }
 {
     matches!(entry, Record::Model { .. })
 }
 
-fn is_commit_record(entry: &Record) -> bool
+pub(crate) fn is_commit_record(entry: &Record) -> bool
     ensures { result ≡ is_commit_record entry.now }
 {
     matches!(entry, Record::Commit { .. })
@@ -168,4 +171,5 @@ fn is_unit(systems: usize, system: usize, place: usize, unit: &AleUnit) -> bool
         && unit.receiver.get() as usize != system
         && are_different(unit.outq.as_slice())
         && are_different(unit.inq.as_slice())
+        && unit.outq.len() <= MOST_QUEUES
 }

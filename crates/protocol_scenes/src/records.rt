@@ -81,7 +81,7 @@ pub(crate) fn read_record(
         RecordWord::Mark => read_mark(lists, words),
         RecordWord::Stop(way) => Ok(switch(true, way, words.byte()?, words.name()?)),
         RecordWord::Start(way) => Ok(switch(false, way, words.byte()?, words.name()?)),
-        RecordWord::Genesis => Ok(genesis(alloc, words.byte()?)),
+        RecordWord::Genesis => read_genesis(alloc, words),
         RecordWord::App => Ok(app(words.number()?)),
         RecordWord::Repost => Ok(repost(words.number()?)),
         RecordWord::Model => Ok(model(Items::from_slice(alloc, words.rest())?)),
@@ -157,10 +157,14 @@ pub(crate) fn switch(stops: bool, way: Way, destination: u8, name: QueueName) ->
     }
 }
 
-/// A Genesis of a system, with no text.
-fn genesis(alloc: Global, system: u8) -> Record {
-    let text = Items::new(alloc);
-    Record::Genesis { system, text }
+/// A Genesis: its system, and `says` with a word that is its text; without it the text is empty.
+fn read_genesis(alloc: Global, words: &mut Words) -> Result<Record, Fault> {
+    let system = words.byte()?;
+    let text = match words.after(b"says") {
+        true => Items::from_slice(alloc, words.word())?,
+        false => Items::new(alloc),
+    };
+    Ok(Record::Genesis { system, text })
 }
 
 fn app(number: u32) -> Record {

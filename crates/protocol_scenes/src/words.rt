@@ -40,6 +40,24 @@ impl<'a> Words<'a> {
         Err(fault)
     }
 
+    /// Whether this word comes next, which is read then.
+    pub(crate) fn after(&mut self, word: &'static [u8]) -> bool {
+        let (next, rest) = first_word(self.rest);
+        if next != word {
+            return false;
+        }
+        self.rest = rest;
+        true
+    }
+
+    /// The moment of a record: `at` and a number. None where there is no more.
+    pub(crate) fn moment(&mut self) -> Result<Option<u64>, Fault> {
+        if !self.after(b"at") {
+            return Ok(None);
+        }
+        Ok(Some(u64::from(self.number()?)))
+    }
+
     /// All that is not read yet.
     pub(crate) fn rest(&mut self) -> &'a [u8] {
         let rest = self.rest;

@@ -84,6 +84,14 @@ impl<A: Application> SystemTables<A> {
         }
     }
 
+    /// Enters units as `enter` does, and takes their list over, so that none is copied. After an `Err` all is as before.
+    pub fn take_over(&mut self, more: Items<AleUnit>) -> Result<(), OutOfMemory>
+        ensures ok { OnOk result (self.new ≡ entered more self.old) }
+        ensures err { OnErr result (self.new ≡ self.old) }
+    {
+        self.units.append(more)
+    }
+
     /// Takes units back, to the first of them, as many as this: their record was not written. All other tables stay.
     pub fn leave(&mut self, count: usize)
         ensures { self.new ≡ left count self.old }

@@ -34,9 +34,8 @@ note-requires g c =
       can = can-note-at (g.R.Rules.meaning c.args.rules.now) (g.met.R.Rules.lawful c.args.rules.now) c.requires.few
           g.R.Tables.Application.stands
           c.args.system c.args.log.now c.args.its.now c.requires.read c.args.next.now c.requires.may c.requires.proper c.in_ok-units.field-0.units
-          c.as_slice.result.now
-          c.as_slice-2.result.now c.its.inside.tables c.hold.new.tables c.enter.new.self
-          (ap (λ (its : LogTablesOf g.row.R-Tables.Denot). its.tables) c.its.view_is) c.hold.ensures c.in_ok-enter.ensures.ok c.as_slice.ensures c.as_slice-2.ensures c.in_ok-units.ensures.units;
+          c.as_slice.result.now c.its.inside.tables c.hold.new.tables
+          (ap (λ (its : LogTablesOf g.row.R-Tables.Denot). its.tables) c.its.view_is) c.hold.ensures c.as_slice.ensures c.in_ok-units.ensures.units;
     }
 
 pub returns : goal.returns
@@ -45,10 +44,10 @@ returns g c =
     IsRead-at (g.R.Rules.meaning c.args.rules.now) (g.met.R.Rules.lawful c.args.rules.now) c.requires.few
     g.R.Tables.Application.stands
     c.args.system c.args.log.now c.args.its.now c.requires.read c.args.next.now c.requires.may c.requires.proper goes c.in_ok-units.field-0.units
-    c.as_slice.result.now c.as_slice-2.result.now c.its.inside.tables c.hold.new.tables c.enter.new.self c.note.new.self
+    c.as_slice.result.now c.its.inside.tables c.hold.new.tables c.note.new.self c.take_over.new.self
     c.its.inside.places c.note_place.new.places
     c.its.inside.done c.note_done.new.done c.its.inside.forgotten c.note_forgotten.new.forgotten (length c.args.log.now)
-    (ap (λ (its : LogTablesOf g.row.R-Tables.Denot). its.tables) c.its.view_is) c.hold.ensures c.in_ok-enter.ensures.ok c.as_slice.ensures c.as_slice-2.ensures
+    (ap (λ (its : LogTablesOf g.row.R-Tables.Denot). its.tables) c.its.view_is) c.hold.ensures c.as_slice.ensures c.in_ok-take_over.ensures.ok
     (ap (λ (its : LogTablesOf g.row.R-Tables.Denot). its.places) c.its.view_is)
     (ap (λ (its : LogTablesOf g.row.R-Tables.Denot). its.done) c.its.view_is)
     (ap (λ (its : LogTablesOf g.row.R-Tables.Denot). its.forgotten) c.its.view_is) refl c.in_ok-units.ensures.units

@@ -1,0 +1,8 @@
+-- where two texts differ
+pub mod DifferLemmas
+-- the records of a log, one by one
+pub mod GoodLemmas
+-- records that were read from a volume
+pub mod ProperLemmas
+-- one answer at most
+pub mod AnswerLemmas
