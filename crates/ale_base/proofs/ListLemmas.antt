@@ -2,12 +2,14 @@
 use Rattle.std.specs.Prelude.{not, slice_get, slice_set, slice_index_or, Contains}
 use Rattle.std.specs.Bool.{MatchBool}
 use Rattle.std.specs.List.{AllByRecursion, AllWithin, HoldsAt, IsDistinct, list_all, flat_map}
-use Rattle.std.proofs.Common.{◌≡◌, ◌↔◌, ◌⊎◌, inl, inr, ℕ, zero, suc, ◌<◌, ◌≤◌, ◌-◌, Bool, true, false, Some, List, [], ◌∷◌, ◌++◌, length, drop, map, refl, sym}
+use Rattle.std.proofs.Common.{◌≡◌, ◌↔◌, ◌⊎◌, inl, inr, ℕ, zero, suc, ◌+◌, ◌<◌, ◌≤◌, ◌-◌, Bool, true, false, Some, List, [], ◌∷◌, ◌++◌, length, take, drop, map, refl, sym}
 use Rattle.std.proofs.Common.{◌∙◌, subst, arith, ◌≢◌, ap}
 use Rattle.std.proofs.lemmas.Bool.{false≢true, and_parts, not-true}
 use Rattle.std.proofs.lemmas.Option.{same_Some, slice_get_within, get_or_from_slice_get}
+use Rattle.std.proofs.lemmas.List.{take-append-drop, take_more, drop_more}
 use Rattle.std.proofs.lemmas.List.Concat.{flat_map-cons}
 use Rattle.std.proofs.lemmas.List.Elements.{All-from_recursion, recursion_from_All, All-from_all_within}
+use Rattle.ale_base.proofs.MemberLemmas.{Contains-cons, Contains-nil}
 
 -- what holds of each element holds of the one at a place
 pub AllByRecursion-at : {A : Type 0} (P : A → Type 0) (xs : List A) (i : ℕ) (x : A) → AllByRecursion P xs → slice_get xs i ≡ Some x → P x
@@ -157,3 +159,43 @@ slice_get-set_other (z ∷ zs) zero zero y other = absurd (other refl)
 slice_get-set_other (z ∷ zs) zero (suc j) y other = refl
 slice_get-set_other (z ∷ zs) (suc k) zero y other = refl
 slice_get-set_other (z ∷ zs) (suc k) (suc j) y other = slice_get-set_other zs k j y (λ same. other (ap suc same))
+
+-- an element that a list has stands at a place
+pub place_of : {A : Type 0} (xs : List A) (x : A) → Contains xs x → (k : ℕ) × (slice_get xs k ≡ Some x)
+place_of [] x has = absurd (Contains-nil x has)
+place_of (y ∷ ys) x has =
+    elim (Contains-cons y ys x has) [
+      | inl same ↦ (0, ap Some same)
+      | inr behind ↦ let found = place_of ys x behind in (suc found.0, found.1)
+    ]
+
+-- the front of a list, by places
+pub slice_get-take : {A : Type 0} (xs : List A) (n k : ℕ) → k < n → slice_get (take n xs) k ≡ slice_get xs k
+slice_get-take [] zero k within = absurd (omega (arith, within))
+slice_get-take [] (suc n) k within = refl
+slice_get-take (x ∷ xs) zero k within = absurd (omega (arith, within))
+slice_get-take (x ∷ xs) (suc n) zero within = refl
+slice_get-take (x ∷ xs) (suc n) (suc k) within = slice_get-take xs n k (omega (arith, within))
+
+-- one element more of a front
+pub take_next : {A : Type 0} (xs : List A) (k : ℕ) (x : A) → slice_get xs k ≡ Some x → take (k + 1) xs ≡ take k xs ++ x ∷ []
+take_next xs k x at = take_more xs k x (slice_get_within xs k x at) ∙ ap (λ y. take k xs ++ y ∷ []) (get_or_from_slice_get xs k x x at)
+
+-- a list is what stands before a place, the element there, and what stands behind it
+pub split_at : {A : Type 0} (xs : List A) (k : ℕ) (x : A) → slice_get xs k ≡ Some x → xs ≡ take k xs ++ x ∷ drop (k + 1) xs
+split_at xs k x at =
+    let within : k < length xs = slice_get_within xs k x at in
+    sym (take-append-drop k xs) ∙ ap (λ ys. take k xs ++ ys) (drop_more xs k x within)
+    ∙ ap (λ y. take k xs ++ y ∷ drop (k + 1) xs) (get_or_from_slice_get xs k x x at)
+
+-- an element of a list with one more at its end
+pub slice_get_push : {A : Type 0} (xs : List A) (x : A) (k : ℕ) (y : A) → slice_get (xs ++ x ∷ []) k ≡ Some y
+    → (slice_get xs k ≡ Some y) ⊎ ((k ≡ length xs) × (x ≡ y))
+slice_get_push [] x zero y at = inr (refl, cc)
+slice_get_push [] x (suc k) y at = cc
+slice_get_push (z ∷ zs) x zero y at = inl at
+slice_get_push (z ∷ zs) x (suc k) y at =
+    elim (slice_get_push zs x k y at) [
+      | inl before ↦ inl before
+      | inr last ↦ inr (ap suc last.0, last.1)
+    ]

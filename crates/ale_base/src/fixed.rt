@@ -1,7 +1,7 @@
 //! Texts in fields of a fixed width.
 
 ghost use Rattle.std.specs.Prelude.{◌≡◌, ◌<◌, ◌≤◌, ◌↔◌, length, IsNone, IfSome};
-ghost use Rattle.ale_base.specs.Blanks.{trimmed};
+ghost use Rattle.ale_base.specs.Blanks.{trimmed, padded};
 
 use crate::blanks::trimmed;
 use std::marker::Model;
@@ -52,6 +52,13 @@ impl<const N: usize> Fixed<N> {
         ensures fits { length self.now ≤ N }
     {
         trimmed(&self.bytes)
+    }
+
+    /// The field: the text, and blanks behind it up to `N` bytes.
+    pub fn field(&self) -> [u8; N]
+        ensures { result ≡ padded N self.now }
+    {
+        self.bytes
     }
 }
 

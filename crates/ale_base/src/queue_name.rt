@@ -42,6 +42,7 @@ pub enum NameFault {
 
 impl QueueName {
     ghost use Rattle.std.specs.Prelude.{◌≡◌, IsOk, IfOk, IfErr};
+    ghost use Rattle.ale_base.specs.Blanks.{padded};
     ghost use Rattle.ale_base.specs.QueueName.{IsQueueName, HasFault};
 
     /// The most bytes of a name.
@@ -75,6 +76,14 @@ impl QueueName {
         ensures name { IsQueueName self.now }
     {
         self.text.trimmed()
+    }
+
+    /// The name in a field: its bytes, and blanks behind them up to 24.
+    pub fn field(&self) -> [u8; 24]
+        ensures field { result ≡ padded 24 self.now }
+        ensures name { IsQueueName self.now }
+    {
+        self.text.field()
     }
 }
 

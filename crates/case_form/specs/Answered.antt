@@ -1,29 +1,52 @@
 -- What comes of a case whose items are answered one after another.
-use Rattle.std.specs.Prelude.{◌≡◌, ◌⊎◌, ℕ, List, [], ◌∷◌, ◌++◌, Ok, Err, map}
+use Rattle.std.specs.Prelude.{◌≡◌, ◌⊎◌, ℕ, Bool, true, false, not, List, [], ◌∷◌, ◌++◌, Ok, Err, map}
+use Rattle.std.specs.List.{AllZip, Contains, filter}
+use Rattle.std.specs.Bool.{⊤}
 use Rattle.case_form.specs.declared.item.Item.{Item}
+use Rattle.case_form.specs.declared.rule.Rule.{Rule}
+use Rattle.case_form.specs.declared.rule.CaseFault.{CaseFault}
+use Rattle.case_form.specs.declared.rule.CaseFault.TheVariants.{Malformed as BrokenAt, OutOfMemory}
 use Rattle.case_form.specs.declared.verdict.Step.{Step}
 use Rattle.case_form.specs.declared.verdict.Outcome.{Outcome}
 use Rattle.case_form.specs.declared.verdict.Outcome.TheVariants.{Malformed, Steps}
 use Rattle.case_form.specs.Made.{IsStepOf}
-use Rattle.case_form.specs.Items.{file_read, seen}
+use Rattle.case_form.specs.Items.{block_read, file_read, seen}
 
 -- the step is that of an item which found some text
 abbrev pub IsAnswerOf : Item → Step → Type 0
-IsAnswerOf item step = (found : List ℕ) × IsStepOf item.line item.differs found step
+IsAnswerOf item step = (found : List ℕ) × IsStepOf item found step
 
--- the steps are those of the items that found a text, in order
-abbrev pub AreAnswered : List Item → List Step → Type 0
-AreAnswered [] steps = steps ≡ []
-AreAnswered (item ∷ items) steps =
-    AreAnswered items steps ⊎ ((step : Step) × ((rest : List Step) × (steps ≡ step ∷ rest) × IsAnswerOf item step × AreAnswered items rest))
+-- the item's word sets nothing up: it is a step
+abbrev pub is_step : (List ℕ → Bool) → Item → Bool
+is_step sets_up item = not (sets_up item.word.items)
 
--- behind the steps so far there is that of an item, or none more
-abbrev pub Follows : Item → List Step → List Step → Type 0
-Follows item before after = (after ≡ before) ⊎ ((step : Step) × IsAnswerOf item step × (after ≡ before ++ step ∷ []))
+-- each item that is a step has its step, in order, and there is no other
+abbrev pub AreAnswered : (List ℕ → Bool) → List Item → List Step → Type 0
+AreAnswered sets_up items steps = AllZip IsAnswerOf (filter (is_step sets_up) items) steps
 
--- Steps are those of the file's items, in order; and a rule is told of a file that has no items only where it is the one that
--- its first bad line breaks.
-abbrev pub IsAnswered : List ℕ → List ℕ → Outcome → Type 0
-IsAnswered file bytes (Steps steps) = (items : List Item) × (file_read file bytes ≡ Ok (map seen items)) × AreAnswered items steps
-IsAnswered file bytes (Malformed line rule) =
-    (file_read file bytes ≡ Err (record { line = line; rule = rule.0.now })) ⊎ ((items : List Item) × (file_read file bytes ≡ Ok (map seen items)))
+-- what one more item adds to the steps: its step, or nothing where its word sets something up
+abbrev pub Follows : Bool → Item → List Step → List Step → Type 0
+Follows true item before after = after ≡ before
+Follows false item before after = (step : Step) × IsAnswerOf item step × (after ≡ before ++ step ∷ [])
+
+-- this line breaks this rule: it is the item's, or the first of its block that breaks one
+abbrev pub IsBrokenAt : Item → ℕ → Rule → Type 0
+IsBrokenAt item line rule = (line ≡ item.line) ⊎ (block_read item.block.items ≡ Err (record { line = line; rule = rule.0.now }))
+
+-- the item breaks a rule so, or memory ran out
+abbrev pub IsEndAt : Item → CaseFault → Type 0
+IsEndAt item (BrokenAt line rule) = IsBrokenAt item line rule
+IsEndAt item OutOfMemory = ⊤
+
+-- one of the items breaks a rule so, or memory ran out
+abbrev pub IsEndIn : List Item → CaseFault → Type 0
+IsEndIn items (BrokenAt line rule) = (item : Item) × Contains items item × IsBrokenAt item line rule
+IsEndIn items OutOfMemory = ⊤
+
+-- Each item of the file that is a step has its step, in order; a rule is told of the first line that breaks one of the form, or, of a
+-- file that has items, at one of them.
+abbrev pub IsAnswered : (List ℕ → Bool) → List ℕ → List ℕ → Outcome → Type 0
+IsAnswered sets_up file bytes (Steps steps) = (items : List Item) × (file_read file bytes ≡ Ok (map seen items)) × AreAnswered sets_up items steps
+IsAnswered sets_up file bytes (Malformed line rule) =
+    (file_read file bytes ≡ Err (record { line = line; rule = rule.0.now }))
+    ⊎ ((items : List Item) × (file_read file bytes ≡ Ok (map seen items)) × IsEndIn items (BrokenAt line rule))

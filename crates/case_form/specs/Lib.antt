@@ -1,7 +1,5 @@
 -- what fits, and when a case passes
 pub mod Verdict
--- steps and outcomes as programs make them
-pub mod Made
 -- the text that a run of all cases prints
 pub mod Report
 -- rules, and who tells which
@@ -10,6 +8,8 @@ pub mod Rules
 pub mod Text
 -- the items of a file, and their blocks
 pub mod Items
+-- steps and outcomes as programs make them
+pub mod Made
 -- the texts that cases share
 pub mod Texts
 -- cases whose items are answered one after another

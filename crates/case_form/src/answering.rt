@@ -1,7 +1,7 @@
 //! Cases whose items are answered one after another.
 
-ghost use Rattle.std.specs.Prelude.{◌≡◌, ◌++◌, IfOk, OnOk};
-ghost use Rattle.case_form.specs.Answered.{AreAnswered, Follows, IsAnswered};
+ghost use Rattle.std.specs.Prelude.{IfOk, IfErr, OnOk};
+ghost use Rattle.case_form.specs.Answered.{AreAnswered, Follows, IsAnswered, IsEndAt, IsEndIn};
 
 use crate::item::{Item, read_items};
 use crate::rule::{CaseFault, LineEnd};
@@ -11,19 +11,27 @@ use std::alloc::Global;
 
 /// What the items of a case work on, one after another.
 pub trait Bench: Drop {
-    /// The text that an item finds, if it is one that finds a text; or the rule that its line breaks.
-    fn found(&mut self, alloc: Global, item: &Item) -> Result<Option<Vec<u8>>, LineEnd>;
+    ghost use Rattle.std.specs.Prelude.{◌≡◌, ℕ, List, Bool, false, not, IfOk};
+    ghost use Rattle.std.specs.Option.{is_some};
+
+    // An item of this word sets something up for those behind it, and finds no text.
+    ghost sets_up: { List ℕ → Bool } = { λ _. false };
+
+    /// The text that an item finds, none where its word sets something up; or the rule that its line breaks.
+    fn found(&mut self, alloc: Global, item: &Item) -> Result<Option<Vec<u8>>, LineEnd>
+        ensures { IfOk result (λ found. is_some found ≡ not (sets_up item.now.word.items)) };
 }
 
-/// What came of a case file whose items are answered on a bench, in order: a step for each that finds a text, which is
-/// compared with the item's block. Malformed where a line breaks a rule of the form or, at its item, one of the bench.
+/// What came of a case file whose items are answered on a bench, in order: a step for each whose word sets nothing up, of the
+/// text that it finds, which is compared with the item's block. Malformed where a line breaks a rule of the form or, at its item,
+/// one of the bench.
 pub fn outcome_on<B: Bench>(
     alloc: Global,
     bench: &mut B,
     file: &str,
     bytes: &[u8],
 ) -> Result<Outcome, OutOfMemory>
-    ensures { IfOk result (IsAnswered file.now bytes.now) }
+    ensures { IfOk result (IsAnswered B.sets_up file.now bytes.now) }
 {
     match read_items(alloc, file, bytes) {
         Ok(items) => Outcome::of(steps_on(alloc, bench, items.as_slice())),
@@ -37,7 +45,8 @@ fn steps_on<B: Bench>(
     bench: &mut B,
     items: &[Item],
 ) -> Result<Items<Step>, CaseFault>
-    ensures { IfOk result (AreAnswered items.now) }
+    ensures steps { IfOk result (AreAnswered B.sets_up items.now) }
+    ensures fault { IfErr result (IsEndIn items.now) }
 {
     let mut steps = Items::new(alloc);
     for item in items {
@@ -46,14 +55,15 @@ fn steps_on<B: Bench>(
     Ok(steps)
 }
 
-/// Adds the step of an item, where it finds a text.
+/// Adds the step of an item, where its word sets nothing up.
 fn put_step<B: Bench>(
     alloc: Global,
     bench: &mut B,
     item: &Item,
     steps: &mut Items<Step>,
 ) -> Result<(), CaseFault>
-    ensures { OnOk result (Follows item.now steps.old steps.new) }
+    ensures step { OnOk result (Follows (B.sets_up item.now.word.items) item.now steps.old steps.new) }
+    ensures fault { IfErr result (IsEndAt item.now) }
 {
     match bench.found(alloc, item) {
         Ok(Some(found)) => Ok(steps.push(Step::of(alloc, item, found)?)?),

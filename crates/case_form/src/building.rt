@@ -23,7 +23,7 @@ impl Model for Text {
 }
 
 impl Text {
-    ghost use Rattle.std.specs.Prelude.{◌≡◌, ◌++◌, [], ◌∷◌, OnOk};
+    ghost use Rattle.std.specs.Prelude.{◌≡◌, ◌↔◌, ◌++◌, [], ◌∷◌, IsTrue, OnOk};
     ghost use Rattle.std.specs.Fmt.{decimal};
 
     /// No text.
@@ -52,7 +52,9 @@ impl Text {
     }
 
     /// Whether nothing was put.
-    pub fn is_empty(&self) -> bool {
+    pub fn is_empty(&self) -> bool
+        ensures { IsTrue result ↔ (self.now ≡ []) }
+    {
         self.bytes.is_empty()
     }
 

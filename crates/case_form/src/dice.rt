@@ -8,10 +8,13 @@ pub struct Dice {
 }
 
 impl Dice {
-    ghost use Rattle.std.specs.Prelude.{◌<◌, ◌≤◌};
+    ghost use Rattle.std.specs.Prelude.{◌≡◌, ◌<◌, ◌≤◌, [], Some, MatchOption};
+    ghost use Rattle.std.specs.List.{Contains};
 
     /// The dice of this seed.
-    pub fn of(seed: u32) -> Dice {
+    pub fn of(seed: u32) -> Dice
+        ensures { result.state ≡ seed }
+    {
         Dice { state: seed }
     }
 
@@ -27,8 +30,10 @@ impl Dice {
         (self.state / 65_536) % count
     }
 
-    /// One of some items. None where there is none.
-    pub fn pick<'a, T>(&mut self, items: &'a [T]) -> Option<&'a T> {
+    /// One of some items. None exactly where there is none.
+    pub fn pick<'a, T>(&mut self, items: &'a [T]) -> Option<&'a T>
+        ensures { MatchOption result (items.now ≡ []) (λ item. Contains items.now item.now) }
+    {
         let count = u32::try_from(items.len()).unwrap_or(1).max(1);
         let place = self.below(count);
         items.get(place as usize)

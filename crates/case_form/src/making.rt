@@ -9,11 +9,16 @@ use ale_base::{Items, OutOfMemory};
 use std::alloc::{AllocError, Global};
 
 impl Step {
+    ghost use Rattle.std.specs.Prelude.{IfErr};
+    ghost use Rattle.case_form.specs.Rules.{IsFaultOf};
+    ghost use Rattle.case_form.specs.Items.{block_read};
     ghost use Rattle.case_form.specs.Made.{IsStepOf, IsBrokenStepOf};
 
-    /// The step of an item whose block is the text that is expected to be found, line for line.
+    /// The step of an item whose block stands for the text that is expected to be found; or the first line of the block that breaks
+    /// a rule.
     pub fn of(alloc: Global, item: &Item, found: Vec<u8>) -> Result<Step, CaseFault>
-        ensures { IfOk result (IsStepOf item.now.line item.now.differs found.items) }
+        ensures step { IfOk result (IsStepOf item.now found.items) }
+        ensures fault { IfErr result (IsFaultOf (block_read item.now.block.items)) }
     {
         let expected = item.text(alloc)?;
         let what = what_of(alloc, item)?;

@@ -1,8 +1,9 @@
 -- A log has one first bad record at most, and none where each record is good.
 use Rattle.std.specs.Prelude.{slice_get}
-use Rattle.std.proofs.Common.{◌≡◌, ℕ, suc, zero, ◌+◌, ◌<◌, Option, List, [], ◌∷◌, length, take, inl, inr, refl, sym, ap, subst, ◌∙◌, arith}
+use Rattle.std.proofs.Common.{◌≡◌, ℕ, ◌+◌, ◌<◌, Option, List, length, take, inl, inr, refl, sym, ap, subst, ◌∙◌, arith}
 use Rattle.std.proofs.lemmas.Bool.{both_ways, cases_lt}
 use Rattle.std.proofs.lemmas.Option.{same_Some, slice_get_within}
+use Rattle.ale_base.proofs.ListLemmas.{slice_get-take}
 use Rattle.unit_core.specs.declared.records.Record.{Record}
 use Rattle.unit_core.specs.declared.records.Record.TheVariants.{Genesis}
 use Rattle.trfc_protocol.specs.Meaning.{Meaning}
@@ -40,14 +41,7 @@ good-no_bad rules system text moments log bad good is =
 -- two texts differ first at one place
 one_place : (one other : List ℕ) (p q : ℕ) → DifferAt one other p → DifferAt one other q → p < q → ⊥
 one_place one other p q first second less =
-    first.here (sym (get-take one q p less) ∙ ap (λ (t : List ℕ). slice_get t p) second.before ∙ get-take other q p less)
-  where
-    get-take : (xs : List ℕ) (n j : ℕ) → j < n → slice_get (take n xs) j ≡ slice_get xs j
-    get-take [] zero j within = absurd (omega (arith, within))
-    get-take [] (suc n) j within = refl
-    get-take (x ∷ xs) zero j within = absurd (omega (arith, within))
-    get-take (x ∷ xs) (suc n) zero within = refl
-    get-take (x ∷ xs) (suc n) (suc j) within = get-take xs n j (omega (arith, within))
+    first.here (sym (slice_get-take one q p less) ∙ ap (λ (t : List ℕ). slice_get t p) second.before ∙ slice_get-take other q p less)
 
 -- a record is bad by one cause
 one_cause : (rules : Meaning) (system : ℕ) (text : List ℕ) (before moment : Option ℕ) (log : List Record) (next : Record) (a b : Cause)

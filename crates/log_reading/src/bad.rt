@@ -7,7 +7,7 @@ use ale_base::SystemNo;
 use unit_core::Record;
 
 /// Why a record of a log is bad.
-#[derive(Clone, Copy, PartialEq, Eq)]
+#[derive(Clone, Copy)]
 pub enum Cause {
     /// It is the Genesis of another system.
     System {
@@ -27,7 +27,7 @@ pub enum Cause {
 }
 
 /// A record of a log that is bad.
-#[derive(Clone, Copy, PartialEq, Eq)]
+#[derive(Clone, Copy)]
 pub struct BadRecord {
     /// The number of the record, counted from 1.
     pub number: u64,

@@ -14,8 +14,8 @@ use Rattle.unit_core.specs.Queues.{unit_named}
 abbrev pub unit_at : List Record → Option ℕ → Option AleUnit
 unit_at log place = option_and_then (λ p. option_and_then taken_by (slice_get log p)) place
 
--- places are those of a log: at that of an id is the record that took its unit in, and there is none exactly where no unit of the id was
--- received
+-- places are those of a log: the unit of an id that the log received first is the one that the record at the id's place takes in, none where
+-- none was; and each place is one of the log
 pub record ArePlaces (log : List Record) (places : TidOf → Option ℕ) : Type 0 where
   pub there : (tid : TidOf) → unit_named tid (received log) ≡ unit_at log (places tid)
   pub within : (tid : TidOf) (p : ℕ) → places tid ≡ Some p → p < length log

@@ -1,5 +1,8 @@
 //! What the items of a case work on: the texts of models.
 
+ghost use Rattle.std.specs.Prelude.{◌≡◌};
+ghost use Rattle.model_cases.specs.Bench.{sets_up};
+
 use crate::growth::unkept;
 use crate::lookups::{inbound_of, message_named, outbound_of, receivers, system_named};
 use crate::rules::{NO_MODEL, NO_SUCH_ITEM};
@@ -30,12 +33,9 @@ impl ModelBench {
     }
 }
 
-/// What an item is about.
+/// What a model is asked.
 #[derive(Clone, Copy)]
 enum About {
-    Head,
-    Before,
-    Model,
     Unkept,
     SystemNamed,
     MessageNamed,
@@ -44,10 +44,7 @@ enum About {
     InboundOf,
 }
 
-const WORDS: [(&'static [u8], About); 9] = [
-    (b"head", About::Head),
-    (b"before", About::Before),
-    (b"model", About::Model),
+const WORDS: [(&'static [u8], About); 6] = [
     (b"unkept", About::Unkept),
     (b"system_named", About::SystemNamed),
     (b"message_named", About::MessageNamed),
@@ -57,21 +54,43 @@ const WORDS: [(&'static [u8], About); 9] = [
 ];
 
 impl Bench for ModelBench {
+    ghost use Rattle.model_cases.specs.Bench.{sets_up};
+
+    ghost sets_up = { sets_up };
+
     fn found(&mut self, alloc: Global, item: &Item) -> Result<Option<Vec<u8>>, LineEnd> {
+        if sets_up(item.word.as_slice()) {
+            self.set_up(alloc, item)?;
+            return Ok(None);
+        }
         let Some(about) = meaning_of(&WORDS, item.word.as_slice()) else {
             return Err(NO_SUCH_ITEM.into());
         };
-        match about {
-            About::Head => self.head = text_of(alloc, &[], item)?,
-            About::Before => self.before = text_of(alloc, self.head.as_slice(), item)?,
-            About::Model => self.model = text_of(alloc, self.head.as_slice(), item)?,
-            _ => return Ok(Some(self.asked(alloc, about, item.rest.as_slice())?)),
-        }
-        Ok(None)
+        Ok(Some(self.asked(alloc, about, item.rest.as_slice())?))
     }
 }
 
+/// Whether an item of this word sets a text up.
+fn sets_up(word: &[u8]) -> bool
+    ensures { result ≡ sets_up word.now }
+{
+    word == b"head".as_slice() || word == b"before".as_slice() || word == b"model".as_slice()
+}
+
 impl ModelBench {
+    /// Sets up the text of the word of an item.
+    fn set_up(&mut self, alloc: Global, item: &Item) -> Result<(), LineEnd> {
+        let word = item.word.as_slice();
+        if word == b"head".as_slice() {
+            self.head = text_of(alloc, &[], item)?;
+        } else if word == b"before".as_slice() {
+            self.before = text_of(alloc, self.head.as_slice(), item)?;
+        } else {
+            self.model = text_of(alloc, self.head.as_slice(), item)?;
+        }
+        Ok(())
+    }
+
     /// What is found in the model that is asked.
     fn asked(&self, alloc: Global, about: About, words: &[u8]) -> Result<Vec<u8>, LineEnd> {
         let model = model_of(alloc, self.model.as_slice())?;
@@ -100,7 +119,7 @@ fn looked_up(alloc: Global, model: &Model, about: About, words: &[u8]) -> Result
         About::Receivers => receivers(alloc, model, words),
         About::OutboundOf => outbound_of(alloc, model, words),
         About::InboundOf => inbound_of(alloc, model, words),
-        _ => Err(NO_SUCH_ITEM.into()),
+        About::Unkept => Err(NO_SUCH_ITEM.into()),
     }
 }
 

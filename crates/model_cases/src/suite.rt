@@ -9,6 +9,11 @@ use std::alloc::Global;
 pub(crate) struct ModelCases;
 
 impl Suite for ModelCases {
+    ghost use Rattle.case_form.specs.Answered.{IsAnswered};
+    ghost use Rattle.model_cases.specs.Bench.{sets_up};
+
+    ghost comes_out = { λ _ _ file bytes outcome. IsAnswered sets_up file bytes outcome };
+
     fn outcome(
         &self,
         alloc: Global,

@@ -22,7 +22,8 @@ use Rattle.multi_queue.specs.declared.entry.Lane.{Lane}
 use Rattle.multi_queue.specs.Counted.{has, differ, standing, is_live, is_ready, count_but, HeadsAll, IsCounted, IsBoardBut, KeepsLanes, Grows, AreNewQueues}
 use Rattle.multi_queue.specs.Counted.{IsLastDead, IsBehind, IsEntered, left_at, left_of, new_entry}
 use Rattle.multi_queue.specs.Seen.{key_at, seen_unit, seen, number_of, numbers_cmp, IsPlaced, IsNamed, IsQueues, IsNew, AreKnown, AreNumbersOf}
-use Rattle.multi_queue.proofs.CountedLemmas.{set-here, set-there, slice_get_some, standing-same, standing-joined, has-snoc}
+use Rattle.ale_base.proofs.ListLemmas.{slice_get-within}
+use Rattle.multi_queue.proofs.CountedLemmas.{set-here, set-there, standing-same, standing-joined, has-snoc}
 use Rattle.multi_queue.proofs.SeenLemmas.{has-key_at, unit_of-here}
 use Rattle.multi_queue.proofs.LaneLemmas.{lanes-keys, named-kept, units-kept, keys-front, get-front, get-end, get-split, grows-length, lane-of_key}
 use Rattle.multi_queue.proofs.FinishLemmas.{stops-kept}
@@ -61,7 +62,7 @@ differ-keys : (lanes : List Lane) (names : ℕ × List ℕ → Option ℕ) (qs :
     keys_differ (filter_map (key_at lanes) qs) ≡ differ qs
 differ-keys lanes names [] it known = refl
 differ-keys lanes names (q ∷ qs) it known =
-    let at = slice_get_some lanes q (known q (known-here q qs)) in
+    let at = slice_get-within lanes q (known q (known-here q qs)) in
     let w : Lane = at.0 in
     let later : AreKnown qs lanes = λ r h. known r (known-later q r qs h) in
     ap (λ o. keys_differ (cons_option (option_map (λ (lane : Lane). lane.key) o) (filter_map (key_at lanes) qs))) at.1

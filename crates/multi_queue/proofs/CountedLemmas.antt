@@ -9,6 +9,7 @@ use Rattle.std.proofs.Common.{◌⊎◌, inl, inr}
 use Rattle.std.proofs.lemmas.Bool.{eq-eqb}
 use Rattle.std.proofs.lemmas.Bool.Decides.{eqb_tells}
 use Rattle.std.proofs.lemmas.Grind.{common_steps}
+use Rattle.ale_base.proofs.ListLemmas.{slice_get-within}
 use Rattle.multi_queue.specs.declared.entry.Entry.{Entry}
 use Rattle.multi_queue.specs.declared.entry.Lane.{Lane}
 use Rattle.multi_queue.specs.Counted.{has, differ, standing, is_first, tells, is_but, count_but, IsCounted, cut, HeadsAll, cost, cost_at, cost_of, looks}
@@ -475,17 +476,12 @@ de_morgan true b = refl
 de_morgan false true = refl
 de_morgan false false = refl
 
-pub slice_get_some : {X : Type 0} (xs : List X) (i : ℕ) → i < length xs → (x : X) × (slice_get xs i ≡ Some x)
-slice_get_some [] i h = absurd (omega arith)
-slice_get_some (x ∷ xs) zero h = (x, refl)
-slice_get_some (x ∷ xs) (suc i) h = slice_get_some xs i (omega arith)
-
 pub closed-tells : (p q : ℕ) (units : List Entry) (lanes : List Lane) (heads : List ℕ) (u : Entry) → slice_get units p ≡ Some u →
     IsCounted None units lanes heads
     → has q u.queues ≡ true → tells p (slice_get lanes q) ≡ not (is_closed lanes units p q)
 closed-tells p q units lanes heads u got it h =
     let lt = it.known p u q got h in
-    let w = slice_get_some lanes q lt in
+    let w = slice_get-within lanes q lt in
     let line = it.lines q w.0 w.1 in
     rw w.1 (rw line (de_morgan w.0.stopped (is_first p (standing q 0 units))))
 
@@ -601,7 +597,7 @@ pub lanes-more : (a b c : List Lane) → KeepsLanes a b → KeepsLanes b c → K
 lanes-more a b c first second = record {
   count = second.count ∙ first.count;
   keeps = λ q x y got now.
-      let mid = slice_get_some b q (omega (arith, slice_get_within a q x got, first.count)) in
+      let mid = slice_get-within b q (omega (arith, slice_get_within a q x got, first.count)) in
       let one = first.keeps q x mid.0 got mid.1 in
       let two = second.keeps q mid.0 y mid.1 now in
       (two.0 ∙ one.0, two.1 ∙ one.1);

@@ -18,7 +18,8 @@ use Rattle.multi_queue.specs.declared.entry.Entry.{Entry}
 use Rattle.multi_queue.specs.declared.entry.Lane.{Lane}
 use Rattle.multi_queue.specs.Counted.{has, standing, is_live, HeadsAll, IsCounted, IsBoardBut, KeepsLanes, cost, cost_at, cost_of, gone}
 use Rattle.multi_queue.specs.Seen.{key_at, seen_unit, seen, number_of, IsQueues, AreKnown}
-use Rattle.multi_queue.proofs.CountedLemmas.{set-here, set-there, slice_get_some, first-stands, standing-same, standing-gone, get-drop_one}
+use Rattle.ale_base.proofs.ListLemmas.{slice_get-within}
+use Rattle.multi_queue.proofs.CountedLemmas.{set-here, set-there, first-stands, standing-same, standing-gone, get-drop_one}
 use Rattle.multi_queue.proofs.SeenLemmas.{Alone, alone-later, alone-at, unit_of-here}
 use Rattle.multi_queue.proofs.LaneLemmas.{lanes-keys, named-kept, units-kept}
 use Rattle.multi_queue.proofs.OfferLemmas.{queued-live, head-line, tid-place, known-here, known-later}
@@ -105,7 +106,7 @@ looks-most : (units : List Entry) (lanes : List Lane) (test : QueueKey → Bool)
     → cost units qs ≤ length (filter_map (key_at lanes) qs) + count_by test (filter_map (key_at lanes) qs)
 looks-most units lanes test [] known heads = omega arith
 looks-most units lanes test (q ∷ qs) known heads =
-    let at = slice_get_some lanes q (known q (known-here q qs)) in
+    let at = slice_get-within lanes q (known q (known-here q qs)) in
     let w : Lane = at.0 in
     let keys : List QueueKey = filter_map (key_at lanes) qs in
     let rest : cost units qs ≤ length keys + count_by test keys = looks-most units lanes test qs (λ r h. known r (known-later q r qs h))
@@ -212,7 +213,7 @@ module _ {units : List Entry} {lanes : List Lane} {counts : List ℕ} {nodes : L
       new-head : (q : ℕ) (w : Lane) → has q u.queues ≡ true → slice_get lanes q ≡ Some w → is_some (slice_get (standing q 0 units) 1) ≡ true
           → is_new_head (head_of w.key (seen units lanes)) (head_of w.key (finished u.tid (seen units lanes))) ≡ true
       new-head q w h at_q more =
-          let x = slice_get_some after q (omega (arith, slice_get_within lanes q w at_q, keeps.count)) in
+          let x = slice_get-within after q (omega (arith, slice_get_within lanes q w at_q, keeps.count)) in
           let key : x.0.key ≡ w.key = (keeps.keeps q w x.0 at_q x.1).0 in
           let first_q = first.first u q at_p h in
           let before : head_of w.key (seen units lanes) ≡ Some (seen_unit lanes u) =

@@ -12,7 +12,7 @@ use Rattle.multi_queue.specs.declared.entry.Entry.{Entry}
 use Rattle.multi_queue.specs.declared.entry.Lane.{Lane}
 use Rattle.multi_queue.specs.Counted.{has, is_first, standing, HeadsAll}
 use Rattle.multi_queue.specs.Seen.{key_at, seen, number_of, IsQueues, IsNowhere, AreKnown, heads_lane, heads_all_of, is_free_of}
-use Rattle.multi_queue.proofs.CountedLemmas.{slice_get_some}
+use Rattle.ale_base.proofs.ListLemmas.{slice_get-within}
 use Rattle.multi_queue.proofs.SeenLemmas.{unit_of-here, unit_of-gone}
 use Rattle.multi_queue.proofs.OfferLemmas.{heads-is, known-here, known-later}
 use Rattle.multi_queue.proofs.ReasonLemmas.{known-of}
@@ -37,7 +37,7 @@ module _ {units : List Entry} {lanes : List Lane} {counts : List ℕ} {nodes : L
       → list_all (heads u.tid (seen units lanes)) (filter_map (key_at lanes) qs) ≡ heads_all_of lanes p qs
   heads-all p u [] at_p live known = refl
   heads-all p u (q ∷ qs) at_p live known =
-      let at = slice_get_some lanes q (known q (known-here q qs)) in
+      let at = slice_get-within lanes q (known q (known-here q qs)) in
       let w : Lane = at.0 in
       let rest = heads-all p u qs at_p live (λ r h. known r (known-later q r qs h)) in
       ap (λ o. list_all (heads u.tid (seen units lanes)) (cons_option (option_map (λ (lane : Lane). lane.key) o) (filter_map (key_at lanes) qs))) at.1
@@ -57,7 +57,7 @@ module _ {units : List Entry} {lanes : List Lane} {counts : List ℕ} {nodes : L
       ap (λ (o : Option QueuedUnit). option_map_or (is_free_unit (seen units lanes)) o false) (unit_of-gone tid units lanes places it.placed none.nowhere)
 
   heads-told : (p q : ℕ) → q < length lanes → heads_lane p (slice_get lanes q) ≡ true → slice_get (standing q 0 units) 0 ≡ Some p
-  heads-told p q known told = by (slice_get_some lanes q known)
+  heads-told p q known told = by (slice_get-within lanes q known)
     where
       by : (w : Lane) × (slice_get lanes q ≡ Some w) → slice_get (standing q 0 units) 0 ≡ Some p
       by (w, at_q) = ap (λ (l : List ℕ). slice_get l 0) (sym (it.counted.lines q w at_q))

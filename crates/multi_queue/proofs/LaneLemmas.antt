@@ -20,7 +20,8 @@ use Rattle.multi_queue.specs.declared.entry.Entry.{Entry}
 use Rattle.multi_queue.specs.declared.entry.Lane.{Lane}
 use Rattle.multi_queue.specs.Counted.{has, standing, is_live, count_but, tells, IsCounted, IsBoardBut, KeepsLanes, KeepsKeys, Grows, SetsStop}
 use Rattle.multi_queue.specs.Seen.{key_at, seen_unit, seen, name_of, names_cmp, IsNamed, IsQueues, AreKnown}
-use Rattle.multi_queue.proofs.CountedLemmas.{set-here, set-there, slice_get_some}
+use Rattle.ale_base.proofs.ListLemmas.{slice_get-within}
+use Rattle.multi_queue.proofs.CountedLemmas.{set-here, set-there}
 use Rattle.multi_queue.proofs.SeenLemmas.{one_number}
 use Rattle.multi_queue.proofs.OfferLemmas.{stops-none, stops-there, known-here, known-later}
 
@@ -34,13 +35,13 @@ pub named-kept : (lanes after : List Lane) (names : ℕ × List ℕ → Option �
 named-kept lanes after names keeps it = record {
   known = λ name q h.
       let there = it.known name q h in
-      let now = slice_get_some after q (omega (arith, slice_get_within lanes q there.0 there.1, keeps.count)) in
+      let now = slice_get-within after q (omega (arith, slice_get_within lanes q there.0 there.1, keeps.count)) in
       (now.0, now.1, ap name_of (keeps.keys q there.0 now.0 there.1 now.1) ∙ there.2);
   named = λ q w at_q.
-      let old = slice_get_some lanes q (omega (arith, slice_get_within after q w at_q, keeps.count)) in
+      let old = slice_get-within lanes q (omega (arith, slice_get_within after q w at_q, keeps.count)) in
       ap (λ (k : QueueKey). names (name_of k)) (keeps.keys q old.0 w old.1 at_q) ∙ it.named q old.0 old.1;
   proper = λ q w at_q.
-      let old = slice_get_some lanes q (omega (arith, slice_get_within after q w at_q, keeps.count)) in
+      let old = slice_get-within lanes q (omega (arith, slice_get_within after q w at_q, keeps.count)) in
       subst (λ (k : QueueKey). IsQueueName k.name) (sym (keeps.keys q old.0 w old.1 at_q)) (it.proper q old.0 old.1);
 }
 
@@ -304,7 +305,7 @@ standing-nobody q n (u ∷ us) none =
 count-front : (lanes more : List Lane) (p : ℕ) (qs : List ℕ) → AreKnown qs lanes → count_but None (lanes ++ more) p qs ≡ count_but None lanes p qs
 count-front lanes more p [] known = refl
 count-front lanes more p (q ∷ qs) known =
-    let at = slice_get_some lanes q (known q (known-here q qs)) in
+    let at = slice_get-within lanes q (known q (known-here q qs)) in
     let front : slice_get (lanes ++ more) q ≡ slice_get lanes q = get-front lanes more q at.0 at.1 ∙ sym at.1 in
     ap (λ o. cond (tells p o) 1 0 + count_but None (lanes ++ more) p qs) front
     ∙ ap (λ n. cond (tells p (slice_get lanes q)) 1 0 + n) (count-front lanes more p qs (λ r h. known r (known-later q r qs h)))
@@ -313,7 +314,7 @@ count-front lanes more p (q ∷ qs) known =
 pub keys-front : (lanes more : List Lane) (qs : List ℕ) → AreKnown qs lanes → filter_map (key_at (lanes ++ more)) qs ≡ filter_map (key_at lanes) qs
 keys-front lanes more [] known = refl
 keys-front lanes more (q ∷ qs) known =
-    let at = slice_get_some lanes q (known q (known-here q qs)) in
+    let at = slice_get-within lanes q (known q (known-here q qs)) in
     let front : slice_get (lanes ++ more) q ≡ slice_get lanes q = get-front lanes more q at.0 at.1 ∙ sym at.1 in
     ap (λ o. cons_option (option_map (λ (lane : Lane). lane.key) o) (filter_map (key_at (lanes ++ more)) qs)) front
     ∙ ap (λ (l : List QueueKey). cons_option (key_at lanes q) l) (keys-front lanes more qs (λ r h. known r (known-later q r qs h)))

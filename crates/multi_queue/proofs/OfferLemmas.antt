@@ -20,7 +20,8 @@ use Rattle.multi_queue.specs.declared.entry.Entry.{Entry}
 use Rattle.multi_queue.specs.declared.entry.Lane.{Lane}
 use Rattle.multi_queue.specs.Counted.{has, is_live, is_in, is_first, tells, count_but, standing, is_ready}
 use Rattle.multi_queue.specs.Seen.{key_at, seen_unit, seen, number_of, IsNamed, IsQueues, IsNowhere}
-use Rattle.multi_queue.proofs.CountedLemmas.{slice_get_some, first-stands, first-seen, skip-find, first-is, count-le}
+use Rattle.ale_base.proofs.ListLemmas.{slice_get-within}
+use Rattle.multi_queue.proofs.CountedLemmas.{first-stands, first-seen, skip-find, first-is, count-le}
 use Rattle.multi_queue.proofs.SeenLemmas.{find-map, one_number, head_of-seen, unit_of-here, unit_of-gone}
 
 -- ---- stops
@@ -197,7 +198,7 @@ pub all-count : (test : QueueKey → Bool) (lanes : List Lane) (p : ℕ) (qs : L
     ≡ eqb (count_but None lanes p qs) (length qs)
 all-count test lanes p [] known is = refl
 all-count test lanes p (q ∷ qs) known is =
-    let at = slice_get_some lanes q (known q (known-here q qs)) in
+    let at = slice_get-within lanes q (known q (known-here q qs)) in
     let w : Lane = at.0 in
     let rest = all-count test lanes p qs (λ r h. known r (known-later q r qs h)) is in
     ap (λ o. list_all test (cons_option (option_map (λ (lane : Lane). lane.key) o) (filter_map (key_at lanes) qs))) at.1
@@ -213,7 +214,7 @@ pub ready-is : {units : List Entry} {lanes : List Lane} {counts : List ℕ} {nod
     → may_go (seen units lanes) (seen_unit lanes u) ≡ is_ready (slice_get units p) (slice_get counts p)
 ready-is {units} {lanes} {counts} it p u at_p live =
     let within = slice_get_within units p u at_p in
-    let at = slice_get_some counts p (omega (arith, within, it.counted.all)) in
+    let at = slice_get-within counts p (omega (arith, within, it.counted.all)) in
     let h : ℕ = at.0 in
     let count = it.counted.counts p u h at_p at.1 in
     let all = all-count (lets_go u.tid (seen units lanes)) lanes p u.queues (λ r k. it.counted.known p u r at_p k)

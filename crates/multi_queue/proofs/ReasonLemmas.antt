@@ -13,7 +13,8 @@ use Rattle.multi_queue.specs.declared.entry.Entry.{Entry}
 use Rattle.multi_queue.specs.declared.entry.Lane.{Lane}
 use Rattle.multi_queue.specs.Seen.{key_at, seen_unit, seen, number_of, IsQueues, IsNowhere, AreKnown, AreHeaded, stopped_reason, first_stopped_of, head_reason}
 use Rattle.multi_queue.specs.Seen.{behind_reason, first_behind_of, why_not_of}
-use Rattle.multi_queue.proofs.CountedLemmas.{slice_get_some, first-stands}
+use Rattle.ale_base.proofs.ListLemmas.{slice_get-within}
+use Rattle.multi_queue.proofs.CountedLemmas.{first-stands}
 use Rattle.multi_queue.proofs.SeenLemmas.{unit_of-here, unit_of-gone}
 use Rattle.multi_queue.proofs.OfferLemmas.{stopped-is, head-line, tid-place, queued-live, known-here, known-later}
 
@@ -32,7 +33,7 @@ module _ {units : List Entry} {lanes : List Lane} {counts : List ℕ} {nodes : L
   first-stopped : (qs : List ℕ) → AreKnown qs lanes → first_stopped (seen units lanes) (filter_map (key_at lanes) qs) ≡ first_stopped_of lanes qs
   first-stopped [] known = refl
   first-stopped (q ∷ qs) known =
-      let at = slice_get_some lanes q (known q (known-here q qs)) in
+      let at = slice_get-within lanes q (known q (known-here q qs)) in
       let w : Lane = at.0 in
       let rest = first-stopped qs (λ r h. known r (known-later q r qs h)) in
       let by : (b : Bool) → is_stopped w.key (seen units lanes) ≡ b
@@ -72,7 +73,7 @@ module _ {units : List Entry} {lanes : List Lane} {counts : List ℕ} {nodes : L
       → first_behind u.tid (seen units lanes) (filter_map (key_at lanes) qs) ≡ first_behind_of units lanes p qs
   first-behind p u [] at_p live known = refl
   first-behind p u (q ∷ qs) at_p live known =
-      let at = slice_get_some lanes q (known q (known-here q qs)) in
+      let at = slice_get-within lanes q (known q (known-here q qs)) in
       let w : Lane = at.0 in
       let rest = first-behind p u qs at_p live (λ r h. known r (known-later q r qs h)) in
       ap (λ o. first_behind u.tid (seen units lanes) (cons_option (option_map (λ (lane : Lane). lane.key) o) (filter_map (key_at lanes) qs))) at.1

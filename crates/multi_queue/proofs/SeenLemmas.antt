@@ -19,7 +19,7 @@ use Rattle.multi_queue.specs.declared.entry.Entry.{Entry}
 use Rattle.multi_queue.specs.declared.entry.Lane.{Lane}
 use Rattle.multi_queue.specs.Counted.{has, is_live, is_in}
 use Rattle.multi_queue.specs.Seen.{key_at, seen_unit, seen, number_of, name_of, IsPlaced, IsNamed, IsAt, IsNowhere}
-use Rattle.multi_queue.proofs.CountedLemmas.{slice_get_some}
+use Rattle.ale_base.proofs.ListLemmas.{slice_get-within}
 
 -- ---- keys and numbers of queues
 
@@ -50,7 +50,7 @@ pub has-key_at : (lanes : List Lane) (names : ℕ × List ℕ → Option ℕ) (q
 has-key_at lanes names q w [] it at_q known = refl
 has-key_at lanes names q w (x ∷ xs) it at_q known =
     let within : x < length lanes = known x (ap (λ b. b || has x xs) (eq-eqb x x refl)) in
-    let here = slice_get_some lanes x within in
+    let here = slice_get-within lanes x within in
     let v : Lane = here.0 in
     let rest = has-key_at lanes names q w xs it at_q (λ r h. known r (ap (λ b. eqb r x || b) h ∙ either (eqb r x))) in
     ap (λ o. has_key w.key (cons_option o (filter_map (key_at lanes) xs))) (ap (option_map (λ (lane : Lane). lane.key)) here.1)

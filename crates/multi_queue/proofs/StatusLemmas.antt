@@ -5,10 +5,9 @@ use Rattle.std.specs.Option.{option_map, option_map_or, option_or, option_and_th
 use Rattle.std.proofs.Common.{◌≡◌, ◌-◌, ℕ, Bool, true, false, ◌||◌, eqb, cond, Option, Some, None, List, [], ◌∷◌, length, refl, sym, ap, ◌∙◌, arith}
 use Rattle.std.proofs.lemmas.Bool.{or_parts, false_from_ne_true}
 use Rattle.std.proofs.lemmas.Option.{slice_get_within}
-use Rattle.ale_base.specs.Blanks.{trimmed, padded}
+use Rattle.ale_base.specs.Blanks.{trimmed}
 use Rattle.ale_base.specs.QueueName.{IsQueueName}
-use Rattle.ale_base.specs.TrimmedLemmas.{trimmed-padded}
-use Rattle.ale_base.proofs.QueueNameLemmas.{trimmed-graphic}
+use Rattle.ale_base.proofs.QueueNameLemmas.{name-back}
 use Rattle.plain_queues.specs.declared.queue_key.QueueKey.{QueueKey}
 use Rattle.plain_queues.specs.declared.queued_unit.QueuedUnit.{QueuedUnit}
 use Rattle.plain_queues.specs.declared.queue_status.QueueStatus.TheVariants.{Stop, Running, Waitstop, Waiting, Ready}
@@ -22,15 +21,12 @@ use Rattle.multi_queue.specs.declared.entry.Lane.{Lane}
 use Rattle.multi_queue.specs.Counted.{is_live}
 use Rattle.multi_queue.specs.Seen.{key_at, seen_unit, seen, name_of, IsNamed, IsQueues, AreKnown, first_stopped_of, stopped_reason, status_by_count}
 use Rattle.multi_queue.specs.Seen.{status_of_head, status_by_place, status_of_lane}
-use Rattle.multi_queue.proofs.CountedLemmas.{slice_get_some, first-stands}
+use Rattle.ale_base.proofs.ListLemmas.{slice_get-within}
+use Rattle.multi_queue.proofs.CountedLemmas.{first-stands}
 use Rattle.multi_queue.proofs.SeenLemmas.{find-map}
 use Rattle.multi_queue.proofs.OfferLemmas.{stopped-is, head-line, lets-is, queued-live, known-here, known-later, all-count, find-none}
 
 -- ---- keys
-
--- a name is what is left of it and of blanks behind it
-name-back : (name : List ℕ) → IsQueueName name → trimmed (padded 24 name) ≡ name
-name-back name it = trimmed-padded 24 name ∙ trimmed-graphic name it.graphic
 
 -- keys that are looked up alike are equal
 key-by_name : (a b : QueueKey) → name_of a ≡ name_of b → IsQueueName a.name → IsQueueName b.name → a ≡ b
@@ -94,7 +90,7 @@ module _ {units : List Entry} {lanes : List Lane} {counts : List ℕ} {nodes : L
       ≡ is_some (first_stopped_of lanes qs)
   any-stopped [] known = refl
   any-stopped (q ∷ qs) known =
-      let at = slice_get_some lanes q (known q (known-here q qs)) in
+      let at = slice_get-within lanes q (known q (known-here q qs)) in
       let w : Lane = at.0 in
       let rest = any-stopped qs (λ r h. known r (known-later q r qs h)) in
       let by : (b : Bool) → w.stopped ≡ b → (b || list_any (λ key. is_stopped key (seen units lanes)) (filter_map (key_at lanes) qs))
@@ -149,7 +145,7 @@ module _ {units : List Entry} {lanes : List Lane} {counts : List ℕ} {nodes : L
             let at_r : slice_get units r ≡ Some v = ap (λ i. slice_get units i) (sym z) ∙ there.1.1 in
             let live = queued-live it r q v at_r there.1.2 in
             let within = slice_get_within units r v at_r in
-            let some = slice_get_some counts r (omega (arith, within, it.counted.all)) in
+            let some = slice_get-within counts r (omega (arith, within, it.counted.all)) in
             let n : ℕ = some.0 in
             ap (λ (o : Option Entry). option_map (status_by_head w.key (seen units lanes)) (option_map (seen_unit lanes) o)) at_r
             ∙ ap (λ s. Some s) (status-head r q n v w at_r some.1 live at_q)

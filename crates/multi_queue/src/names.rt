@@ -1,8 +1,7 @@
 //! Queues by their keys.
 
-ghost use Rattle.std.specs.Prelude.{◌≡◌, ◌≤◌, length};
+ghost use Rattle.std.specs.Prelude.{◌≡◌};
 ghost use Rattle.std.specs.BTreeMap.{get};
-ghost use Rattle.ale_base.specs.Blanks.{padded};
 ghost use Rattle.ale_base.specs.QueueName.{IsQueueName};
 ghost use Rattle.multi_queue.specs.Seen.{name_of, names_cmp};
 
@@ -17,18 +16,7 @@ pub(crate) fn name_of(key: &QueueKey) -> Name
     ensures name { result ≡ name_of key.now }
     ensures proper { IsQueueName key.now.name }
 {
-    (key.partner, blanks_behind(key.name.bytes()))
-}
-
-/// A name with blanks behind it.
-fn blanks_behind(name: &[u8]) -> [u8; 24]
-    requires { length name.now ≤ 24 }
-    ensures { result ≡ padded 24 name.now }
-{
-    let mut padded = [b' '; 24];
-    let (front, _) = padded.split_at_mut(name.len());
-    front.copy_from_slice(name);
-    padded
+    (key.partner, key.name.field())
 }
 
 /// The number of the queue of a key.

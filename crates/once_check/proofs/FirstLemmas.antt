@@ -24,7 +24,7 @@ use Rattle.once_check.specs.steps.Places.{KeyOf, AreCountsOf, AreAllPlacesOf, Is
 use Rattle.once_check.specs.steps.ToldIds.{AreToldBy}
 use Rattle.once_check.specs.steps.Judged.{IsJudgedBy, IsJudgedSo}
 use Rattle.once_check.proofs.LawLemmas.{Once-exactly}
-use Rattle.once_check.proofs.SystemsLemmas.{take_next}
+use Rattle.ale_base.proofs.ListLemmas.{take_next}
 use Rattle.once_check.proofs.PlacesLemmas.{AreCountsOf-none, AreCountsOf-more}
 use Rattle.once_check.proofs.JudgedLemmas.{in_order-other, tells-none, tells-some, taken-in_order, taken-none, taken-some}
 

@@ -21,8 +21,8 @@ use Rattle.once_check.specs.declared.breach.Clause.TheVariants.{WasCommitted, In
 use Rattle.unit_core.specs.Systems.{AreNumbered}
 use Rattle.once_check.specs.Breaches.{IsCommittedFor, Keeps, IsUnbroken}
 use Rattle.unit_core.specs.Inside.{IsOnceInside}
-use Rattle.ale_base.proofs.ListLemmas.{Contains-at}
-use Rattle.once_check.proofs.SystemsLemmas.{place_of, split_at, element_at, take_next, numbered-place, numbered-NoneTwice}
+use Rattle.ale_base.proofs.ListLemmas.{Contains-at, place_of, split_at, slice_get-within, take_next}
+use Rattle.once_check.proofs.SystemsLemmas.{numbered-place, numbered-NoneTwice}
 
 -- what holds of each element that is in a list holds of all
 All-by_element : {A : Type 0} (P : A → Type 0) (xs : List A) → ((x : A) → Contains xs x → P x) → All P xs
@@ -50,7 +50,7 @@ module _ (committed : ℕ → List AleUnit) (logs : ℕ → List Record) (number
     in_order_to : (system n : ℕ) → n ≤ length (logs system) → TakenInOrder committed system (take n (logs system))
     in_order_to system zero within = λ sender name. (in_queue (Outbound sender system name) (committed sender), refl)
     in_order_to system (suc n) within =
-        let found = element_at (logs system) n (omega arith) in
+        let found = slice_get-within (logs system) n (omega arith) in
         subst (TakenInOrder committed system)
         (sym (take_next (logs system) n found.0 found.1) ∙ ap (λ m. take m (logs system)) (let e : n + 1 ≡ suc n = omega arith in e))
         (keeps system n found.0 InOrder found.1 (in_order_to system n (omega arith)))

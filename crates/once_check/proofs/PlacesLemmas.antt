@@ -18,7 +18,8 @@ use Rattle.unit_core.specs.Once.{NoneTwice}
 use Rattle.unit_core.proofs.TidLemmas.{is_among-Contains, is_among-listed, NoneTwice-filter}
 use Rattle.unit_core.specs.Systems.{of_system}
 use Rattle.once_check.specs.steps.Places.{KeyOf, key_of, count_at, places_by, places_behind, IsCounted, AreCountsOf, ArePlacesOf, AreAllPlacesOf, places_of}
-use Rattle.once_check.proofs.SystemsLemmas.{place_of, split_at, slice_get_push, AreMadeOf, at_each_place}
+use Rattle.ale_base.proofs.ListLemmas.{place_of, split_at, slice_get_push}
+use Rattle.once_check.proofs.SystemsLemmas.{AreMadeOf, at_each_place}
 
 -- ---- counts
 

@@ -1,61 +1,22 @@
 -- The lists of all systems, one by one, and units by their numbers.
 use Rattle.std.specs.Prelude.{slice_get, slice_index_or, Contains}
-use Rattle.std.proofs.Common.{◌≡◌, ℕ, zero, suc, ◌+◌, ◌-◌, ◌<◌, ◌≤◌, Some, List, [], ◌∷◌, ◌++◌, length, take, drop, get_or, inl, inr, ◌⊎◌}
+use Rattle.std.proofs.Common.{◌≡◌, ℕ, zero, suc, ◌+◌, ◌-◌, ◌<◌, ◌≤◌, Some, List, [], ◌∷◌, ◌++◌, length, get_or, inl, inr}
 use Rattle.std.proofs.Common.{refl, sym, ap, subst, ◌∙◌, arith}
 use Rattle.std.proofs.lemmas.Bool.{cases_lt, false_from_ne_true}
-use Rattle.std.proofs.lemmas.List.{take-append-drop, take_more, drop_more, get_or_past, length-append}
+use Rattle.std.proofs.lemmas.List.{get_or_past, length-append}
 use Rattle.std.proofs.lemmas.Option.{slice_get_within, get_or_from_slice_get, slice_get-get_or, slice_get-map, slice_get_read}
 use Rattle.std.specs.Borrow.{Bor}
 use Rattle.std.specs.Option.{option_map}
 use Rattle.ale_base.specs.Tid.{TidOf}
-use Rattle.ale_base.proofs.MemberLemmas.{Contains-here, Contains-there, Contains-cons, Contains-nil, Contains-map_back}
+use Rattle.ale_base.proofs.ListLemmas.{place_of, slice_get_push}
+use Rattle.ale_base.proofs.MemberLemmas.{Contains-map_back}
 use Rattle.unit_core.specs.declared.ale_unit.AleUnit.{AleUnit}
 use Rattle.unit_core.specs.Queues.{is_listed, tids_of}
 use Rattle.unit_core.specs.Once.{NoneTwice}
 use Rattle.unit_core.proofs.TidLemmas.{Contains-is_listed}
 use Rattle.unit_core.specs.Systems.{of_system, lent, AreNumbered}
 
--- ---- an element and its place
-
--- an element that a list has stands at a place
-pub place_of : {A : Type 0} (xs : List A) (x : A) → Contains xs x → (k : ℕ) × (slice_get xs k ≡ Some x)
-place_of [] x has = absurd (Contains-nil x has)
-place_of (y ∷ ys) x has =
-    elim (Contains-cons y ys x has) [
-      | inl same ↦ (0, ap Some same)
-      | inr behind ↦ let found = place_of ys x behind in (suc found.0, found.1)
-    ]
-
--- within a list there is an element at each place
-pub element_at : {A : Type 0} (xs : List A) (k : ℕ) → k < length xs → (x : A) × (slice_get xs k ≡ Some x)
-element_at [] k within = absurd (omega arith)
-element_at (x ∷ xs) zero within = (x, refl)
-element_at (x ∷ xs) (suc k) within = element_at xs k (omega arith)
-
--- one element more of a front
-pub take_next : {A : Type 0} (xs : List A) (k : ℕ) (x : A) → slice_get xs k ≡ Some x → take (k + 1) xs ≡ take k xs ++ x ∷ []
-take_next xs k x at = take_more xs k x (slice_get_within xs k x at) ∙ ap (λ y. take k xs ++ y ∷ []) (get_or_from_slice_get xs k x x at)
-
--- a list is what stands before a place, the element there, and what stands behind it
-pub split_at : {A : Type 0} (xs : List A) (k : ℕ) (x : A) → slice_get xs k ≡ Some x → xs ≡ take k xs ++ x ∷ drop (k + 1) xs
-split_at xs k x at =
-    let within : k < length xs = slice_get_within xs k x at in
-    sym (take-append-drop k xs) ∙ ap (λ ys. take k xs ++ ys) (drop_more xs k x within)
-    ∙ ap (λ y. take k xs ++ y ∷ drop (k + 1) xs) (get_or_from_slice_get xs k x x at)
-
 -- ---- the list of a system
-
--- one more element, at the end
-pub slice_get_push : {A : Type 0} (xs : List A) (x : A) (k : ℕ) (y : A) → slice_get (xs ++ x ∷ []) k ≡ Some y
-    → (slice_get xs k ≡ Some y) ⊎ ((k ≡ length xs) × (x ≡ y))
-slice_get_push [] x zero y at = inr (refl, cc)
-slice_get_push [] x (suc k) y at = cc
-slice_get_push (z ∷ zs) x zero y at = inl at
-slice_get_push (z ∷ zs) x (suc k) y at =
-    elim (slice_get_push zs x k y at) [
-      | inl before ↦ inl before
-      | inr last ↦ inr (ap suc last.0, last.1)
-    ]
 
 -- of each element one thing was made
 pub record AreMadeOf {A B : Type 0} (R : A → B → Type 0) (xs : List A) (made : List B) : Type 0 where

@@ -2,8 +2,10 @@
 //!
 //! Contract: none exactly where each record keeps each clause of the law, else the first that does not, by systems, records and clauses;
 //! and none exactly where the law `Once` holds, of logs that are each legal by themselves. The definition is in
-//! `specs/`: `Breaches` (when a record keeps a clause, and what is looked at before). It takes time as n log n of what the logs and the
-//! committed units hold.
+//! `specs/`: `Breaches` (when a record keeps a clause, and what is looked at before).
+//!
+//! Not by contract, but by its form: it reads each log twice and each list of units once, with a look-up in a tree for each id and
+//! each queue that they name.
 #![tactic(auto)]
 
 mod breach;

@@ -1,9 +1,10 @@
 //! What the items of a case work on: the text of a model, and a master.
 
-ghost use Rattle.std.specs.Prelude.{◌<◌, length};
+ghost use Rattle.std.specs.Prelude.{◌≡◌, ◌<◌, length};
 ghost use Rattle.idoc_tree.specs.Forest.{AllNodes};
 ghost use Rattle.idoc_tree.specs.Lines.{IsNode};
 ghost use Rattle.idoc_tree.specs.Nodes.{forest_of};
+ghost use Rattle.outbound_cases.specs.Bench.{sets_up};
 
 use crate::master::{control, model_text, records};
 use crate::rules::{NO_MODEL, NO_SUCH_ITEM, NO_SUCH_NUMBER};
@@ -28,22 +29,16 @@ pub(crate) struct SendingBench<'t> {
     records: Vec<Data>,
 }
 
-/// What an item is about.
+/// What an item asks.
 #[derive(Clone, Copy)]
 enum About {
-    Model,
-    Control,
-    Records,
     Keeps,
     Leaves,
     Sends,
     Queues,
 }
 
-const WORDS: [(&'static [u8], About); 7] = [
-    (b"model", About::Model),
-    (b"control", About::Control),
-    (b"records", About::Records),
+const WORDS: [(&'static [u8], About); 4] = [
     (b"keeps", About::Keeps),
     (b"leaves", About::Leaves),
     (b"sends", About::Sends),
@@ -51,18 +46,27 @@ const WORDS: [(&'static [u8], About); 7] = [
 ];
 
 impl<'t> Bench for SendingBench<'t> {
+    ghost use Rattle.outbound_cases.specs.Bench.{sets_up};
+
+    ghost sets_up = { sets_up };
+
     fn found(&mut self, alloc: Global, item: &Item) -> Result<Option<Vec<u8>>, LineEnd> {
+        if sets_up(item.word.as_slice()) {
+            self.set_up(alloc, item)?;
+            return Ok(None);
+        }
         let Some(about) = meaning_of(&WORDS, item.word.as_slice()) else {
             return Err(NO_SUCH_ITEM.into());
         };
-        match about {
-            About::Model => self.model = model_text(alloc, self.texts, item)?,
-            About::Control => self.control = control(alloc, item)?,
-            About::Records => self.records = records(alloc, item)?,
-            _ => return Ok(Some(self.asked(alloc, about, item.rest.as_slice())?)),
-        }
-        Ok(None)
+        Ok(Some(self.asked(alloc, about, item.rest.as_slice())?))
     }
+}
+
+/// Whether an item of this word sets the model or the master up.
+fn sets_up(word: &[u8]) -> bool
+    ensures { result ≡ sets_up word.now }
+{
+    word == b"model".as_slice() || word == b"control".as_slice() || word == b"records".as_slice()
 }
 
 impl<'t> SendingBench<'t> {
@@ -79,6 +83,19 @@ impl<'t> SendingBench<'t> {
             control: Control::blank(),
             records: Vec::new(alloc),
         }
+    }
+
+    /// Sets up what the word of an item names.
+    fn set_up(&mut self, alloc: Global, item: &Item) -> Result<(), LineEnd> {
+        let word = item.word.as_slice();
+        if word == b"model".as_slice() {
+            self.model = model_text(alloc, self.texts, item)?;
+        } else if word == b"control".as_slice() {
+            self.control = control(alloc, item)?;
+        } else {
+            self.records = records(alloc, item)?;
+        }
+        Ok(())
     }
 
     /// What an item finds.
@@ -149,7 +166,6 @@ fn found_of(
         About::Leaves => leaves(alloc, model, row, master),
         About::Sends => sends(alloc, model, row, number, master),
         About::Queues => queues(alloc, model, row, master),
-        _ => Err(NO_SUCH_ITEM.into()),
     }
 }
 

@@ -1,12 +1,13 @@
 -- Rules that list units, at the tables of a log: what a record commits, and how many queues units have.
 use Rattle.std.specs.Prelude.{slice_get, slice_index_or, IsTrue, ◌&&◌}
 use Rattle.std.specs.Option.{option_to_list}
-use Rattle.std.proofs.Common.{◌≡◌, ℕ, zero, suc, map, ◌+◌, ◌<◌, true, not, ◌==◌, nat_le, Option, Some, None, List, [], ◌∷◌, ◌++◌, length, take, All}
+use Rattle.std.proofs.Common.{◌≡◌, ℕ, zero, suc, map, ◌+◌, ◌<◌, true, not, ◌==◌, nat_le, Some, List, [], ◌∷◌, ◌++◌, length, take, All}
 use Rattle.std.proofs.Common.{refl, sym, ap, subst, ◌∙◌, arith, append-nil}
 use Rattle.std.proofs.lemmas.Bool.{and_parts, leb-true, ltb-true}
-use Rattle.std.proofs.lemmas.List.{take_all, take_more}
+use Rattle.std.proofs.lemmas.List.{take_all}
 use Rattle.std.proofs.lemmas.List.Elements.{All-nil, All-cons, All-take, All-contains}
-use Rattle.std.proofs.lemmas.Option.{slice_get_within, get_or_from_slice_get, none-some}
+use Rattle.std.proofs.lemmas.Option.{slice_get_within, get_or_from_slice_get}
+use Rattle.ale_base.proofs.ListLemmas.{slice_get-within, take_next}
 use Rattle.ale_base.specs.declared.way.Way.TheVariants.{Outgoing}
 use Rattle.unit_core.specs.declared.ale_unit.AleUnit.{AleUnit}
 use Rattle.unit_core.specs.declared.records.Record.{Record}
@@ -21,20 +22,10 @@ use Rattle.protocol_scenes.specs.ListedRules.{most_queues, is_unit, are_units, a
 use Rattle.protocol_scenes.specs.ListedRulesLemmas.{are_units-at, commits_of-push, index-take, list_of-at}
 
 -- one unit more of a list
-one-more : (list : List AleUnit) (n : ℕ) (found : Option AleUnit) → slice_get list n ≡ found → n < length list
-    → take (n + 1) list ≡ take n list ++ option_to_list found
-one-more list n None at within = absurd (none-found (slice_get list n) refl)
-  where
-    none-found : (o : Option AleUnit) → slice_get list n ≡ o → ⊥
-    none-found None same = missing list n within same
-      where
-        missing : (xs : List AleUnit) (k : ℕ) → k < length xs → slice_get xs k ≡ None → ⊥
-        missing [] k less none = omega (arith, less)
-        missing (x ∷ xs) zero less none = cc
-        missing (x ∷ xs) (suc k) less none = missing xs k (omega (arith, less)) none
-    none-found (Some unit) same = none-some unit (sym at ∙ same)
-one-more list n (Some unit) at within =
-    take_more list n unit within ∙ ap (λ u. take n list ++ u ∷ []) (get_or_from_slice_get list n unit unit at)
+one-more : (list : List AleUnit) (n : ℕ) → n < length list → take (n + 1) list ≡ take n list ++ option_to_list (slice_get list n)
+one-more list n within =
+    let next = slice_get-within list n within in
+    take_next list n next.0 next.1 ∙ ap (λ found. take n list ++ option_to_list found) (sym next.1)
 
 -- a record that may follow a log commits the next unit of the list, or none
 pub committed-more : (lists : List (List AleUnit)) (system : ℕ) (log : List Record) (next : Record)
@@ -45,7 +36,7 @@ committed-more lists system log (Commit origin docs) ok =
     let n = commits_of log in
     let within : n < length list = ltb-true n (length list) (others (listed_meaning lists) system log (Commit origin docs) refl ok) in
     let one : commits_of (log ++ Commit origin docs ∷ []) ≡ n + 1 = commits_of-push log (Commit origin docs) in
-    ap (λ m. take m list) one ∙ one-more list n (slice_get list n) refl within
+    ap (λ m. take m list) one ∙ one-more list n within
 committed-more lists system log next ok =
     let none : commits_of (log ++ next ∷ []) ≡ commits_of log = commits_of-push log next ∙ omega arith in
     ap (λ m. take m (list_of lists system)) none ∙ sym (append-nil (take (commits_of log) (list_of lists system)))

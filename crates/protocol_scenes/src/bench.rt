@@ -1,5 +1,8 @@
 //! What the items of a case work on: the units that it lists, a scene of them, and logs made by hand.
 
+ghost use Rattle.std.specs.Prelude.{◌≡◌};
+ghost use Rattle.protocol_scenes.specs.Bench.{sets_up};
+
 use crate::events::read_event;
 use crate::fault::Fault;
 use crate::given::Given;
@@ -14,13 +17,9 @@ use case_form::{Bench, Item, LineEnd, Text, meaning_of};
 use std::alloc::Global;
 use trfc_protocol::Event;
 
-/// The word that begins an item.
+/// The word that begins an item which is a step.
 #[derive(Clone, Copy)]
 pub(crate) enum ItemWord {
-    Systems,
-    Unit,
-    Committed,
-    Given,
     Event,
     Ask,
     Again,
@@ -34,11 +33,7 @@ pub(crate) enum ItemWord {
     Stopped,
 }
 
-const ITEMS: [(&'static [u8], ItemWord); 15] = [
-    (b"systems", ItemWord::Systems),
-    (b"unit", ItemWord::Unit),
-    (b"committed", ItemWord::Committed),
-    (b"given", ItemWord::Given),
+const ITEMS: [(&'static [u8], ItemWord); 11] = [
     (b"event", ItemWord::Event),
     (b"ask", ItemWord::Ask),
     (b"again", ItemWord::Again),
@@ -64,6 +59,10 @@ pub(crate) struct SceneBench {
 }
 
 impl Bench for SceneBench {
+    ghost use Rattle.protocol_scenes.specs.Bench.{sets_up};
+
+    ghost sets_up = { sets_up };
+
     fn found(&mut self, alloc: Global, item: &Item) -> Result<Option<Vec<u8>>, LineEnd> {
         match self.answer(alloc, item) {
             Ok(found) => Ok(found),
@@ -72,15 +71,21 @@ impl Bench for SceneBench {
     }
 }
 
-/// Whether an item is no step.
-fn is_taken_in(word: ItemWord) -> bool {
-    matches!(
-        word,
-        ItemWord::Systems | ItemWord::Unit | ItemWord::Committed | ItemWord::Given
-    )
+/// Whether an item of this word is no step.
+fn sets_up(word: &[u8]) -> bool
+    ensures { result ≡ sets_up word.now }
+{
+    word == b"systems".as_slice()
+        || word == b"unit".as_slice()
+        || word == b"committed".as_slice()
+        || word == b"given".as_slice()
 }
 
 impl SceneBench {
+    ghost use Rattle.std.specs.Prelude.{◌≡◌, not, IfOk};
+    ghost use Rattle.std.specs.Option.{is_some};
+    ghost use Rattle.protocol_scenes.specs.Bench.{sets_up};
+
     pub(crate) fn new(alloc: Global) -> SceneBench {
         SceneBench {
             alloc,
@@ -92,29 +97,35 @@ impl SceneBench {
     }
 
     /// What is found at an item, where it is a step.
-    fn answer(&mut self, alloc: Global, item: &Item) -> Result<Option<Vec<u8>>, Fault> {
-        let Some(word) = meaning_of(&ITEMS, item.word.as_slice()) else {
-            return Err(Fault::NoItem);
-        };
+    fn answer(&mut self, alloc: Global, item: &Item) -> Result<Option<Vec<u8>>, Fault>
+        ensures { IfOk result (λ found. is_some found ≡ not (sets_up item.now.word.items)) }
+    {
         let mut words = Words::of(item.rest.as_slice());
-        if is_taken_in(word) {
-            self.take(word, &mut words, item)?;
+        if sets_up(item.word.as_slice()) {
+            self.set_up(&mut words, item)?;
             words.end()?;
             return Ok(None);
         }
+        let Some(word) = meaning_of(&ITEMS, item.word.as_slice()) else {
+            return Err(Fault::NoItem);
+        };
         let mut text = Text::new(alloc);
         self.put(&mut text, word, &mut words)?;
         words.end()?;
         Ok(Some(text.into_bytes()))
     }
 
-    /// Takes in an item that is no step.
-    fn take(&mut self, word: ItemWord, words: &mut Words, item: &Item) -> Result<(), Fault> {
-        match word {
-            ItemWord::Systems => add_systems(self.alloc, &mut self.lists, words),
-            ItemWord::Unit => add_unit(self.alloc, &mut self.lists, words),
-            ItemWord::Committed => self.given.read_committed(words),
-            _ => self.given.read_logs(&self.lists, item.block.as_slice()),
+    /// Sets up what an item says that is no step.
+    fn set_up(&mut self, words: &mut Words, item: &Item) -> Result<(), Fault> {
+        let word = item.word.as_slice();
+        if word == b"systems".as_slice() {
+            add_systems(self.alloc, &mut self.lists, words)
+        } else if word == b"unit".as_slice() {
+            add_unit(self.alloc, &mut self.lists, words)
+        } else if word == b"committed".as_slice() {
+            self.given.read_committed(words)
+        } else {
+            self.given.read_logs(&self.lists, item.block.as_slice())
         }
     }
 

@@ -38,6 +38,11 @@ fn main(rt: HostRuntime) -> io::Result<ExitCode> {
 struct ProtocolScenes;
 
 impl Suite for ProtocolScenes {
+    ghost use Rattle.case_form.specs.Answered.{IsAnswered};
+    ghost use Rattle.protocol_scenes.specs.Bench.{sets_up};
+
+    ghost comes_out = { λ _ _ file bytes outcome. IsAnswered sets_up file bytes outcome };
+
     fn outcome(
         &self,
         alloc: Global,

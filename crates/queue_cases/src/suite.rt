@@ -10,6 +10,11 @@ use std::alloc::Global;
 pub(crate) struct QueueCases;
 
 impl Suite for QueueCases {
+    ghost use Rattle.case_form.specs.Answered.{IsAnswered};
+    ghost use Rattle.std.specs.Prelude.{false};
+
+    ghost comes_out = { λ _ _ file bytes outcome. IsAnswered (λ _. false) file bytes outcome };
+
     fn outcome(
         &self,
         alloc: Global,

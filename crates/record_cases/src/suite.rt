@@ -23,6 +23,11 @@ struct LineBench {
 }
 
 impl Suite for Records {
+    ghost use Rattle.case_form.specs.Answered.{IsAnswered};
+    ghost use Rattle.record_cases.specs.Bench.{sets_up};
+
+    ghost comes_out = { λ _ _ file bytes outcome. IsAnswered sets_up file bytes outcome };
+
     fn outcome(
         &self,
         alloc: Global,
@@ -41,7 +46,6 @@ impl Suite for Records {
 /// What an item is about.
 #[derive(Clone, Copy)]
 enum About {
-    Line,
     Control,
     Data,
     WrittenControl,
@@ -50,8 +54,7 @@ enum About {
 }
 
 /// The words of the items.
-const WORDS: [(&'static [u8], About); 6] = [
-    (b"line", About::Line),
+const WORDS: [(&'static [u8], About); 5] = [
     (b"control", About::Control),
     (b"data", About::Data),
     (b"written_control", About::WrittenControl),
@@ -60,13 +63,17 @@ const WORDS: [(&'static [u8], About); 6] = [
 ];
 
 impl Bench for LineBench {
+    ghost use Rattle.record_cases.specs.Bench.{sets_up};
+
+    ghost sets_up = { sets_up };
+
     /// What an item finds. One that makes a line finds nothing.
     fn found(&mut self, alloc: Global, item: &Item) -> Result<Option<Vec<u8>>, LineEnd> {
-        let about = meaning_of(&WORDS, item.word.as_slice()).ok_or(NO_SUCH_ITEM)?;
-        if let About::Line = about {
+        if item.word.as_slice() == b"line".as_slice() {
             self.line = made_line(alloc, item)?;
             return Ok(None);
         }
+        let about = meaning_of(&WORDS, item.word.as_slice()).ok_or(NO_SUCH_ITEM)?;
         let mut text = Text::new(alloc);
         self.put_found(alloc, about, item.rest.as_slice(), &mut text)?;
         Ok(Some(text.into_bytes()))
@@ -84,7 +91,6 @@ impl LineBench {
     ) -> Result<(), LineEnd> {
         let line = self.line.as_slice();
         match about {
-            About::Line => Ok(()),
             About::Control => put_control(text, line, &mut self.control),
             About::Data => put_data(alloc, text, line),
             About::WrittenControl => put_control_bytes(alloc, text, &self.control),

@@ -18,6 +18,13 @@ impl<A: Application> SystemTables<A> {
     ghost use Rattle.plain_queues.specs.Lines.{AreLinesOf};
     ghost use Rattle.system_tables.specs.Tables.{unit_numbered, queues_of};
 
+    /// The units that the system committed, and those entered, in their order.
+    pub fn units(&self) -> &[AleUnit]
+        ensures { result.now ≡ self.now.units }
+    {
+        self.units.as_slice()
+    }
+
     /// The unit that was committed under this number, from 1. None exactly where there is none.
     pub fn unit(&self, number: u32) -> Option<&AleUnit>
         ensures { option_copied result ≡ unit_numbered number self.now.units }

@@ -1,7 +1,8 @@
 use Rattle.std.proofs.Common.{◌≡◌, List, ℕ, Some, [], true, refl, sym, ap, ◌∙◌, arith, slice_get, slice_set}
 use Rattle.multi_queue.specs.declared.entry.Entry.{Entry}
 use Rattle.multi_queue.specs.Counted.{Leaves}
-use Rattle.multi_queue.proofs.CountedLemmas.{slice_get_some, set-here, set-get, set-twice, left-none}
+use Rattle.ale_base.proofs.ListLemmas.{slice_get-within}
+use Rattle.multi_queue.proofs.CountedLemmas.{set-here, set-get, set-twice, left-none}
 use Rattle.multi_queue.proofs.FlagLemmas.{same-counted}
 use Rattle.multi_queue.proofs.counting.enter.Goals as goal
 
@@ -45,7 +46,7 @@ as-before p before units u leaves got none empty =
 
 pub returns-in-Err-clause-err : goal.returns-in-Err-clause-err
 returns-in-Err-clause-err c =
-    let at = slice_get_some c.args.units.now c.args.place (omega (arith, c.requires.last.last)) in
+    let at = slice_get-within c.args.units.now c.args.place (omega (arith, c.requires.last.last)) in
     as-before c.args.place c.args.units.now c.join_from.new.units at.0 c.in-Err.ensures.others at.1
     (left-none c.args.place c.args.units.now at.0 at.1 c.requires.none)
     (λ x now. left-none c.args.place c.join_from.new.units x now c.in-Err.ensures.err)

@@ -1,7 +1,8 @@
 use Rattle.std.proofs.Common.{◌+◌, length, take, get_or, arith, ap, ◌∙◌, List, ℕ}
 use Rattle.std.proofs.lemmas.List.{length-take-le}
 use Rattle.multi_queue.specs.Counted.{has}
-use Rattle.multi_queue.proofs.CountedLemmas.{leaves-none, leaves-both, leaves-last, lanes-same, lanes-more, left-none, differ-take, has-at, slice_get_some}
+use Rattle.ale_base.proofs.ListLemmas.{slice_get-within}
+use Rattle.multi_queue.proofs.CountedLemmas.{leaves-none, leaves-both, leaves-last, lanes-same, lanes-more, left-none, differ-take, has-at}
 use Rattle.multi_queue.proofs.CountedLemmas.{joined-in, take_more}
 use Rattle.multi_queue.proofs.counting.join_all.Goals as goal
 
@@ -27,7 +28,7 @@ join_one-requires-clause-known g c =
 pub join_one-requires-clause-joining : goal.join_one-requires-clause-joining
 join_one-requires-clause-joining g c =
     let i = c.loop-queue.queue-index in
-    let it = slice_get_some c.loop-queue.units c.args.place (omega (arith, c.loop-queue.invariant.last.last)) in
+    let it = slice_get-within c.loop-queue.units c.args.place (omega (arith, c.loop-queue.invariant.last.last)) in
     let queues = c.loop-queue.invariant.is_in.is_in it.0 it.1 in
     record {
       unit = it.0;
@@ -53,7 +54,7 @@ pub loop-queue-preserved : goal.loop-queue-preserved
 loop-queue-preserved g c =
     let i = c.loop-queue.queue-index in
     let q = get_or c.args.queues.now i 0 in
-    let it = slice_get_some c.loop-queue.units c.args.place (omega (arith, c.loop-queue.invariant.last.last)) in
+    let it = slice_get-within c.loop-queue.units c.args.place (omega (arith, c.loop-queue.invariant.last.last)) in
     let joined = c.in_default.ensures.ok in
     record {
       counted = c.join_one.ensures.counted;

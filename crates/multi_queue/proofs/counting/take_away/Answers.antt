@@ -2,7 +2,8 @@ use Rattle.std.specs.Option.{is_none}
 use Rattle.std.proofs.Common.{◌≡◌, ◌<◌, List, ℕ, Some, None, [], false, refl, sym, ap, ◌∙◌, slice_get, slice_set, length}
 use Rattle.multi_queue.specs.declared.entry.Entry.{Entry}
 use Rattle.multi_queue.specs.Counted.{Leaves, gone}
-use Rattle.multi_queue.proofs.CountedLemmas.{slice_get_some, set-here, set-twice, left-none, board-idle, claimed-busy, dead-idle}
+use Rattle.ale_base.proofs.ListLemmas.{slice_get-within}
+use Rattle.multi_queue.proofs.CountedLemmas.{set-here, set-twice, left-none, board-idle, claimed-busy, dead-idle}
 use Rattle.multi_queue.proofs.FlagLemmas.{same-counted}
 use Rattle.multi_queue.proofs.counting.take_away.Goals as goal
 
@@ -18,7 +19,7 @@ was p before units u x leaves got now =
 still-claimed : (p : ℕ) (before units : List Entry) (x : Entry) → p < length before → Leaves p before units → slice_get units p ≡ Some x
     → ((u : Entry) → slice_get before p ≡ Some u → is_none u.claim ≡ false) → is_none x.claim ≡ false
 still-claimed p before units x within leaves now busy =
-    let u = slice_get_some before p within in
+    let u = slice_get-within before p within in
     ap (λ (y : Entry). is_none y.claim) (sym (was p before units u.0 x leaves u.1 now)) ∙ busy u.0 u.1
 
 as-gone : (p : ℕ) (before units : List Entry) (u x : Entry) → Leaves p before units → slice_get before p ≡ Some u → slice_get units p ≡ Some x → x.queues ≡ []

@@ -1,0 +1,2 @@
+-- the words of items that find nothing
+pub mod Bench
