@@ -66,6 +66,7 @@ impl QueueName {
         }
         match Fixed::of(bytes) {
             Some(text) => Ok(QueueName { text }),
+            // The length was looked at.
             None => unreachable!(),
         }
     }

@@ -11,7 +11,7 @@ use Rattle.ale_host.specs.Inputs.{EndsBehindDocuments, EndsBehindModel, EndsRun,
 use Rattle.idoc_file.specs.declared.raw_doc.RawDoc.{RawDoc}
 use Rattle.ale_host.specs.declared.inputs.ModelFile.{ModelFile}
 use Rattle.ale_host.specs.declared.prepared.Prepared.{Prepared}
-use Rattle.ale_host.specs.declared.load_model.TheConstants.{LOAD_MODEL}
+use Rattle.ale_host.specs.LoadModel.{load_model}
 use Rattle.ale_host.specs.Load as load
 use Rattle.ale_host.specs.Running.{masters_of}
 use Rattle.ale_host.specs.Prepared.{AreMasters, EndsAs, IsBehindDocuments, IsBehindModel, IsLoaded, IsPrepared, IsRead, SaysMasters, SaysModel, prepared_of}
@@ -136,7 +136,7 @@ is-prepared file documents masters commands prepared names same is = record {
 
 -- what a load has is what its texts say
 pub is-loaded : (count : ℕ) (file : ModelFile) (masters : List RawUnitDoc) (commands : List Command) (prepared : Prepared)
-    → file.text ≡ LOAD_MODEL.now → answer_to LOAD_MODEL.now ≡ Ok (arc_value file.model) → arc_value file.names ≡ arc_value file.model
+    → file.text ≡ load_model → answer_to load_model ≡ Ok (arc_value file.model) → arc_value file.names ≡ arc_value file.model
     → AreMasters (lines_of (load.documents count)) masters → script_of (load.script count) ≡ Ok commands → prepared ≡ prepared_of file masters commands
     → IsLoaded count prepared
 is-loaded count file masters commands prepared text says names are says_commands is = (

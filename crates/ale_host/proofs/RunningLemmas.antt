@@ -17,7 +17,7 @@ use Rattle.unit_core.specs.Filters.{is_marked, is_stopped}
 use Rattle.trfc_protocol.specs.declared.world.World.{World}
 use Rattle.trfc_protocol.specs.Start.{first_state, first_world, genesis_log, genesis_logs}
 use Rattle.trfc_protocol.specs.Worlds.{log_of, log_or_none}
-use Rattle.kept_world.specs.Kept.{KeptOf}
+use Rattle.unit_landscape.specs.KeptWorlds.{KeptOf}
 use Rattle.document_state.specs.declared.document_tables.DocumentTables.{DocumentTables}
 use Rattle.document_state.specs.declared.model_rules.ModelRules.{ModelRules}
 use Rattle.landscape.specs.Opened.{HasOpened}

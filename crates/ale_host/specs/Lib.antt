@@ -3,6 +3,8 @@ pub mod Words
 pub mod Feeding
 -- what `run` reads
 pub mod Inputs
+-- the model of a load
+pub mod LoadModel
 -- what a load reads, and what it prints
 pub mod Loading
 -- how a run ends whose files were read

@@ -8,7 +8,7 @@ use Rattle.dist_model.specs.declared.lists.Lists.{Lists}
 use Rattle.model_text.specs.Text.{answer_to}
 use Rattle.script_text.specs.declared.command.Command.{Command}
 use Rattle.script_text.specs.Script.{script_of}
-use Rattle.ale_host.specs.declared.load_model.TheConstants.{LOAD_MODEL}
+use Rattle.ale_host.specs.LoadModel.{load_model}
 use Rattle.ale_host.specs.Load.{documents, script}
 use Rattle.landscape.specs.declared.counts.Counts.{Counts}
 use Rattle.ale_host.specs.declared.ending.Ending.{Ending}
@@ -16,13 +16,13 @@ use Rattle.ale_host.specs.declared.ending.Ending.TheVariants as ending
 
 -- the texts of a load of so many masters say this model, these documents and these commands
 pub record LoadSays (masters : ℕ) (model : Lists) (these : List RawDoc) (commands : List Command) : Type 0 where
-  pub says_model : answer_to LOAD_MODEL.now ≡ Ok model
+  pub says_model : answer_to load_model ≡ Ok model
   pub says_documents : AreDocuments (lines_of (documents masters)) these
   pub says_script : script_of (script masters) ≡ Ok commands
 
 -- why a load of so many masters ends at one of its texts
 abbrev pub EndsLoad : ℕ → Ending → Type 0
-EndsLoad masters (ending.ModelRefused fault) = answer_to LOAD_MODEL.now ≡ Err fault
+EndsLoad masters (ending.ModelRefused fault) = answer_to load_model ≡ Err fault
 EndsLoad masters (ending.Refused fault) = IsFirstBad (lines_of (documents masters)) fault
 EndsLoad masters (ending.ScriptRefused fault) = script_of (script masters) ≡ Err fault
 EndsLoad masters ending.OutOfMemory = ⊤

@@ -14,7 +14,7 @@ use Rattle.ale_host.specs.declared.prepared.Prepared.{Prepared}
 use Rattle.ale_host.specs.Inputs.{IsFileWithin, SaysDocuments, SaysScript}
 use Rattle.ale_host.specs.declared.ending.Ending.{Ending}
 use Rattle.ale_host.specs.declared.ending.Ending.TheVariants as ending
-use Rattle.ale_host.specs.declared.load_model.TheConstants.{LOAD_MODEL}
+use Rattle.ale_host.specs.LoadModel.{load_model}
 use Rattle.ale_host.specs.declared.host.Order.{Order}
 use Rattle.ale_host.specs.Loading.{LoadSays}
 use Rattle.ale_host.specs.Running.{AskFor, Say, masters_of}
@@ -70,7 +70,7 @@ IsRead told model_name documents_name script_name prepared =
 abbrev pub IsLoaded : ℕ → Prepared → Type 0
 IsLoaded masters prepared =
     (model : Lists) × ((documents : List RawDoc) × ((commands : List Command)
-    × LoadSays masters model documents commands × IsPrepared LOAD_MODEL.now model documents commands prepared))
+    × LoadSays masters model documents commands × IsPrepared load_model model documents commands prepared))
 
 -- the words ask for a run or a load, and this is what it has
 abbrev pub IsAsked : List (List ℕ) → (List ℕ → Told) → Order → Type 0

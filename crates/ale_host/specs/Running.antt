@@ -17,8 +17,8 @@ use Rattle.outbound_build.specs.ControlRecord.{system_name}
 use Rattle.document_state.specs.declared.document_tables.DocumentTables.{DocumentTables}
 use Rattle.document_state.specs.declared.model_rules.ModelRules.{ModelRules}
 use Rattle.document_state.specs.Meaning.{model_meaning}
-use Rattle.kept_world.specs.Kept.{KeptOf}
-use Rattle.kept_world.specs.OnVolumes.{AreOnVolumes}
+use Rattle.unit_landscape.specs.KeptWorlds.{KeptOf}
+use Rattle.unit_landscape.specs.OnVolumes.{AreOnVolumes}
 use Rattle.unit_landscape.specs.Kept.{IsLandscape}
 use Rattle.landscape.specs.declared.open_end.OpenWhy.{OpenWhy}
 use Rattle.landscape.specs.declared.open_end.OpenWhy.TheVariants as open_why
@@ -35,7 +35,7 @@ use Rattle.runs.specs.Complete.{AllGoThrough, HoldNothing, OfferAll}
 use Rattle.runs.specs.Run.{AreAsked, Run}
 use Rattle.runs.specs.Turns.{Turn, text_of}
 use Rattle.unit_works.specs.Wires.{letters_left}
-use Rattle.ale_host.specs.declared.load_model.TheConstants.{LOAD_MODEL}
+use Rattle.ale_host.specs.LoadModel.{load_model}
 use Rattle.ale_host.specs.declared.running.Report.{Report}
 use Rattle.ale_host.specs.declared.running.Report.TheVariants as report
 use Rattle.ale_host.specs.declared.words.Form.TheVariants.{Load, Run as RunForm}
@@ -56,7 +56,7 @@ abbrev pub AskFor : List (List ℕ) → (List ℕ → Told) → Report → List 
 AskFor words told report.Commands text model documents commands =
     (form_of words ≡ Some RunForm) × Say told (model_file words) (documents_file words) (script_file words) text model documents commands
 AskFor words told report.Counts text model documents commands =
-    (masters : ℕ) × (form_of words ≡ Some (Load masters)) × (text ≡ LOAD_MODEL.now) × LoadSays masters model documents commands
+    (masters : ℕ) × (form_of words ≡ Some (Load masters)) × (text ≡ load_model) × LoadSays masters model documents commands
 
 -- the masters of a run: the documents of its document file
 abbrev pub masters_of : List RawDoc → List RawUnitDoc

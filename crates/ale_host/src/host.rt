@@ -213,7 +213,7 @@ fn read_run<F: Files>(
     }
 }
 
-/// The same, where the model was read.
+/// What `run` has where the model was read; or how it ends at the documents or the script.
 fn read_behind_model<F: Files>(
     alloc: Global,
     said: ModelFile,
@@ -235,7 +235,7 @@ fn read_behind_model<F: Files>(
     }
 }
 
-/// The same, where the model and the documents were read.
+/// What `run` has where the model and the documents were read; or how it ends at the script.
 fn read_behind_documents<F: Files>(
     alloc: Global,
     said: ModelFile,

@@ -29,7 +29,7 @@ pub(crate) struct ModelFile {
     pub(crate) text: Items<u8>,
     /// The model, by which systems work.
     pub(crate) model: Arc<Model>,
-    /// The same model, for the names of systems.
+    /// The model once more, for the names of systems.
     pub(crate) names: Arc<Model>,
 }
 

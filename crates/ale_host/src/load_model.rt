@@ -1,8 +1,17 @@
 //! The model of a load.
 
-/// The model of a load: a company with a central system, CORE, and two branches, P1 and P2. P1 gets each material in the older release, P2
-/// those whose type is FERT, and of a material with plants those with a storage location `0001`.
-pub(crate) const LOAD_MODEL: &'static [u8] = b"\
+ghost use Rattle.std.specs.Prelude.{◌≡◌};
+ghost use Rattle.ale_host.specs.LoadModel.{load_model};
+
+/// The text of the model of a load: a company with a central system, CORE, and two branches, P1 and P2. P1 gets each material in the older
+/// release, P2 those whose type is FERT, and of a material with plants those with a storage location `0001`.
+pub(crate) fn load_model() -> &'static [u8]
+    ensures { result.now ≡ load_model }
+{
+    LOAD_MODEL
+}
+
+const LOAD_MODEL: &'static [u8] = b"\
 releases = [\"40A\", \"46C\"]\n\
 [[system]]\n\
 name = \"CORE\"\n\
@@ -13,8 +22,8 @@ name = \"P2\"\n\
 [[segment]]\n\
 type = \"Z1MAT\"\n\
 version = [\n\
-  { name = \"Z2MAT000\", release = \"40A\", adds = [\"MATNR 18\", \"MTART 4\"] },\n\
-  { name = \"Z2MAT001\", release = \"46C\", adds = [\"MEINS 3\"] },\n\
+\x20\x20{ name = \"Z2MAT000\", release = \"40A\", adds = [\"MATNR 18\", \"MTART 4\"] },\n\
+\x20\x20{ name = \"Z2MAT001\", release = \"46C\", adds = [\"MEINS 3\"] },\n\
 ]\n\
 [[segment]]\n\
 type = \"Z1PLT\"\n\
@@ -28,9 +37,9 @@ version = [{ name = \"Z2QUE000\", release = \"40A\", adds = [\"OBJ 10\", \"QA 30
 [[idoctype]]\n\
 name = \"ZMAT01\"\n\
 segment = [\n\
-  { type = \"Z1MAT\", mandatory = true },\n\
-  { type = \"Z1PLT\", parent = \"Z1MAT\", max = 9999 },\n\
-  { type = \"Z1STO\", parent = \"Z1PLT\", mandatory = true, max = 9999 },\n\
+\x20\x20{ type = \"Z1MAT\", mandatory = true },\n\
+\x20\x20{ type = \"Z1PLT\", parent = \"Z1MAT\", max = 9999 },\n\
+\x20\x20{ type = \"Z1STO\", parent = \"Z1PLT\", mandatory = true, max = 9999 },\n\
 ]\n\
 [[idoctype]]\n\
 name = \"ZQUE01\"\n\

@@ -8,7 +8,7 @@ ghost use Rattle.idoc_file.specs.DocumentFile.{AreDocuments};
 ghost use Rattle.idoc_file.specs.Reading.{Stands};
 ghost use Rattle.model_text.specs.Text.{answer_to};
 ghost use Rattle.script_text.specs.Script.{script_of};
-ghost use Rattle.ale_host.specs.declared.load_model.TheConstants.{LOAD_MODEL};
+ghost use Rattle.ale_host.specs.LoadModel.{load_model};
 ghost use Rattle.ale_host.specs.Load.{documents, script};
 ghost use Rattle.ale_host.specs.Ending.{IsPrintable};
 ghost use Rattle.ale_host.specs.Loading.{EndsLoad, load_line};
@@ -17,7 +17,7 @@ ghost use Rattle.ale_host.specs.Prepared.{AreMasters, IsLoaded};
 use crate::ending::Ending;
 use crate::inputs::{ModelFile, SharedModel, refused, shared};
 use crate::load_documents::load_documents;
-use crate::load_model::LOAD_MODEL;
+use crate::load_model::load_model;
 use crate::load_script::load_script;
 use crate::pass_text::put;
 use crate::prepared::{Prepared, masters_of, prepared_from};
@@ -44,11 +44,11 @@ pub(crate) fn read_load(alloc: Global, masters: u32) -> Result<Prepared, Ending>
     }
 }
 
-/// The same, where the model was read.
+/// What a load of so many masters has where its model was read; or how it ends at its documents or its script.
 fn read_behind_model(alloc: Global, masters: u32, said: ModelFile) -> Result<Prepared, Ending>
     requires masters { masters ≤ MAX_MASTERS }
-    requires text { said.text ≡ LOAD_MODEL.now }
-    requires says { answer_to LOAD_MODEL.now ≡ Ok (arc_value said.model) }
+    requires text { said.text ≡ load_model }
+    requires says { answer_to load_model ≡ Ok (arc_value said.model) }
     requires names { arc_value said.names ≡ arc_value said.model }
     ensures says { IfOk result (IsLoaded masters) }
     ensures ends { IfErr result (EndsLoad masters) }
@@ -65,13 +65,13 @@ fn read_behind_model(alloc: Global, masters: u32, said: ModelFile) -> Result<Pre
 
 /// The model of a load.
 fn said_model(alloc: Global) -> Result<ModelFile, Ending>
-    ensures text { IfOk result (λ file. file.text ≡ LOAD_MODEL.now) }
-    ensures says { IfOk result (λ file. answer_to LOAD_MODEL.now ≡ Ok (arc_value file.model)) }
+    ensures text { IfOk result (λ file. file.text ≡ load_model) }
+    ensures says { IfOk result (λ file. answer_to load_model ≡ Ok (arc_value file.model)) }
     ensures names { IfOk result (λ file. arc_value file.names ≡ arc_value file.model) }
     ensures ends { (masters : ℕ) → IfErr result (EndsLoad masters) }
     ensures printable { IfErr result IsPrintable }
 {
-    match model_text::read(alloc, LOAD_MODEL) {
+    match model_text::read(alloc, load_model()) {
         Ok(model) => match with_text(alloc, model) {
             Ok(file) => Ok(file),
             Err(OutOfMemory) => Err(Ending::OutOfMemory),
@@ -83,12 +83,12 @@ fn said_model(alloc: Global) -> Result<ModelFile, Ending>
 
 /// The model of a load, with its text.
 fn with_text(alloc: Global, model: Model) -> Result<ModelFile, OutOfMemory>
-    ensures text { IfOk result (λ file. file.text ≡ LOAD_MODEL.now) }
+    ensures text { IfOk result (λ file. file.text ≡ load_model) }
     ensures model { IfOk result (λ file. arc_value file.model ≡ model) }
     ensures names { IfOk result (λ file. arc_value file.names ≡ model) }
 {
     let SharedModel { model, names } = shared(alloc, model)?;
-    let text = Items::from_slice(alloc, LOAD_MODEL)?;
+    let text = Items::from_slice(alloc, load_model())?;
     Ok(ModelFile { text, model, names })
 }
 

@@ -3,7 +3,7 @@
 ghost use Rattle.std.specs.Prelude.{◌≡◌, ◌≢◌, ◌≤◌, ℕ, List, None, Some, length, IfOk};
 ghost use Rattle.std.specs.Arc.{arc_value};
 ghost use Rattle.said_models.specs.Said.{said};
-ghost use Rattle.landscape_opening.specs.declared.beginning.TheConstants.{MOST_TEXT};
+ghost use Rattle.unit_landscape.specs.declared.beginning.TheConstants.{MOST_TEXT};
 ghost use Rattle.outbound_build.specs.ControlRecord.{system_name};
 ghost use Rattle.report_text.specs.declared.faults.FaultLine.TheVariants as last;
 ghost use Rattle.report_text.specs.FaultLine.{fault_line};

@@ -222,7 +222,7 @@ fn is_stream<R: rt::Files>(rt: &R, found: &Metadata) -> bool {
 /// The names by which the system tells what the standard streams of this process are.
 const STREAMS: [&str; 3] = ["/dev/stdin", "/dev/stdout", "/dev/stderr"];
 
-/// The same file under a descriptor above those of the three standard streams. Where one of them was closed, what is meant
+/// A file under a descriptor above those of the three standard streams: this one where it has one, else a duplicate. Where one of them was closed, what is meant
 /// for it must not land in a journal.
 fn above_streams(file: File) -> io::Result<File> {
     if file.as_raw_fd() > LAST_STREAM {

@@ -26,7 +26,7 @@ impl<W: Write> StdSink<W> {
         StdSink::over(out, false)
     }
 
-    /// The same for a writer that is a terminal: of what is put it gets text in UTF-8 without control characters and the
+    /// No write has failed yet. The writer is a terminal: of what is put it gets text in UTF-8 without control characters and the
     /// ends of lines as they are, and each other byte as `\x` and its two hexadecimal digits.
     pub fn on_terminal(out: W) -> StdSink<W>
         ensures { ⟦<StdSink<W> as Sink>⟧.faults result ≡ 0 }

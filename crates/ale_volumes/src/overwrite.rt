@@ -41,7 +41,7 @@ pub(crate) fn overwrite(
     Ok(done?)
 }
 
-/// The same on a vector.
+/// Writes bytes over those of a vector from a place on, or from their end where the place is past it.
 pub(crate) fn overwrite_vec(held: &mut Vec<u8>, at: usize, bytes: &[u8]) -> Result<(), AllocError>
     ensures ok { OnOk result (held.new.items ≡ overwritten held.old.items (min at (length held.old.items)) bytes.now) }
     ensures err { OnErr result (held.new.items ≡ held.old.items) }

@@ -90,7 +90,7 @@ impl LineEnd {
     ghost use Rattle.std.specs.Prelude.{◌≡◌};
     ghost use Rattle.case_form.specs.Rules.{at};
 
-    /// The same, at the line of this number.
+    /// The end of a line, at the line of this number.
     pub fn at(self, line: u32) -> CaseFault
         ensures { result ≡ at line self }
     {

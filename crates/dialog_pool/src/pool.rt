@@ -1,10 +1,9 @@
 //! The pool: it opens a ring, puts the desk under a lock, and lets workers take works until they find none.
 
-ghost use Rattle.std.specs.Prelude.{◌≡◌, ◌+◌, ◌≤◌, ◌∷◌, [], true, ℕ, List, IfOk, IfErr, vec_len};
+ghost use Rattle.std.specs.Prelude.{◌≡◌, ◌+◌, ◌≤◌, ◌∷◌, [], true, IfOk, IfErr, vec_len};
 ghost use Rattle.std.specs.Arc.{arc_value};
 ghost use Rattle.crossbeam_queue.specs.Passes.{view, IsPassOf};
-ghost use Rattle.dialog_pool.specs.Tickets.{hand, popped, AreOnce};
-ghost use Rattle.dialog_pool.specs.declared.ring.Hand.{Hand};
+ghost use Rattle.dialog_pool.specs.Tickets.{hand};
 
 use crate::locked::Locked;
 use crate::opened::{Opened, gather, open};
@@ -26,8 +25,8 @@ use std::thread::Threads;
 /// until it has 16 works or the ring is empty. It acts on them all, in the order in which it popped them, in one hold of the
 /// lock; so a gate must not let a work wait until another one is done. Where it finds no ticket at first it locks the desk,
 /// takes up to 16 works and pushes them. A worker that finds no work at the desk pops once more, and ends. Each ticket that
-/// was pushed is on the ring or was popped, and that once, by the law that the ring keeps (`AreOnce`); `popped_once` says of
-/// the law that it lets no ticket be popped twice.
+/// was pushed is on the ring or was popped, and that once, by the law that the ring keeps (`AreOnce`): no list of hands that keeps it
+/// has popped a ticket twice (the lemma `popped_once`).
 ///
 /// The desk that is given back has the origin of the one that was handed in. `finished` is what the desk's count rose by,
 /// and in the body the sum of what the workers finished. `PoolShort` comes where memory was wanting, in a call of a worker
@@ -46,13 +45,12 @@ pub fn run_pool<R: Threads + Wait + Sync, D: Desk + Send, G: Gate + Sync>(
     ensures finished { IfOk result (λ end. D.finishes end.desk ≡ D.finishes desk + end.finished) }
     ensures short_origin { IfErr result (λ short. D.origin short.desk ≡ D.origin desk) }
     ensures short_finished { IfErr result (λ short. D.finishes desk ≤ D.finishes short.desk) }
-    ensures popped_once { (number : ℕ) (numbers : List ℕ) (hands : List Hand) → AreOnce numbers hands → popped number hands ≤ 1 }
 {
     let blank = Blank::new(workers as u64);
     run_named::<R, D, G, Brand>(rt, alloc, desk, workers, gate, blank)
 }
 
-/// The same, of a desk and a ledger that the parts of the pool carry in their types.
+/// Lets workers take the works of a desk, whose origin and ledger the parts of the pool carry in their types.
 fn run_named<
     R: Threads + Wait + Sync,
     D: Desk + Send,

@@ -25,7 +25,7 @@ use Rattle.outbound_build.specs.Committed.{committed_of}
 pub commit-few : (systems : ℕ) → CommitFew (model_meaning systems)
 commit-few systems = record {
   each = λ system records legal unit has.
-      let is : IsUnit unit = (commit-writable systems).each system records legal unit has in
+      let is : IsUnit unit = commit-writable systems system records legal unit has in
       record { few = is.outq.0; different = is.outq.1 };
 }
 

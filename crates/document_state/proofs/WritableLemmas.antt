@@ -22,7 +22,7 @@ use Rattle.application_rules.proofs.CommitLemmas.{commit-short}
 use Rattle.document_state.specs.OfLog.{applied_by}
 use Rattle.dist_model.specs.Model.{IsModel}
 use Rattle.trfc_protocol.specs.Legal.{IsLegal, may_follow}
-use Rattle.unit_landscape.specs.Kept.{CommitWritable}
+use Rattle.unit_core.specs.declared.ale_unit.AleUnit.{AleUnit}
 use Rattle.document_state.specs.Allowed.{has_room}
 use Rattle.document_state.specs.Meaning.{model_meaning}
 use Rattle.document_state.specs.LawfulLemmas.{allows-by, legal-keeps, legal-models, legal-of, legal-sendable}
@@ -68,23 +68,22 @@ module _ (systems : ℕ) where
     | inr none ↦ subst (AllByRecursion (λ (one : OutUnit). AllByRecursion (IsShort MOST_SEGMENTS) one.unit.docs)) (sym none) tt
   ]
 
-  -- what a legal log commits can be written in the logs of receivers
-  pub commit-writable : CommitWritable (model_meaning systems)
-  commit-writable = record {
-    each = λ system records legal unit is.
-        let units = units_of (models_of records) records in
-        let from = Contains-map_back (λ (one : OutUnit). one.unit) units unit is in
-        let sender = all-member (λ (one : OutUnit). one.unit.sender ≡ one.unit.tid.system) units from.0
-        (numbered-senders system 1 units (units-numbered (models_of records) system records (legal-of (model_meaning systems) system records legal))) from.1 in
-        let may = all-member (λ (one : OutUnit). IsSendable systems one.unit) units from.0 (legal-sendable systems system records legal) from.1 in
-        let short = all-member (λ (one : OutUnit). AllByRecursion (IsShort MOST_SEGMENTS) one.unit.docs) units from.0
-        (units-of-short system records legal) from.1 in
-        subst IsUnit from.2 (record {
-          sender = sender;
-          receiver = may.other;
-          function = may.function;
-          outq = (may.outq.few, may.outq.different);
-          inq = (may.inq.few, may.inq.different);
-          docs = ((may.docs_least, (let most = may.docs_most in omega (arith, most))), short);
-        });
-  }
+  -- each unit that a legal log commits can be written in the log of its receiver
+  pub commit-writable : (system : ℕ) (records : List Record) → IsLegal (model_meaning systems) system records → (unit : AleUnit)
+      → Contains ((model_meaning systems).committed system records) unit → IsUnit unit
+  commit-writable system records legal unit is =
+      let units = units_of (models_of records) records in
+      let from = Contains-map_back (λ (one : OutUnit). one.unit) units unit is in
+      let sender = all-member (λ (one : OutUnit). one.unit.sender ≡ one.unit.tid.system) units from.0
+      (numbered-senders system 1 units (units-numbered (models_of records) system records (legal-of (model_meaning systems) system records legal))) from.1 in
+      let may = all-member (λ (one : OutUnit). IsSendable systems one.unit) units from.0 (legal-sendable systems system records legal) from.1 in
+      let short = all-member (λ (one : OutUnit). AllByRecursion (IsShort MOST_SEGMENTS) one.unit.docs) units from.0
+      (units-of-short system records legal) from.1 in
+      subst IsUnit from.2 (record {
+        sender = sender;
+        receiver = may.other;
+        function = may.function;
+        outq = (may.outq.few, may.outq.different);
+        inq = (may.inq.few, may.inq.different);
+        docs = ((may.docs_least, (let most = may.docs_most in omega (arith, most))), short);
+      })

@@ -20,7 +20,7 @@ use Rattle.trfc_protocol.specs.Worlds.{claim_of, committed_unit, is_kind, log_of
 use Rattle.trfc_protocol.proofs.ClaimLemmas.{claim_of-Some}
 use Rattle.trfc_protocol.proofs.LegalLemmas.{is_free-parts}
 use Rattle.trfc_protocol.proofs.SafeLemmas.{hold, received-is}
-use Rattle.kept_world.specs.Kept.{KeptOf}
+use Rattle.unit_landscape.specs.KeptWorlds.{KeptOf}
 use Rattle.document_state.specs.declared.document_tables.DocumentTables.{DocumentTables}
 use Rattle.document_state.specs.declared.model_rules.ModelRules.{ModelRules}
 use Rattle.unit_landscape.specs.Appending.{HoldsIn}

@@ -23,7 +23,7 @@ use Rattle.trfc_protocol.specs.Legal.{is_free_inbound, is_free_outbound}
 use Rattle.trfc_protocol.specs.Offered.{is_stopped_inbound, is_stopped_outbound, may_move}
 use Rattle.trfc_protocol.specs.Worlds.{committed_by, committed_unit, is_kind, is_up, log_of}
 use Rattle.trfc_protocol.proofs.SafeLemmas.{received-is}
-use Rattle.kept_world.specs.Kept.{KeptOf}
+use Rattle.unit_landscape.specs.KeptWorlds.{KeptOf}
 use Rattle.unit_landscape.specs.Kept.{IsLandscape}
 use Rattle.unit_landscape.specs.declared.claims.InClaim.{InClaim}
 use Rattle.unit_landscape.specs.declared.claims.OutClaim.{OutClaim}
@@ -81,7 +81,7 @@ module _ {V : Type 0} (faults : V → ℕ → ℕ) (before after : KeptOf ModelR
   pub claims-same : (whole : Bool) → after ≡ before → Claims faults before after whole
   claims-same whole same = record {
     went = still faults is_work whole before after same;
-    only = subst (HaveOnlyClaimed before) (sym same) (record { world = refl; journals = refl; vols = refl; overruns = refl });
+    only = subst (HaveOnlyClaimed before) (sym same) (record { world = refl; journals = refl; vols = refl; causes = refl });
     runs = λ none. ap (λ (k : KeptOf ModelRules DocumentTables V). list_all (λ (h : Held). not (is_kind h.kind Direct)) k.world.claims) same ∙ none;
   }
 

@@ -10,8 +10,8 @@ use Rattle.trfc_protocol.specs.declared.held.Held.{Held}
 use Rattle.trfc_protocol.specs.declared.held.HeldKind.TheVariants.{Direct}
 use Rattle.trfc_protocol.specs.declared.world.World.{World}
 use Rattle.trfc_protocol.specs.Worlds.{is_kind}
-use Rattle.kept_world.specs.Kept.{KeptOf}
-use Rattle.kept_world.specs.Answers.{KeepsVolumes}
+use Rattle.unit_landscape.specs.KeptWorlds.{KeptOf}
+use Rattle.unit_landscape.specs.LogAnswers.{KeepsVolumes}
 use Rattle.document_state.specs.declared.document_tables.DocumentTables.{DocumentTables}
 use Rattle.document_state.specs.declared.model_rules.ModelRules.{ModelRules}
 use Rattle.unit_landscape.specs.Ends.{Happened}
@@ -48,7 +48,7 @@ module _ {V : Type 0} (faults : V → ℕ → ℕ) (before after : KeptOf ModelR
         (sym (ap (λ (w : World ModelRules). w.next_number) revoked-world));
     journals = keeps.journals;
     vols = keeps.vols;
-    overruns = keeps.overruns;
+    causes = keeps.causes;
   }
 
   pub revoked-went : Worked faults before after is_work true

@@ -14,7 +14,7 @@ use Rattle.inbound_post.specs.Prepared.{prepared}
 use Rattle.trfc_protocol.specs.declared.world.World.{World}
 use Rattle.trfc_protocol.specs.Offered.{is_stopped_inbound, is_stopped_outbound}
 use Rattle.trfc_protocol.specs.Worlds.{committed_unit, log_of}
-use Rattle.kept_world.specs.Kept.{KeptOf}
+use Rattle.unit_landscape.specs.KeptWorlds.{KeptOf}
 use Rattle.document_state.specs.declared.document_tables.DocumentTables.{DocumentTables}
 use Rattle.document_state.specs.declared.model_rules.ModelRules.{ModelRules}
 use Rattle.unit_works.specs.Events.{is_works_record}

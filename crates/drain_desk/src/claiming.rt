@@ -37,7 +37,7 @@ pub(crate) fn claim_any<V: Volumes>(
     Ok(found)
 }
 
-/// The same, by the numbers of the systems.
+/// Claims the first unit that is offered at the first system at which one is. None exactly where none is offered at any.
 fn claim_first<V: Volumes>(landscape: &mut Landscape<V>) -> Result<Option<Offer>, OutOfMemory>
     ensures claims { Claims V.faults landscape.old landscape.new (is_ok result) }
     ensures offer { IfOk result (λ found. IfSome found (IsOffer landscape.new.world)) }
@@ -46,6 +46,7 @@ fn claim_first<V: Volumes>(landscape: &mut Landscape<V>) -> Result<Option<Offer>
 {
     for number in 0..SystemNo::MAX {
         let Some(system) = SystemNo::of(number + 1) else {
+            // Each number from 1 to 16 is that of a system.
             unreachable!()
         };
         match claim_at(landscape, system)? {

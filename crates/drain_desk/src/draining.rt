@@ -111,7 +111,7 @@ fn close<V: Volumes>(alloc: Global, desk: DrainDesk<V>) -> Drained<V>
     close_going(alloc, landscape, wires, finished)
 }
 
-/// The same, where no memory was wanting.
+/// How a drain ends for which no memory was wanting.
 fn close_going<V: Volumes>(
     alloc: Global,
     landscape: Landscape<V>,

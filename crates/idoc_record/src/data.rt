@@ -89,6 +89,7 @@ fn segnam_of(text: &[u8]) -> Fixed<30>
     let name = &text[..Data::SEGNAM_LEN.min(text.len())];
     match Fixed::of(name) {
         Some(segnam) => segnam,
+        // The front of the line is no longer than the field.
         None => unreachable!(),
     }
 }

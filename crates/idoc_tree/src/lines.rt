@@ -69,6 +69,7 @@ fn line_of(alloc: Global, definitions: &Definitions, node: &Node) -> Result<Data
 {
     let definition = definitions.version(node.segment, node.version);
     match Fixed::of(definition.name.as_slice()) {
+        // The name of a segment type is no longer than its field.
         None => unreachable!(),
         Some(segnam) => Ok(Data {
             segnam,

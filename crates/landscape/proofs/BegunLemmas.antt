@@ -20,9 +20,9 @@ use Rattle.trfc_protocol.specs.RecordOf.{Writing}
 use Rattle.trfc_protocol.specs.Worlds.{log_of}
 use Rattle.trfc_protocol.proofs.EventLemmas.{Safe-step}
 use Rattle.trfc_protocol.proofs.ForCallers.{logs_grow}
-use Rattle.kept_world.specs.declared.append_end.AppendEnd.{AppendEnd}
-use Rattle.kept_world.specs.declared.append_end.AppendEnd.TheVariants.{Volume, Full, Before, After}
-use Rattle.kept_world.specs.Kept.{KeptOf}
+use Rattle.unit_landscape.specs.declared.append_end.AppendEnd.{AppendEnd}
+use Rattle.unit_landscape.specs.declared.append_end.AppendEnd.TheVariants.{Volume, Full, Before, After}
+use Rattle.unit_landscape.specs.KeptWorlds.{KeptOf}
 use Rattle.unit_landscape.specs.declared.answers.Arrival.{Arrival}
 use Rattle.unit_landscape.specs.declared.answers.Arrival.TheVariants as arrival
 use Rattle.unit_landscape.specs.declared.answers.Closed.{Closed}
@@ -64,9 +64,9 @@ meaning rules = model_meaning rules.systems
 pub is_lawful : (rules : ModelRules) → IsLawful (meaning rules)
 is_lawful rules = lawful rules.systems rules.least rules.most
 
-IsBegun-grows : (systems system : ℕ) (log longer : List Record) → IsPrefix log longer → IsBegun systems system log → IsBegun systems system longer
-IsBegun-grows systems system log longer more is = record {
-  text = is.text;
+IsBegun-grows : (text : List ℕ) (systems system : ℕ) (log longer : List Record) → IsPrefix log longer → IsBegun text systems system log
+    → IsBegun text systems system longer
+IsBegun-grows text systems system log longer more is = record {
   rest = is.rest ++ more.0;
   model = is.model;
   first = sym more.1 ∙ ap (λ l. l ++ more.0) is.first;
@@ -77,14 +77,17 @@ IsBegun-grows systems system log longer more is = record {
 module _ (world : World ModelRules) (is : IsLandscape meaning world) (begun : AreBegun world) where
   -- an event leaves each log begun
   pub begun-step : (after : World ModelRules) (e : Event) → after ≡ happens (meaning world.rules) world e → AreBegun after
-  begun-step after e same system least most =
-      let step = Safe-step meaning is_lawful world after e is.safe same in
-      let rules : after.rules ≡ world.rules = step.0 in
-      let grows : IsPrefix (log_of world system) (log_of after system) =
-      subst (λ (w : World ModelRules). IsPrefix (log_of world system) (log_of w system)) (sym same) (logs_grow (meaning world.rules) world e system) in
-      subst (λ (r : ModelRules). IsBegun r.systems system (log_of after system)) (sym rules)
-      (IsBegun-grows world.rules.systems system (log_of world system) (log_of after system) grows
-      (begun system least (subst (λ (r : ModelRules). system ≤ r.systems) rules most)))
+  begun-step after e same = record {
+    text = begun.text;
+    each = λ system least most.
+        let step = Safe-step meaning is_lawful world after e is.safe same in
+        let rules : after.rules ≡ world.rules = step.0 in
+        let grows : IsPrefix (log_of world system) (log_of after system) =
+        subst (λ (w : World ModelRules). IsPrefix (log_of world system) (log_of w system)) (sym same) (logs_grow (meaning world.rules) world e system) in
+        subst (λ (r : ModelRules). IsBegun begun.text r.systems system (log_of after system)) (sym rules)
+        (IsBegun-grows begun.text world.rules.systems system (log_of world system) (log_of after system) grows
+        (begun.each system least (subst (λ (r : ModelRules). system ≤ r.systems) rules most)));
+  }
 
   -- so does a world that is as it was
   pub begun-same : (after : World ModelRules) → after ≡ world → AreBegun after
@@ -255,16 +258,13 @@ module _ {V : Type 0} (faults : V → ℕ → ℕ) (before after : KeptOf ModelR
   begun-full : (unit : AleUnit) (size : ℕ) → IsFullLate (meaning before.world.rules) faults before after unit size → AreBegun after.world
   begun-full unit size did = elim did [
     | inl arrived ↦ begun-as_before arrived.1.same
-    | inr run ↦ subst AreBegun (sym run.1.given_up.world) begun
+    | inr run ↦ begun-as_before run.1.same
   ]
 
   begun-short_late : (unit : AleUnit) → IsShortLate (meaning before.world.rules) faults before after unit → AreBegun after.world
   begun-short_late unit did = elim did [
     | inl arrived ↦ begun-behind (event.Arrive unit.tid) _ arrived.1
-    | inr run ↦ elim run.1 [
-      | inl given_up ↦ subst AreBegun (sym given_up.world) begun
-      | inr behind ↦ begun-behind_run unit.tid before.world.next_number _ behind.world
-    ]
+    | inr run ↦ begun-behind_run unit.tid before.world.next_number _ run.1.world
   ]
 
   pub begun-late : (tid : TidOf) (result : Result Late LateEnd) → LateAs (meaning before.world.rules) faults before after tid result → AreBegun after.world

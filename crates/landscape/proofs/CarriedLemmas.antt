@@ -20,9 +20,9 @@ use Rattle.trfc_protocol.specs.declared.world.World.{World}
 use Rattle.trfc_protocol.specs.Legal.{is_commit, may_follow, may_follow_others}
 use Rattle.trfc_protocol.specs.RecordOf.{record_of, record_if}
 use Rattle.trfc_protocol.specs.Worlds.{is_up, log_of}
-use Rattle.kept_world.specs.declared.append_end.AppendEnd.{AppendEnd}
-use Rattle.kept_world.specs.declared.append_end.AppendEnd.TheVariants as end
-use Rattle.kept_world.specs.Kept.{KeptOf}
+use Rattle.unit_landscape.specs.declared.append_end.AppendEnd.{AppendEnd}
+use Rattle.unit_landscape.specs.declared.append_end.AppendEnd.TheVariants as end
+use Rattle.unit_landscape.specs.KeptWorlds.{KeptOf}
 use Rattle.unit_landscape.specs.Appending.{at}
 use Rattle.unit_landscape.specs.Ends.{AppendsAs, Stays}
 use Rattle.unit_landscape.specs.Kept.{IsLandscape}
@@ -173,7 +173,7 @@ module _ {V : Type 0} (faults : V → ℕ → ℕ) (before after : KeptOf ModelR
       → CarriedAs faults before after system event asked P (Err why)
   refused P kind asked refusal.OutOfMemory is same = inl
       (subst (λ (k : KeptOf ModelRules DocumentTables V). Stays (meaning before.world.rules) faults before k) (sym same)
-      (record { world = refl; tables = refl; journals = refl; no_faults = λ place. refl; overruns = refl }))
+      (record { world = refl; tables = refl; journals = refl; no_faults = λ place. refl; causes = refl }))
   refused P kind asked refusal.Volume is same = absurd is
   refused P kind asked (refusal.N10 size) is same = absurd is
   refused P kind asked why is same = (is, same)

@@ -27,15 +27,15 @@ use Rattle.trfc_protocol.specs.Worlds.{log_of, log_or_none, state_of, with_recor
 use Rattle.unit_journal.specs.declared.journals.SystemJournals.{SystemJournals}
 use Rattle.unit_journal.specs.Changes.{SameAt}
 use Rattle.unit_journal.specs.OnDisk.{count_of, moment_of, moments_at}
-use Rattle.kept_world.specs.Kept.{KeptOf}
-use Rattle.landscape_opening.specs.declared.beginning.BeginEnd.{BeginEnd}
-use Rattle.landscape_opening.specs.declared.beginning.BeginEnd.TheVariants as begin
-use Rattle.landscape_opening.specs.declared.opening.fault.NotOpened.{NotOpened}
-use Rattle.landscape_opening.specs.declared.opening.fault.OpenFault.{OpenFault}
-use Rattle.landscape_opening.specs.declared.opening.fault.OpenFault.TheVariants as open_fault
-use Rattle.landscape_opening.specs.Beginning.{BegunAs, HasBegun, HasFirst}
-use Rattle.landscape_opening.specs.Opening.{HasFailed, HoldsRecords, IsOpened, NotEmptyAs, OpenedAs, begun_logs, begun_world, vols_of}
-use Rattle.landscape_opening.proofs.BegunLemmas.{begun-empty, begun-next, begun-no_claims}
+use Rattle.unit_landscape.specs.KeptWorlds.{KeptOf}
+use Rattle.unit_landscape.specs.declared.beginning.BeginEnd.{BeginEnd}
+use Rattle.unit_landscape.specs.declared.beginning.BeginEnd.TheVariants as begin
+use Rattle.unit_landscape.specs.declared.opening.fault.NotOpened.{NotOpened}
+use Rattle.unit_landscape.specs.declared.opening.fault.OpenFault.{OpenFault}
+use Rattle.unit_landscape.specs.declared.opening.fault.OpenFault.TheVariants as open_fault
+use Rattle.unit_landscape.specs.Beginning.{BegunAs, HasBegun, HasFirst}
+use Rattle.unit_landscape.specs.Opening.{HasFailed, HoldsRecords, IsOpened, NotEmptyAs, OpenedAs, begun_logs, begun_world, vols_of}
+use Rattle.unit_landscape.proofs.BegunLemmas.{begun-empty, begun-next, begun-no_claims}
 use Rattle.document_state.specs.declared.document_tables.DocumentTables.{DocumentTables}
 use Rattle.document_state.specs.declared.model_rules.ModelRules.{ModelRules}
 use Rattle.landscape.specs.declared.open_end.OpenEnd.{OpenEnd}
@@ -71,13 +71,15 @@ log_begun_at n (suc k) text least most =
 -- a world in which all systems have begun with a text that says a model of them is begun
 pub AreBegun-all : (many : ℕ) (text : List ℕ) (model : Lists) (world : World ModelRules) → world ≡ begun_world world.rules (replicate many text) 0
     → world.rules.systems ≡ many → said text ≡ Some model → length model.systems ≡ many → AreBegun world
-AreBegun-all many text model world is all says its system least most = record {
+AreBegun-all many text model world is all says its = record {
   text = text;
-  rest = [];
-  model = model;
-  first = ap (λ (w : World ModelRules). log_of w system) is ∙ log_begun_at many system text least (subst (λ n. system ≤ n) all most);
-  says = says;
-  many = its ∙ sym all;
+  each = λ system least most. record {
+    rest = [];
+    model = model;
+    first = ap (λ (w : World ModelRules). log_of w system) is ∙ log_begun_at many system text least (subst (λ n. system ≤ n) all most);
+    says = says;
+    many = its ∙ sym all;
+  };
 }
 
 -- and it is the world whose logs are these

@@ -19,7 +19,7 @@ use Rattle.trfc_protocol.specs.Legal.{is_destination, may_follow, may_follow_oth
 use Rattle.trfc_protocol.specs.RecordOf.{Writing, may_operate, record_of}
 use Rattle.trfc_protocol.specs.Worlds.{is_up, log_of}
 use Rattle.trfc_protocol.proofs.NextLemmas.{record_if-each}
-use Rattle.kept_world.specs.Kept.{KeptOf}
+use Rattle.unit_landscape.specs.KeptWorlds.{KeptOf}
 use Rattle.unit_landscape.specs.declared.answers.OperatorEnd.{OperatorEnd}
 use Rattle.unit_landscape.specs.declared.answers.OperatorEnd.TheVariants as operator
 use Rattle.unit_landscape.specs.declared.answers.Late.{Late}

@@ -15,7 +15,7 @@ use Rattle.system_tables.specs.Tables.{TablesOf}
 use Rattle.tid_table.specs.Numbers.{tid_of}
 use Rattle.trfc_protocol.specs.declared.world.World.{World}
 use Rattle.trfc_protocol.specs.Worlds.{log_of}
-use Rattle.kept_world.specs.Kept.{KeptOf}
+use Rattle.unit_landscape.specs.KeptWorlds.{KeptOf}
 use Rattle.unit_landscape.specs.Tables.{AreTablesUp}
 use Rattle.document_state.specs.declared.document_tables.DocumentTables.{DocumentTables}
 use Rattle.document_state.specs.Tables.{AreTablesOf}

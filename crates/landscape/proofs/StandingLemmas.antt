@@ -9,9 +9,9 @@ use Rattle.trfc_protocol.specs.declared.world.World.{World}
 use Rattle.trfc_protocol.specs.Legal.{IsLegal}
 use Rattle.trfc_protocol.specs.Worlds.{is_up, log_of}
 use Rattle.system_tables.specs.Tables.{TablesOf}
-use Rattle.world_tables.specs.InStep.{AreInStepWith}
-use Rattle.world_tables.proofs.InStepLemmas.{stands_up}
-use Rattle.kept_world.proofs.AnswersLemmas.{tables-at, tables-there}
+use Rattle.unit_landscape.specs.InStep.{AreInStepWith}
+use Rattle.unit_landscape.proofs.InStepLemmas.{stands_up}
+use Rattle.unit_landscape.proofs.AnswersLemmas.{tables-at, tables-there}
 use Rattle.unit_landscape.specs.Kept.{IsLandscape}
 use Rattle.document_state.specs.declared.document_tables.DocumentTables.{DocumentTables}
 use Rattle.document_state.specs.Tables.{AreTablesOf}
@@ -29,11 +29,11 @@ pub record HasModel (systems system : ℕ) (log : List Record) : Type 0 where
   pub in_force : model_of log ≡ Some model
   pub many : length model.systems ≡ systems
 
-pub begun-model : (systems system : ℕ) (log : List Record) → IsLegal (model_meaning systems) system log → IsBegun systems system log → HasModel systems system
-    log
-begun-model systems system log legal begun =
+pub begun-model : (text : List ℕ) (systems system : ℕ) (log : List Record) → IsLegal (model_meaning systems) system log → IsBegun text systems system log
+    → HasModel systems system log
+begun-model text systems system log legal begun =
     let first = subst (IsLegal (model_meaning systems) system) begun.first legal in
-    let has = has-model systems system begun.text begun.rest begun.model first begun.says begun.many in
+    let has = has-model systems system text begun.rest begun.model first begun.says begun.many in
     subst (HasModel systems system) (sym begun.first) (record { model = has.0; in_force = has.1; many = has.2 })
 
 module _ (world : World ModelRules) (is : IsLandscape meaning world) (begun : AreBegun world) where
@@ -44,8 +44,8 @@ module _ (world : World ModelRules) (is : IsLandscape meaning world) (begun : Ar
   pub up-model : (system : ℕ) → is_up world system ≡ true → HasModel world.rules.systems system (log_of world system)
   up-model system up =
       let standing = stands_up world.systems system up in
-      begun-model world.rules.systems system (log_of world system) (legal-log system)
-      (begun system standing.least (let most = standing.most in let all = is.safe.systems in subst (λ n. system ≤ n) all most))
+      begun-model begun.text world.rules.systems system (log_of world system) (legal-log system)
+      (begun.each system standing.least (let most = standing.most in let all = is.safe.systems in subst (λ n. system ≤ n) all most))
 
   module _ (tables : List (TablesOf DocumentTables)) (are : AreInStepWith (λ one log. AreTablesOf log one) meaning world tables) where
     -- the tables of a system that is up stand for its log

@@ -11,8 +11,8 @@ use Rattle.unit_journal.specs.Log.{Stands, UnreadAt}
 use Rattle.unit_journal.specs.Settled.{IsBeforeOrAfter}
 use Rattle.trfc_protocol.specs.Start.{first_world, genesis_logs}
 use Rattle.unit_journal.specs.OnDisk.{moment_of, moments_at}
-use Rattle.kept_world.specs.Kept.{KeptOf}
-use Rattle.landscape_opening.specs.Opening.{HoldsRecords}
+use Rattle.unit_landscape.specs.KeptWorlds.{KeptOf}
+use Rattle.unit_landscape.specs.Opening.{HoldsRecords}
 use Rattle.document_state.specs.declared.document_tables.DocumentTables.{DocumentTables}
 use Rattle.document_state.specs.declared.model_rules.ModelRules.{ModelRules}
 use Rattle.landscape.specs.declared.open_end.OpenEnd.{OpenEnd}

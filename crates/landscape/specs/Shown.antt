@@ -3,7 +3,7 @@ use Rattle.std.specs.Prelude.{◌≡◌, ℕ, ◌&&◌, Bool, true, false, List,
 use Rattle.ale_base.specs.Tid.{TidOf, IsTid}
 use Rattle.document_state.specs.declared.document_tables.DocumentTables.{DocumentTables}
 use Rattle.document_state.specs.Tables.{AreTablesOf}
-use Rattle.kept_world.specs.Answers.{AreTablesNow}
+use Rattle.unit_landscape.specs.LogAnswers.{AreTablesNow}
 use Rattle.listings.specs.Listings.{ListedAs, system_of}
 use Rattle.document_state.specs.declared.model_rules.ModelRules.{ModelRules}
 use Rattle.document_state.specs.Meaning.{model_meaning}
@@ -17,7 +17,7 @@ use Rattle.trfc_protocol.specs.declared.held.HeldKind.TheVariants.{Out, In}
 use Rattle.trfc_protocol.specs.declared.world.World.{World}
 use Rattle.trfc_protocol.specs.Worlds.{is_up, log_of, committed_by}
 use Rattle.unit_core.specs.Queues.{is_listed}
-use Rattle.world_tables.specs.Claims.{claim_at}
+use Rattle.unit_landscape.specs.Claims.{claim_at}
 
 -- what is shown of a system that is up is what is listed by its log, the units that it commits, and the claims at it; 2 refuses one that is
 -- down

@@ -11,7 +11,7 @@ use Rattle.trfc_protocol.specs.declared.world.World.{World}
 use Rattle.trfc_protocol.specs.Worlds.{claim_of, committed_unit, log_of}
 use Rattle.status_log.specs.declared.refusal.Refusal.{Refusal}
 use Rattle.status_log.specs.declared.refusal.Refusal.TheVariants.{N2, N6, N7, N10, OutOfMemory}
-use Rattle.kept_world.specs.Kept.{KeptOf}
+use Rattle.unit_landscape.specs.KeptWorlds.{KeptOf}
 use Rattle.unit_landscape.specs.declared.answers.Late.{Late}
 use Rattle.unit_landscape.specs.declared.answers.LateEnd.{LateEnd}
 use Rattle.unit_landscape.specs.declared.answers.LateEnd.TheVariants as late

@@ -14,12 +14,11 @@ use crate::Gathered;
 use crate::wanted::Wanted;
 use ale_base::{Items, OutOfMemory, SystemNo, Tid, Way};
 use document_state::Made;
-use kept_world::AppendEnd;
 use outbound_build::Added;
 use status_log::{Refusal, Status};
 use std::alloc::Global;
 use unit_core::{AleUnit, Record};
-use unit_landscape::{Late, LateEnd, OperatorEnd};
+use unit_landscape::{AppendEnd, Late, LateEnd, OperatorEnd};
 
 /// How many masters, documents and units a record makes that commits documents.
 pub(crate) fn counts_of(wanted: &Wanted) -> Gathered

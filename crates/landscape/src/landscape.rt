@@ -21,7 +21,7 @@ use std::alloc::Global;
 use std::sync::Arc;
 use trfc_protocol::World;
 use unit_core::{AleUnit, Record};
-use unit_landscape::{OutClaim, UnitLandscape};
+use unit_landscape::{Cause, OutClaim, UnitLandscape};
 
 /// Systems that work by the models which their logs name: logs, claims and tables, over volumes.
 #[derive(Drop)]
@@ -31,7 +31,7 @@ pub struct Landscape<V: Volumes> {
 }
 
 impl<V: Volumes> std::marker::Model for Landscape<V> {
-    ghost use Rattle.kept_world.specs.Kept.{KeptOf};
+    ghost use Rattle.unit_landscape.specs.KeptWorlds.{KeptOf};
     ghost use Rattle.document_state.specs.declared.document_tables.DocumentTables.{DocumentTables};
     ghost use Rattle.document_state.specs.declared.model_rules.ModelRules.{ModelRules};
     ghost use Rattle.landscape.specs.Begun.{AreBegun};
@@ -51,7 +51,7 @@ impl<V: Volumes> Landscape<V> {
     ghost use Rattle.trfc_protocol.specs.Worlds.{log_of, is_up, committed_unit};
     ghost use Rattle.unit_journal.specs.OnDisk.{moments_at};
     ghost use Rattle.unit_journal.specs.Changes.{with_moment};
-    ghost use Rattle.kept_world.specs.Kept.{IsKept, overrun_at};
+    ghost use Rattle.unit_landscape.specs.KeptWorlds.{IsKept, cause_at};
     ghost use Rattle.unit_landscape.specs.Kept.{IsLandscape};
     ghost use Rattle.unit_landscape.specs.Calls.{stands_out};
     ghost use Rattle.unit_landscape.specs.Quiet.{IsQuiet};
@@ -92,12 +92,11 @@ impl<V: Volumes> Landscape<V> {
         self.units.is_up(system)
     }
 
-    /// How long the volume of a system would have been with the record that did not fit as the system last fell. None where it fell
-    /// otherwise, or has not fallen.
-    pub fn overrun(&self, system: SystemNo) -> Option<u64>
-        ensures { result ≡ overrun_at self.now system }
+    /// Why a system is down, if it is.
+    pub fn cause(&self, system: SystemNo) -> Cause
+        ensures { result ≡ cause_at self.now system }
     {
-        self.units.overrun(system)
+        self.units.cause(system)
     }
 
     /// The unit of this id, as its sender committed it, in constant time. None exactly where it committed none.
@@ -156,6 +155,7 @@ impl<V: Volumes> Landscape<V> {
         };
         match tables.model() {
             Some(model) => Ok(Some(Arc::try_clone(model)?)),
+            // Of a system that is up a model is in force.
             None => unreachable!(),
         }
     }

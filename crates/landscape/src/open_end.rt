@@ -3,8 +3,8 @@
 ghost use Rattle.std.specs.Prelude.{◌≡◌};
 ghost use Rattle.landscape.specs.steps.Opening.{why_begun, why_opened};
 
-use landscape_opening::{BeginEnd, OpenFault};
 use thiserror::Error;
+use unit_landscape::{BeginEnd, OpenFault};
 
 /// Why a landscape was not opened.
 #[derive(Clone, Copy, Debug, PartialEq, Eq, Error)]

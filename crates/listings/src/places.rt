@@ -40,7 +40,7 @@ pub(crate) fn places_under(
     }
 }
 
-/// The same, by the message type that MESTYP stands for.
+/// The places of the segments of a document, in order, by the message type of a model that MESTYP stands for.
 fn places_by(
     alloc: Global,
     model: &Model,
@@ -57,7 +57,7 @@ fn places_by(
     }
 }
 
-/// The same, by the IDoc type of a message type.
+/// The places of the segments of a document, in order, by the IDoc type of a message type.
 fn places_as(
     alloc: Global,
     model: &Lists,

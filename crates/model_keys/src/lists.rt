@@ -60,7 +60,7 @@ pub fn any_list_at<'t>(alloc: Global, key: &str, table: &'t Table) -> Result<&'t
     }
 }
 
-/// The same of a list whose key may be absent: no elements where it is. Wrong where there is something else.
+/// The elements of the list at a key that may be absent, however many they are: none where it is. Wrong where there is something else.
 #[tactic(auto, unfolding(crate::specs::Keys::any_list_or_none_at))]
 pub fn any_list_or_none_at<'t>(
     alloc: Global,
@@ -76,7 +76,7 @@ pub fn any_list_or_none_at<'t>(
     }
 }
 
-/// The same of a list of at most so many elements: Missing, Wrong where it is no list, Limit where it has more than the most.
+/// The elements of the list at a key, at most so many: Missing, Wrong where it is no list, Limit where it has more than the most.
 #[tactic(auto, unfolding(crate::specs::Keys::list_at))]
 pub fn list_at<'t>(
     alloc: Global,
@@ -91,7 +91,8 @@ pub fn list_at<'t>(
     list_of(alloc, most, key, value)
 }
 
-/// The same of a list that may not be empty: Wrong where it is.
+/// The elements of the list at a key, at most so many, of which there is one at least: Missing, Wrong where it is no list or empty, Limit
+/// where it has more than the most.
 #[tactic(auto, unfolding(crate::specs::Keys::some_list_at))]
 pub fn some_list_at<'t>(
     alloc: Global,
@@ -106,7 +107,8 @@ pub fn some_list_at<'t>(
     some_list_of(alloc, most, key, value)
 }
 
-/// The same of a list whose key may be absent: no elements where it is.
+/// The elements of the list at a key that may be absent, at most so many: none where it is. Wrong where there is something else, Limit
+/// where it has more than the most.
 #[tactic(auto, unfolding(crate::specs::Keys::list_or_none_at))]
 pub fn list_or_none_at<'t>(
     alloc: Global,

@@ -143,7 +143,7 @@ pub fn new_name_of(
     new_name(alloc, path, names, name.as_bytes())
 }
 
-/// The same of the name at a key: Missing, Wrong, Twice.
+/// The name at a key, of at most so many bytes and new among some: Missing, Wrong, Twice. It is one of them from then on.
 #[tactic(auto, unfolding(crate::specs::Keys::new_name_at))]
 pub fn new_name_at(
     alloc: Global,

@@ -114,7 +114,7 @@ fn place_in_text(
     }
 }
 
-/// The same by the place of the dot.
+/// The field that a text names whose dot is at this place.
 fn place_split(
     definitions: &Definitions,
     segments: &Names,

@@ -57,7 +57,7 @@ pub(crate) fn field_value_of(
     }
 }
 
-/// The same of the value at a key: Missing, Wrong.
+/// The text at a key that a field of this width takes, without blanks at its end: Missing, Wrong.
 #[tactic(auto, unfolding(crate::specs::Values::field_value_at))]
 pub(crate) fn field_value_at(
     alloc: Global,

@@ -37,7 +37,8 @@ pub(crate) fn system_at(
     Ok(number_at(place))
 }
 
-/// The same of a system that is not another one: Wrong where it is.
+/// The system whose name stands at a key, which is not this other one: Missing, Wrong also where it is that one, Unknown where none has the
+/// name.
 #[tactic(auto, unfolding(crate::specs::Ways::other_system_at))]
 pub(crate) fn other_system_at(
     alloc: Global,

@@ -14,7 +14,7 @@ pub(crate) struct Listed<T> {
     pub(crate) names: Names,
 }
 
-/// The same by reference.
+/// Things with the table of their names, by reference.
 pub(crate) fn as_named<T>(listed: &Listed<T>) -> Named<'_, T>
     ensures things { result.things.now ≡ listed.now.things }
     ensures names { result.names.now ≡ listed.now.names }

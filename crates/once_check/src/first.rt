@@ -79,6 +79,7 @@ fn system_at(at: usize) -> SystemNo
 {
     match SystemNo::of(at as u8 + 1) {
         Some(system) => system,
+        // There are 16 systems at most.
         None => unreachable!(),
     }
 }

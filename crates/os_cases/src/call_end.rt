@@ -32,7 +32,7 @@ pub(crate) enum StepsEnd {
 }
 
 impl CallEnd {
-    /// The same, at the line of this number.
+    /// The end of a call, at the line of this number.
     pub(crate) fn at(self, line: u32) -> StepsEnd {
         match self {
             CallEnd::Broken(broken) => StepsEnd::Malformed { line, broken },
@@ -42,7 +42,7 @@ impl CallEnd {
 }
 
 impl StepsEnd {
-    /// The same, as the form of cases tells it.
+    /// The end as the form of cases tells it.
     pub(crate) fn told(self) -> CaseFault {
         match self {
             StepsEnd::Malformed { line, broken } => CaseFault::Malformed {

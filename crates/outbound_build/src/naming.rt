@@ -51,6 +51,7 @@ pub(crate) fn text_names(
         match add_name(&mut names, rule.text.as_slice()) {
             Ok(()) => {}
             Err(BuildFault::OutOfMemory) => return Err(OutOfMemory),
+            // The rules of a model name queues.
             Err(BuildFault::Name(_)) => unreachable!(),
         }
     }

@@ -98,7 +98,7 @@ impl<'a> Logs<'a> {
         true
     }
 
-    /// The same of the outbound queues of one unit.
+    /// Whether of each outbound queue of one unit the units that a system took in are the first of those committed.
     fn keeps_outbound(&self, system: &SystemLog, unit: &AleUnit) -> bool {
         let sender = self.of(unit.sender);
         for name in &unit.outq {

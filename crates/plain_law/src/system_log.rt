@@ -107,7 +107,7 @@ impl<'a> SystemLog<'a> {
         true
     }
 
-    /// The same of the inbound queues of one unit.
+    /// Whether of each inbound queue of one unit the units that were executed are the first of those taken in.
     fn keeps_inbound(&self, unit: &AleUnit) -> bool {
         for name in &unit.inq {
             let queue = Queue::Inbound(*name);

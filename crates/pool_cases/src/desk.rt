@@ -114,6 +114,7 @@ impl Desk for FakeDesk {
             None => None,
         };
         let Some(system) = SystemNo::of(1) else {
+            // 1 is the number of a system.
             unreachable!()
         };
         self.taken += 1;

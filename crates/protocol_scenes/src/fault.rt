@@ -34,7 +34,7 @@ impl From<AllocError> for Fault {
 }
 
 impl Fault {
-    /// The same as the form of case files tells it.
+    /// The fault as the form of case files tells it.
     pub(crate) fn end(self) -> LineEnd {
         LineEnd::Broken(Rule(match self {
             Fault::NoItem => "there is no such item",

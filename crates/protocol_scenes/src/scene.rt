@@ -71,7 +71,7 @@ impl Scene {
         }
     }
 
-    /// The same of a unit that was committed.
+    /// Puts where a unit is offered that was committed, and how its arrival would be answered.
     fn put_committed(
         &self,
         alloc: Global,

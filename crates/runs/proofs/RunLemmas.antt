@@ -260,7 +260,7 @@ module _ {V : Type 0} (faults : V → ℕ → ℕ) (inputs : Inputs) (commands :
 
       -- a system went down in the command
       Run-found : (answered : Answered) → DoneWith answered → IsPut mid_put new put_mid put_new (shown command answered after)
-          → KeepsFree mid after command.form → (faulted down : Option ℕ) → first_faulted after.landscape.world ≡ faulted →
+          → KeepsFree mid after command.form → (faulted down : Option ℕ) → first_faulted after ≡ faulted →
           first_down after.landscape.world ≡ down
           → (its : RunEnd) → down_end_of (length_at after) faulted down ≡ Some its → Ended its
       unfolding ran
@@ -327,7 +327,7 @@ module _ {V : Type 0} (faults : V → ℕ → ℕ) (inputs : Inputs) (commands :
 
       pub Run-behind : (how : TurnEnd) → IsTurn faults inputs how moment command mid after mid_put new put_mid put_new → (its : RunEnd) → end_behind after how
           ≡ Some its → Ended its
-      Run-behind turn.Done did its same = Run-found did.0 did.1 did.2 did.3 (first_faulted after.landscape.world) (first_down after.landscape.world) refl refl
+      Run-behind turn.Done did its same = Run-found did.0 did.1 did.2 did.3 (first_faulted after) (first_down after.landscape.world) refl refl
           its
           same
       Run-behind turn.WriteFailed did its same = subst Ended (ap (λ (o : Option RunEnd). unwrap_or o its) same) (Run-unwritten did.0 did.1 did.2 did.3)
@@ -341,6 +341,6 @@ module _ {V : Type 0} (faults : V → ℕ → ℕ) (inputs : Inputs) (commands :
       pub SoFar-next : (how : TurnEnd) → IsTurn faults inputs how moment command mid after mid_put new put_mid put_new → end_behind after how ≡ None
           → SoFar faults inputs commands (i + 1) before after old new put put_new told given given_new
       SoFar-next turn.Done did same = SoFar-done did.0 did.1 did.2 did.3
-          (none_down (first_faulted after.landscape.world) (first_down after.landscape.world) same)
+          (none_down (first_faulted after) (first_down after.landscape.world) same)
       SoFar-next turn.WriteFailed did same = absurd (subst (λ (o : Option RunEnd). MatchOption o ⊥ (λ some. ⊤)) same tt)
       SoFar-next turn.OutOfMemory did same = absurd (subst (λ (o : Option RunEnd). MatchOption o ⊥ (λ some. ⊤)) same tt)

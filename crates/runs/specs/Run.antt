@@ -30,9 +30,9 @@ module _ {V : Type 0} (faults : V → ℕ → ℕ) (inputs : Inputs) where
   -- why a run ends so behind these turns, with these commands left; the moment of a command in which memory ran out is kept, and else none is
   abbrev pub Ends : RunEnd → List Command → List ℕ → Stage V → List (Turn V) → Stage V → Type 0
   Ends Whole left halted before turns after = (halted ≡ []) × (left ≡ []) × (after ≡ last_stage before turns) × (first_down after.landscape.world ≡ None)
-  Ends (DownByFault system) left halted before turns after = (halted ≡ []) × (after ≡ last_stage before turns) × (first_faulted after.landscape.world
+  Ends (DownByFault system) left halted before turns after = (halted ≡ []) × (after ≡ last_stage before turns) × (first_faulted after
       ≡ Some system)
-  Ends (DownFull system size) left halted before turns after = (halted ≡ []) × (after ≡ last_stage before turns) × (first_faulted after.landscape.world ≡ None)
+  Ends (DownFull system size) left halted before turns after = (halted ≡ []) × (after ≡ last_stage before turns) × (first_faulted after ≡ None)
       × (first_down after.landscape.world ≡ Some system) × (size ≡ length_at after system)
   Ends WriteFailed left halted before turns after = (halted ≡ []) × (after ≡ last_stage before turns)
   Ends OutOfMemory left halted before turns after = (moment : ℕ) × (halted ≡ moment ∷ []) × IsHalted left moment (last_stage before turns) after

@@ -1,7 +1,8 @@
 -- The turns of a run: each command with the moment at which it began, how it was answered, and what it left. This project's own.
-use Rattle.std.specs.Prelude.{ℕ, suc, ◌&&◌, not, List, [], ◌∷◌, ◌++◌, Option, Some, None, is_some, if◌then◌else◌}
-use Rattle.std.specs.Option.{unwrap_or}
-use Rattle.kept_world.specs.Kept.{overrun_at}
+use Rattle.std.specs.Prelude.{ℕ, suc, Bool, true, false, List, [], ◌∷◌, ◌++◌, Option, Some, None, if◌then◌else◌}
+use Rattle.unit_landscape.specs.declared.cause.Cause.{Cause}
+use Rattle.unit_landscape.specs.declared.cause.Cause.TheVariants.{Faulted, Overran}
+use Rattle.unit_landscape.specs.KeptWorlds.{cause_at}
 use Rattle.unit_journal.specs.Changes.{with_moment}
 use Rattle.script_text.specs.declared.command.Command.{Command}
 use Rattle.trfc_protocol.specs.declared.world.SystemState.{SystemState}
@@ -40,22 +41,32 @@ abbrev pub last_stage : {V : Type 0} → Stage V → List (Turn V) → Stage V
 last_stage before [] = before
 last_stage before (turn ∷ turns) = last_stage turn.after turns
 
+-- whether a system is down since its volume failed
+abbrev pub is_faulted : Cause → Bool
+is_faulted Faulted = true
+is_faulted _ = false
+
+-- how long a volume would have been with a record that did not fit; 0 for each other cause
+abbrev pub size_of : Cause → ℕ
+size_of (Overran size) = size
+size_of _ = 0
+
 -- the first of these systems that is down, of which the first has this number; none where all are up
 abbrev pub down_from : ℕ → List SystemState → Option ℕ
 down_from number [] = None
 down_from number (state ∷ states) = if state.up then down_from (suc number) states else Some number
 
--- the first of these systems that fell as it was writing a record, which it may find at its opening: its volume failed
-abbrev pub faulted_from : ℕ → List SystemState → Option ℕ
-faulted_from number [] = None
-faulted_from number (state ∷ states) = if not state.up && is_some state.rest then Some number else faulted_from (suc number) states
+-- the first of these systems, of which the first has this number, whose volume failed
+abbrev pub faulted_from : (ℕ → Cause) → ℕ → List SystemState → Option ℕ
+faulted_from cause number [] = None
+faulted_from cause number (state ∷ states) = if is_faulted (cause number) then Some number else faulted_from cause (suc number) states
 
 abbrev pub first_down : World ModelRules → Option ℕ
 first_down world = down_from 1 world.systems
 
-abbrev pub first_faulted : World ModelRules → Option ℕ
-first_faulted world = faulted_from 1 world.systems
+abbrev pub first_faulted : {V : Type 0} → Stage V → Option ℕ
+first_faulted stage = faulted_from (cause_at stage.landscape) 1 (stage.landscape).world.systems
 
--- how long the volume of a system would have been with the record that did not fit as it last fell; 0 where it fell otherwise
+-- how long the volume of a system would have been with the record by which it fell; 0 where it fell otherwise
 abbrev pub length_at : {V : Type 0} → Stage V → ℕ → ℕ
-length_at stage system = unwrap_or (overrun_at stage.landscape system) 0
+length_at stage system = size_of (cause_at stage.landscape system)

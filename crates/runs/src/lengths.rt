@@ -1,12 +1,16 @@
 //! What is read of the systems behind each command: how long their logs are, and which of them is down.
 
-ghost use Rattle.std.specs.Prelude.{◌≡◌, ◌≤◌, ◌<◌, Some, suc, map, length, IfOk};
-ghost use Rattle.runs.specs.Turns.{down_from, faulted_from};
+ghost use Rattle.std.specs.Prelude.{◌≡◌, ◌≤◌, ◌<◌, suc, map, length, IfOk};
+ghost use Rattle.runs.specs.Turns.{down_from, faulted_from, is_faulted, size_of};
+ghost use Rattle.unit_landscape.specs.KeptWorlds.{cause_at};
 ghost use Rattle.trfc_protocol.specs.declared.world.SystemState.{SystemState as StateOf};
 
 use ale_base::{OutOfMemory, SystemNo};
+use ale_volumes::Volumes;
+use landscape::Landscape;
 use std::alloc::Global;
 use trfc_protocol::SystemState;
+use unit_landscape::Cause;
 
 /// How many records the log of each system has, in order of systems.
 pub(crate) fn log_lengths(alloc: Global, systems: &[SystemState]) -> Result<Vec<u64>, OutOfMemory>
@@ -26,32 +30,54 @@ pub(crate) fn first_down(systems: &[SystemState]) -> Option<SystemNo>
 {
     for (place, state) in systems.iter().enumerate() {
         if !state.up {
-            return numbered(place);
+            return Some(numbered(place));
         }
     }
     None
 }
 
-/// The number of the first system that fell as it was writing a record. None exactly where there is none.
-pub(crate) fn first_faulted(systems: &[SystemState]) -> Option<SystemNo>
+/// The number of the first of these systems of a landscape that is down since its volume failed. None exactly where there is none.
+pub(crate) fn first_faulted<V: Volumes>(
+    landscape: &Landscape<V>,
+    systems: &[SystemState],
+) -> Option<SystemNo>
     requires { length systems.now ≤ 16 }
-    ensures { result ≡ faulted_from 1 systems.now }
+    ensures { result ≡ faulted_from (cause_at landscape.now) 1 systems.now }
 {
-    for (place, state) in systems.iter().enumerate() {
-        if !state.up && state.rest.is_some() {
-            return numbered(place);
+    for (place, _state) in systems.iter().enumerate() {
+        let system = numbered(place);
+        if is_faulted(landscape.cause(system)) {
+            return Some(system);
         }
     }
     None
 }
 
-/// The number of the system at a place.
-fn numbered(place: usize) -> Option<SystemNo>
+/// Whether a system of this cause is down since its volume failed.
+fn is_faulted(cause: Cause) -> bool
+    ensures { result ≡ is_faulted cause }
+{
+    matches!(cause, Cause::Faulted)
+}
+
+/// How long a volume would have been with a record that did not fit; 0 for each other cause.
+pub(crate) fn size_of(cause: Cause) -> u64
+    ensures { result ≡ size_of cause }
+{
+    match cause {
+        Cause::Overran(size) => size,
+        _ => 0,
+    }
+}
+
+/// The system at a place.
+fn numbered(place: usize) -> SystemNo
     requires { place < 16 }
-    ensures { result ≡ Some (suc place) }
+    ensures { result ≡ suc place }
 {
     match SystemNo::of(place as u8 + 1) {
-        Some(system) => Some(system),
+        Some(system) => system,
+        // There are 16 systems at most.
         None => unreachable!(),
     }
 }

@@ -7,7 +7,7 @@ ghost use Rattle.runs.specs.Text.{IsPrintable, shown};
 ghost use Rattle.runs.specs.Put.{IsPutAt};
 ghost use Rattle.runs.specs.steps.Put.{GivesOne, IsReported, IsTurn, down_end_of, end_behind};
 
-use crate::lengths::{first_down, first_faulted};
+use crate::lengths::{first_down, first_faulted, size_of};
 use crate::performing::{Performed, perform};
 use crate::report::shown;
 use crate::{Answered, Crew, Inputs, RunEnd, Stage};
@@ -154,13 +154,16 @@ fn behind<V: Volumes>(stage: &Stage<V>, end: TurnEnd) -> Option<RunEnd>
 
 /// The ending where a system is down. None exactly where all are up.
 fn down_end<V: Volumes>(stage: &Stage<V>) -> Option<RunEnd>
-    ensures { result ≡ down_end_of (length_at stage.now) (first_faulted stage.now.landscape.world) (first_down stage.now.landscape.world) }
+    ensures { result ≡ down_end_of (length_at stage.now) (first_faulted stage.now) (first_down stage.now.landscape.world) }
 {
     let systems = stage.landscape.world().systems.as_slice();
-    match (first_faulted(systems), first_down(systems)) {
+    match (
+        first_faulted(&stage.landscape, systems),
+        first_down(systems),
+    ) {
         (Some(system), _) => Some(RunEnd::DownByFault(system)),
         (None, Some(system)) => {
-            let size = stage.landscape.overrun(system).unwrap_or(0);
+            let size = size_of(stage.landscape.cause(system));
             Some(RunEnd::DownFull(system, size))
         }
         (None, None) => None,

@@ -17,6 +17,7 @@ pub(crate) fn finish(queues: &mut Queues, tid: Tid, claim: Option<u64>)
 {
     match claim {
         Some(number) => finish_from::<Brand>(queues, Claim { number, tid }, Blank::new(1)),
+        // The record ends a claim, and its number is handed in.
         None => unreachable!(),
     }
 }
@@ -28,6 +29,7 @@ pub(crate) fn mark(queues: &mut Queues, tid: Tid, cause: Mark, claim: Option<u64
 {
     match claim {
         Some(number) => queues.mark(Claim { number, tid }, cause),
+        // The record ends a claim, and its number is handed in.
         None => unreachable!(),
     }
 }

@@ -28,7 +28,7 @@ impl<R: Rules> World<R> {
         self.is_kept(alloc, system, next)
     }
 
-    /// The same, by the kind of the record.
+    /// Whether a record may be the one that a system was writing as it fell, by the kind of the record.
     fn is_kept(&self, alloc: Global, system: SystemNo, next: &Record) -> Result<bool, OutOfMemory>
         requires { IsSafe R.meaning self.now }
         ensures { IfOk result (λ may. may ≡ may_keep (R.meaning self.now.rules) self.now system next.now) }

@@ -48,7 +48,7 @@ impl<R: Rules> World<R> {
         World::of_logs(alloc, rules, logs)
     }
 
-    /// The same with an empty text.
+    /// The world in which the log of each system is its Genesis, with an empty text.
     pub fn start(alloc: Global, rules: R) -> Result<World<R>, OutOfMemory>
         ensures world { IfOk result (λ world. world ≡ first_world rules (genesis_logs [] (R.meaning rules).systems)) }
         ensures safe { IfOk result (IsSafe R.meaning) }

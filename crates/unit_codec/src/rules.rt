@@ -73,6 +73,7 @@ pub(crate) fn fixed_of(text: &[u8]) -> Fixed<30>
 {
     match Fixed::of(text) {
         Some(fixed) => fixed,
+        // The text is no longer than its field.
         None => unreachable!(),
     }
 }

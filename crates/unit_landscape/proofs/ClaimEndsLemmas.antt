@@ -31,7 +31,7 @@ use Rattle.trfc_protocol.specs.RecordOf.{record_of_answered, record_of_reply, re
 use Rattle.trfc_protocol.specs.Safe.{Safe}
 use Rattle.trfc_protocol.proofs.SafeLemmas.{committed_unit-is}
 use Rattle.trfc_protocol.proofs.NextLemmas.{record_if-each}
-use Rattle.world_tables.specs.Joining.{Ends, EndsClaim}
+use Rattle.unit_landscape.specs.Joining.{Ends, EndsClaim}
 use Rattle.unit_landscape.specs.Writes.{claim_in}
 
 -- the records that end the claim of their unit

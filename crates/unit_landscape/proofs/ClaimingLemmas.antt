@@ -17,10 +17,10 @@ use Rattle.trfc_protocol.specs.Worlds.{log_of, is_up, committed_by, committed_un
 use Rattle.trfc_protocol.specs.Offered.{is_offered_outbound}
 use Rattle.trfc_protocol.specs.Safe.{Safe}
 use Rattle.trfc_protocol.proofs.SafeLemmas.{committed_unit-is}
-use Rattle.world_tables.specs.declared.claim_end.ClaimEnd.{ClaimEnd}
-use Rattle.world_tables.specs.declared.claim_end.ClaimEnd.TheVariants.{NotOffered}
-use Rattle.kept_world.specs.Kept.{KeptOf}
-use Rattle.kept_world.specs.Answers.{may_go_at, first_to_go, IsAnsweredBy, KeepsVolumes}
+use Rattle.unit_landscape.specs.declared.claim_end.ClaimEnd.{ClaimEnd}
+use Rattle.unit_landscape.specs.declared.claim_end.ClaimEnd.TheVariants.{NotOffered}
+use Rattle.unit_landscape.specs.KeptWorlds.{KeptOf}
+use Rattle.unit_landscape.specs.LogAnswers.{may_go_at, first_to_go, IsAnsweredBy, KeepsVolumes}
 use Rattle.unit_landscape.specs.Kept.{IsLandscape}
 use Rattle.unit_landscape.specs.Claiming.{IsFirstOut, IsNextOut, IsFirstIn, IsNextIn}
 use Rattle.unit_landscape.specs.declared.claims.InClaim.{InClaim}
@@ -113,7 +113,7 @@ pub claimed_in : {R A V : Type 0} (rules : Meaning) (lawful : IsLawful rules) (f
     → claim.opening ≡ (before.world).falls → KeepsVolumes before after → ClaimedIn rules faults before after system (Some claim)
 claimed_in rules lawful faults before now safe system claim first made here since keeps = (
   happened-none rules faults before now (event.Run claim.tid) refl
-      (made.1 ∙ sym (run-after rules lawful before.world safe system claim.tid first.offered)) keeps,
+      (made.1 ∙ sym (run-after rules lawful before.world safe system claim.tid first.offered)) keeps refl,
   first.offered,
   first.first,
   here,

@@ -22,7 +22,7 @@ use Rattle.trfc_protocol.specs.RecordOf.{record_if, record_of_confirmation, reco
 use Rattle.trfc_protocol.specs.Safe.{Safe}
 use Rattle.trfc_protocol.proofs.SafeLemmas.{numbered}
 use Rattle.trfc_protocol.proofs.ForCallers.{done_unit, forgotten_unit}
-use Rattle.kept_world.specs.Kept.{KeptOf}
+use Rattle.unit_landscape.specs.KeptWorlds.{KeptOf}
 use Rattle.unit_landscape.specs.declared.appending.Appended.{Appended}
 use Rattle.unit_landscape.specs.declared.appending.Appended.TheVariants.{Written, Fallen}
 use Rattle.unit_landscape.specs.Writes.{Appends}

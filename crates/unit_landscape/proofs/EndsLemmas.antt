@@ -1,6 +1,6 @@
 -- How a record of an event ends, as the event says.
-use Rattle.std.specs.Prelude.{slice_get, Result, Ok, Err, IsErrOf}
-use Rattle.std.proofs.Common.{◌≡◌, ◌≤◌, ℕ, ◌-◌, true, cond, Option, Some, None, List, inl, inr, ◌⊎◌, refl, sym, ap, subst, ◌∙◌}
+use Rattle.std.specs.Prelude.{Result, Ok, Err, IsErrOf}
+use Rattle.std.proofs.Common.{◌≡◌, ◌≤◌, ℕ, ◌-◌, true, cond, Option, Some, None, List, inl, inr, ◌⊎◌, refl, sym, ap, subst, ◌∙◌, arith}
 use Rattle.std.proofs.lemmas.Bool.{cases_eq}
 use Rattle.std.proofs.lemmas.Option.{same_Some}
 use Rattle.ale_base.specs.declared.out_of_memory.OutOfMemory.{OutOfMemory}
@@ -20,14 +20,16 @@ use Rattle.trfc_protocol.proofs.EventLemmas.{Safe-step}
 use Rattle.trfc_protocol.proofs.KeepingLemmas.{kept-is}
 use Rattle.unit_codec.specs.Entries.{entry_with}
 use Rattle.unit_journal.specs.OnDisk.{entries_at, entries_of, length_with, moments_at, next_moment}
-use Rattle.world_tables.specs.Joining.{without_named, after_record}
-use Rattle.kept_world.specs.declared.append_end.AppendEnd.{AppendEnd}
-use Rattle.kept_world.specs.declared.append_end.AppendEnd.TheVariants.{Volume, Full, Before, After}
-use Rattle.kept_world.specs.Kept.{KeptOf, IsKept}
-use Rattle.kept_world.specs.Overruns.{AreOverrunsOf, overrun_in, with_overrun}
-use Rattle.kept_world.proofs.OverrunsLemmas.{overruns-told}
-use Rattle.kept_world.specs.Appending.{AppendedAs, JournalsAs, UnchangedAs, FullAs}
-use Rattle.kept_world.proofs.OnVolumesLemmas.{up-written}
+use Rattle.unit_landscape.specs.Joining.{without_named, after_record}
+use Rattle.unit_landscape.specs.declared.append_end.AppendEnd.{AppendEnd}
+use Rattle.unit_landscape.specs.declared.append_end.AppendEnd.TheVariants.{Volume, Full, Before, After}
+use Rattle.unit_landscape.specs.KeptWorlds.{KeptOf, IsKept}
+use Rattle.unit_landscape.specs.declared.cause.Cause.TheVariants.{Faulted, Overran}
+use Rattle.unit_landscape.specs.Causes.{AreCausesOf, cause_in, with_cause, told_by}
+use Rattle.unit_landscape.proofs.CausesLemmas.{cause-told, causes-appending}
+use Rattle.unit_landscape.proofs.InStepLemmas.{stands_up}
+use Rattle.unit_landscape.specs.AppendEnds.{AppendedAs, JournalsAs, UnchangedAs, FullAs}
+use Rattle.unit_landscape.proofs.OnVolumesLemmas.{up-written}
 use Rattle.unit_landscape.specs.Kept.{CommitWritable, IsLandscape}
 use Rattle.unit_landscape.specs.Writes.{Appends, IsTooLong, MomentsAs}
 use Rattle.unit_landscape.specs.Ends.{Happened, Overflowed, IsFull, Stays, FellBehind, FellInstead, IsShort, AppendsAs}
@@ -119,16 +121,23 @@ module _ {R A V : Type 0} (meaning : R → Meaning) (lawful : (r : R) → IsLawf
         (without-up (with_record before.world system next) system claim ∙ up-written before.world system next up)
         ∙ fall-without (with_record before.world system next) system claim)
 
+    -- its number is one of the sixteen
+    number_most : IsKept meaning stands told volume before → system ≤ 16
+    number_most kept =
+        let few = kept.on_volumes.few in
+        let most = (stands_up before.world.systems system up).most in
+        omega arith
+
     its : (it : Writing) → record_of rules before.world e ≡ Some it → at system next ≡ it
     its it same = same_Some (at system next) it (sym does.writes ∙ same)
 
     -- how the appending of its record ends
     pub ends-as : {T : Type 0} → (result : Result T AppendEnd) → IsKept meaning stands told volume before
         → AppendedAs before.world now.world system next claim result → JournalsAs (system - 1) before.journals now.journals result
-        → UnchangedAs before now result → now.overruns ≡ before.overruns → FullAs (system - 1) before.journals (log_of before.world system) next result
+        → UnchangedAs before now result → now.causes ≡ told_by before.causes system result → FullAs (system - 1) before.journals (log_of before.world system) next result
         → CountsFault (IsErrOf result Volume) (faults before.vols) (faults now.vols) (system - 1)
         → AppendsAs rules faults before now e (at system next) result
-    ends-as {T} (Ok done) kept did journals unchanged overruns full counts = record {
+    ends-as {T} (Ok done) kept did journals unchanged causes full counts = record {
       world = did ∙ sym behind;
       moments = subst (MomentsAs before.journals now.journals) (sym does.writes) journals;
       fits = λ it same size long.
@@ -136,32 +145,32 @@ module _ {R A V : Type 0} (meaning : R → Meaning) (lawful : (r : R) → IsLawf
           let told_full : Ok done ≡ Err (Full size) = (full size (λ none. cc)).1 (it_is.long, it_is.over) in
           cc;
       no_faults = counts-none _ (faults before.vols) (faults now.vols) (system - 1) (λ failed. cc) counts;
-      overruns = overruns;
+      causes = causes ∙ sym (causes-appending rules before.world e (at system next) before.causes does.writes);
     }
-    ends-as (Err Volume) kept did journals unchanged overruns full counts = record {
+    ends-as (Err Volume) kept did journals unchanged causes full counts = record {
       world = did ∙ sym falls-writing;
       journals = journals;
       fits = λ size long. let told_full : Err Volume ≡ Err (Full size) = (full size (λ none. cc)).1 (long.long, long.over) in cc;
       rose = counts.rose refl;
       others = counts.others;
-      overruns = overruns;
-      untold = ap (λ all. overrun_in all system) overruns ∙ kept.overruns.up system up;
+      causes = causes;
+      told = ap (λ all. cause_in all system) causes ∙ cause-told before.world.systems system Faulted before.causes kept.causes (number_most kept);
     }
-    ends-as (Err (Full size)) kept did journals unchanged overruns full counts =
+    ends-as (Err (Full size)) kept did journals unchanged causes full counts =
         let size_is = (full size (λ none. cc)).0 refl in record { same = unchanged; long = record { long = size_is.0; over = size_is.1 } }
-    ends-as {T} (Err Before) kept did journals unchanged overruns full counts = record {
+    ends-as {T} (Err Before) kept did journals unchanged causes full counts = record {
       world = did;
       tables = unchanged.1;
       journals = journals;
       no_faults = counts-none _ (faults before.vols) (faults now.vols) (system - 1) (λ failed. cc) counts;
-      overruns = overruns;
+      causes = causes;
     }
-    ends-as {T} (Err After) kept did journals unchanged overruns full counts = record {
+    ends-as {T} (Err After) kept did journals unchanged causes full counts = record {
       world = did ∙ falls-behind;
       moments = journals;
       fits = λ size long. let told_full : Err After ≡ Err (Full size) = (full size (λ none. cc)).1 (long.long, long.over) in cc;
       no_faults = counts-none _ (faults before.vols) (faults now.vols) (system - 1) (λ failed. cc) counts;
-      overruns = overruns;
+      causes = causes;
     }
 
     -- a landscape it is afterwards
@@ -187,20 +196,20 @@ too_long-same before then it size logs moments moment long = record {
   over = long.over;
 }
 
--- a record that did not fit, behind which its system fell, with the length that was told
+-- a record that did not fit, by which its system fell
 pub overflowed : {R A V : Type 0} (rules : Meaning) (faults : V → ℕ → ℕ) (before mid after : KeptOf R A V) (system : ℕ) (next : Record) (size : ℕ)
     → is_up before.world system ≡ true → IsFull rules faults before mid (at system next) size → after.world ≡ with_fall mid.world system None
-    → after.journals ≡ mid.journals → after.vols ≡ mid.vols → after.overruns ≡ with_overrun mid.overruns system (Some size)
-    → AreOverrunsOf mid.world.systems mid.overruns → system ≤ 16
+    → after.journals ≡ mid.journals → after.vols ≡ mid.vols → after.causes ≡ with_cause mid.causes system (Overran size)
+    → AreCausesOf mid.world.systems mid.causes → system ≤ 16
     → Overflowed rules faults before after (at system next)
-overflowed {R} {A} {V} rules faults before mid then system next size up full fell journals vols overruns are most = record {
+overflowed {R} {A} {V} rules faults before mid then system next size up full fell journals vols causes are most = record {
   world = fell ∙ ap (λ (k : KeptOf R A V). with_fall k.world system None) full.same ∙ sym (falls-up rules before.world system up);
   journals = journals ∙ ap (λ (k : KeptOf R A V). k.journals) full.same;
   vols = vols ∙ ap (λ (k : KeptOf R A V). k.vols) full.same;
   size = size;
   long = full.long;
-  overruns = overruns ∙ ap (λ (k : KeptOf R A V). with_overrun k.overruns system (Some size)) full.same;
-  told = ap (λ all. overrun_in all system) overruns ∙ overruns-told mid.world.systems system (Some size) mid.overruns are most;
+  causes = causes ∙ ap (λ (k : KeptOf R A V). with_cause k.causes system (Overran size)) full.same;
+  told = ap (λ all. cause_in all system) causes ∙ cause-told mid.world.systems system (Overran size) mid.causes are most;
 }
 
 -- a record of which it was said that it does not fit

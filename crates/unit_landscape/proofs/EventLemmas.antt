@@ -32,7 +32,7 @@ use Rattle.trfc_protocol.proofs.WorldLemmas.{is_up-known}
 use Rattle.trfc_protocol.proofs.ClaimLemmas.{claim_of-Some}
 use Rattle.trfc_protocol.proofs.SafeLemmas.{MayWrite, sound_now, committed_unit-is, begun}
 use Rattle.trfc_protocol.proofs.RecordLemmas.{each-record, MayWrite-record}
-use Rattle.world_tables.specs.Joining.{after_record}
+use Rattle.unit_landscape.specs.Joining.{after_record}
 use Rattle.unit_landscape.specs.Kept.{CommitWritable}
 use Rattle.unit_landscape.specs.Writes.{claim_in, has_texts, Appends}
 

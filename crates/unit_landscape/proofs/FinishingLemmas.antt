@@ -26,7 +26,7 @@ use Rattle.trfc_protocol.specs.Safe.{is_due, Safe}
 use Rattle.trfc_protocol.proofs.ClaimLemmas.{claim_of-Some}
 use Rattle.trfc_protocol.proofs.SafeLemmas.{IsRun-due, hold, received-is}
 use Rattle.trfc_protocol.proofs.LegalLemmas.{is_free-parts}
-use Rattle.kept_world.specs.Kept.{KeptOf}
+use Rattle.unit_landscape.specs.KeptWorlds.{KeptOf}
 use Rattle.unit_landscape.specs.declared.appending.Appended.{Appended}
 use Rattle.unit_landscape.specs.declared.appending.Appended.TheVariants.{Written, Fallen}
 use Rattle.unit_landscape.specs.declared.answers.Finished.TheVariants as finished

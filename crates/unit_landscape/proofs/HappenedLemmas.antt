@@ -9,6 +9,7 @@ use Rattle.unit_codec.specs.Entries.{entry_with}
 use Rattle.unit_journal.specs.Settled.{IsBeforeOrAfter}
 use Rattle.trfc_protocol.specs.declared.world.World.{World}
 use Rattle.trfc_protocol.specs.declared.event.Event.{Event}
+use Rattle.trfc_protocol.specs.declared.event.Event.TheVariants.{Fall}
 use Rattle.trfc_protocol.specs.Meaning.{Meaning}
 use Rattle.trfc_protocol.specs.Legal.{IsLawful}
 use Rattle.trfc_protocol.specs.Worlds.{log_of, is_up}
@@ -18,23 +19,38 @@ use Rattle.trfc_protocol.specs.Safe.{Safe}
 use Rattle.trfc_protocol.proofs.RecordLemmas.{MayWrite-record}
 use Rattle.unit_journal.specs.OnDisk.{next_moment, entries_at}
 use Rattle.unit_journal.proofs.KeptLemmas.{IsOnDisk-stands}
-use Rattle.kept_world.specs.OnVolumes.{AreOnVolumes}
-use Rattle.kept_world.proofs.OnVolumesLemmas.{on_disk-up}
-use Rattle.kept_world.specs.Kept.{KeptOf}
-use Rattle.kept_world.specs.Answers.{KeepsVolumes}
+use Rattle.unit_landscape.specs.OnVolumes.{AreOnVolumes}
+use Rattle.unit_landscape.proofs.OnVolumesLemmas.{on_disk-up}
+use Rattle.unit_landscape.specs.KeptWorlds.{KeptOf}
+use Rattle.unit_landscape.specs.declared.cause.Cause.TheVariants.{Crashed}
+use Rattle.unit_landscape.specs.Causes.{with_cause, causes_after}
+use Rattle.unit_landscape.specs.LogAnswers.{KeepsVolumes}
 use Rattle.unit_landscape.specs.Kept.{IsLandscape}
 use Rattle.unit_landscape.specs.Writes.{MomentsAs, WritesOnly, DiskAs}
 use Rattle.unit_landscape.specs.Ends.{Happened}
 
 -- an event that appends nothing happened, where the world is its and the journals and volumes are as before
 pub happened-none : {R A V : Type 0} (rules : Meaning) (faults : V → ℕ → ℕ) (before after : KeptOf R A V) (e : Event) → record_of rules before.world e ≡ None
-    → after.world ≡ happens rules before.world e → KeepsVolumes before after → Happened rules faults before after e
-happened-none rules faults before now e none world keeps = record {
+    → after.world ≡ happens rules before.world e → KeepsVolumes before after → causes_after e before.causes ≡ before.causes
+    → Happened rules faults before after e
+happened-none rules faults before now e none world keeps quiet = record {
   world = world;
   moments = subst (MomentsAs before.journals now.journals) (sym none) keeps.journals;
   fits = λ it same size long. absurd (none-some it (sym none ∙ same));
   no_faults = λ place. ap (λ vols. faults vols place) keeps.vols;
-  overruns = keeps.overruns;
+  causes = keeps.causes ∙ sym quiet;
+}
+
+-- a system fell by a command
+pub happened-fall : {R A V : Type 0} (rules : Meaning) (faults : V → ℕ → ℕ) (before after : KeptOf R A V) (system : ℕ)
+    → after.world ≡ happens rules before.world (Fall system None) → after.journals ≡ before.journals → after.vols ≡ before.vols
+    → after.causes ≡ with_cause before.causes system Crashed → Happened rules faults before after (Fall system None)
+happened-fall rules faults before now system world journals vols causes = record {
+  world = world;
+  moments = journals;
+  fits = λ it same size long. absurd (none-some it same);
+  no_faults = λ place. ap (λ vols. faults vols place) vols;
+  causes = causes;
 }
 
 module _ {R A V : Type 0} (told : Type 0) (volume : V → ℕ → Volume) (moment : V → ℕ) (images_since : V → ℕ → ℕ → List ℕ → Type 0)
@@ -88,4 +104,4 @@ pub disk-seen : {R A V : Type 0} (told : Type 0) (volume : V → ℕ → Volume)
 disk-seen told volume moment images_since only_now meaning lawful kept seen same is on_volumes event =
     subst (λ k. DiskAs told volume moment images_since k k (record_of (meaning k.world.rules) k.world (event k.world))) same
     (disk-still told volume moment images_since kept kept only_now on_volumes (meaning kept.world.rules) (lawful kept.world.rules) is.safe (event kept.world)
-    (record { journals = refl; vols = refl; overruns = refl }))
+    (record { journals = refl; vols = refl; causes = refl }))

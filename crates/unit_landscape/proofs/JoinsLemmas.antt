@@ -30,9 +30,9 @@ use Rattle.trfc_protocol.proofs.ForCallers.{shipped_by, shipped_unit}
 use Rattle.trfc_protocol.proofs.RecordLemmas.{MayWrite-record}
 use Rattle.log_tables.specs.Read.{CommitFew, IsProper}
 use Rattle.log_tables.proofs.JoinsLegalLemmas.{IsEnding, joins-legal}
-use Rattle.world_tables.specs.Claims.{is_at, claim_at}
-use Rattle.world_tables.specs.Joining.{EndsNamed, JoinsAt}
-use Rattle.world_tables.proofs.ClaimsLemmas.{claim_at-Contains}
+use Rattle.unit_landscape.specs.Claims.{is_at, claim_at}
+use Rattle.unit_landscape.specs.Joining.{EndsNamed, JoinsAt}
+use Rattle.unit_landscape.proofs.ClaimsLemmas.{claim_at-Contains}
 use Rattle.unit_landscape.specs.Kept.{CommitWritable}
 use Rattle.unit_landscape.specs.Writes.{Appends}
 use Rattle.unit_landscape.proofs.ClaimEndsLemmas.{IsNamed, named-event}

@@ -1,17 +1,15 @@
 -- What comes of a late request, by the answer of its receiver and by how its record was appended.
-use Rattle.std.specs.Prelude.{◌≢◌, Contains, filter, Result, Ok, Err}
+use Rattle.std.specs.Prelude.{◌≢◌, Contains, Result, Ok, Err}
 use Rattle.std.specs.Option.{option_and_then}
-use Rattle.std.proofs.Common.{◌≡◌, ℕ, ◌+◌, ◌<◌, Bool, true, false, not, cond, ◌==◌, Option, Some, None, List, [], ◌∷◌, ◌++◌, inl, inr, refl, sym, ap, subst}
-use Rattle.std.proofs.Common.{◌∙◌, arith}
-use Rattle.std.proofs.lemmas.Bool.{cases_Bool, eq-eqb}
-use Rattle.std.proofs.lemmas.List.{append-nil}
-use Rattle.std.proofs.lemmas.List.Elements.{filter-append}
+use Rattle.std.proofs.Common.{◌≡◌, ℕ, ◌+◌, Bool, true, false, not, cond, Option, Some, None, List, [], ◌∷◌, ◌++◌, inl, inr, refl, sym, ap, subst}
+use Rattle.std.proofs.Common.{◌∙◌}
+use Rattle.std.proofs.lemmas.Bool.{cases_Bool}
 use Rattle.ale_base.specs.Tid.{TidOf}
 use Rattle.ale_base.proofs.MemberLemmas.{Contains-here, Contains-there}
-use Rattle.ale_base.proofs.OptionLemmas.{none_or_some}
 use Rattle.ale_volumes.specs.declared.volume.Volume.{Volume as OneVolume}
 use Rattle.ale_volumes.specs.Volume.{IsImage}
 use Rattle.unit_core.specs.declared.ale_unit.AleUnit.{AleUnit}
+use Rattle.unit_core.specs.declared.records.Record.{Record}
 use Rattle.unit_core.specs.declared.records.Record.TheVariants as log
 use Rattle.unit_core.specs.Filters.{received}
 use Rattle.unit_core.specs.Queues.{is_among}
@@ -20,28 +18,30 @@ use Rattle.trfc_protocol.specs.declared.held.Held.{Held}
 use Rattle.trfc_protocol.specs.declared.held.HeldKind.TheVariants.{Direct}
 use Rattle.trfc_protocol.specs.declared.answer.Answer.{Answer}
 use Rattle.trfc_protocol.specs.declared.answer.Answer.TheVariants as answer
+use Rattle.trfc_protocol.specs.declared.event.Event.{Event}
 use Rattle.trfc_protocol.specs.declared.event.Event.TheVariants as event
 use Rattle.trfc_protocol.specs.Meaning.{Meaning}
 use Rattle.trfc_protocol.specs.Legal.{IsLawful, is_empty}
-use Rattle.trfc_protocol.specs.Worlds.{log_of, is_up, offers_now, committed_unit, is_claimed, claim_of, with_claim, without_claim}
+use Rattle.trfc_protocol.specs.Worlds.{log_of, is_up, offers_now, committed_unit, is_claimed, with_claim}
 use Rattle.trfc_protocol.specs.Offered.{answer_to}
-use Rattle.trfc_protocol.specs.RecordOf.{record_of_answer}
+use Rattle.trfc_protocol.specs.RecordOf.{Writing, record_of_answer}
 use Rattle.trfc_protocol.specs.Happens.{written, with_run}
 use Rattle.trfc_protocol.specs.Safe.{Safe}
-use Rattle.trfc_protocol.proofs.ClaimLemmas.{claim_of-Some, claim_of-Contains}
-use Rattle.trfc_protocol.proofs.SafeLemmas.{committed_unit-is, hold}
-use Rattle.trfc_protocol.proofs.NextLemmas.{Next-without_claim}
-use Rattle.world_tables.proofs.ClaimsLemmas.{none-gone}
-use Rattle.kept_world.specs.declared.append_end.AppendEnd.{AppendEnd}
-use Rattle.kept_world.specs.declared.append_end.AppendEnd.TheVariants.{Volume, Full as TooLong, Before, After}
-use Rattle.kept_world.specs.OnVolumes.{AreOnVolumes}
-use Rattle.kept_world.specs.Kept.{KeptOf}
-use Rattle.kept_world.specs.Answers.{KeepsVolumes}
+use Rattle.trfc_protocol.proofs.ClaimLemmas.{claim_of-Contains}
+use Rattle.trfc_protocol.proofs.SafeLemmas.{committed_unit-is}
+use Rattle.unit_landscape.specs.declared.append_end.AppendEnd.{AppendEnd}
+use Rattle.unit_landscape.specs.declared.append_end.AppendEnd.TheVariants.{Volume, Full as TooLong, Before, After}
+use Rattle.unit_landscape.specs.OnVolumes.{AreOnVolumes}
+use Rattle.unit_landscape.specs.KeptWorlds.{KeptOf}
+use Rattle.unit_landscape.specs.LogAnswers.{KeepsVolumes}
 use Rattle.unit_landscape.specs.Kept.{IsLandscape}
 use Rattle.unit_landscape.specs.Writes.{DiskAs, Appends}
 use Rattle.unit_landscape.specs.Ends.{Happened, AppendsAs}
 use Rattle.unit_landscape.specs.Appending.{at, Arrives}
-use Rattle.unit_landscape.specs.Late.{IsLate, ComesLate, record_of_late, late_record, begun_by, number_used, LateAs, late_of, GivesUp}
+use Rattle.unit_landscape.specs.Late.{IsLate, ComesLate, record_of_late, late_record, begun_by, LateAs, late_of, IsOfRun, IsGivenBack, GivesBack}
+use Rattle.unit_landscape.specs.Claims.{without_last_claim}
+use Rattle.unit_landscape.specs.InStep.{AreInStepWith}
+use Rattle.unit_landscape.proofs.ClaimsLemmas.{claim-undone}
 use Rattle.unit_landscape.specs.declared.answers.Late.TheVariants.{New, Down}
 use Rattle.unit_landscape.proofs.HappenedLemmas.{happened-none, writes-nothing}
 use Rattle.unit_landscape.proofs.ArrivingLemmas.{arrival-record, arrival-after}
@@ -117,18 +117,18 @@ late-still told volume moment images before only_now on_volumes rules tid = by_u
         → DiskAs told volume moment images before before (record_of_late unit given)
     by_answer unit answer.New is =
         writes-nothing told volume moment images before before only_now on_volumes (at unit.receiver (log.Accept unit))
-        (answer-up rules before.world unit answer.New is (λ same. cc)) (record { journals = refl; vols = refl; overruns = refl })
+        (answer-up rules before.world unit answer.New is (λ same. cc)) (record { journals = refl; vols = refl; causes = refl })
     by_answer unit answer.Run is =
         writes-nothing told volume moment images before before only_now on_volumes (at unit.receiver (log.Direct unit))
-        (answer-up rules before.world unit answer.Run is (λ same. cc)) (record { journals = refl; vols = refl; overruns = refl })
-    by_answer unit answer.Down is = record { journals = refl; vols = refl; overruns = refl }
-    by_answer unit answer.Known is = record { journals = refl; vols = refl; overruns = refl }
-    by_answer unit answer.Busy is = record { journals = refl; vols = refl; overruns = refl }
-    by_answer unit answer.SysFail is = record { journals = refl; vols = refl; overruns = refl }
+        (answer-up rules before.world unit answer.Run is (λ same. cc)) (record { journals = refl; vols = refl; causes = refl })
+    by_answer unit answer.Down is = record { journals = refl; vols = refl; causes = refl }
+    by_answer unit answer.Known is = record { journals = refl; vols = refl; causes = refl }
+    by_answer unit answer.Busy is = record { journals = refl; vols = refl; causes = refl }
+    by_answer unit answer.SysFail is = record { journals = refl; vols = refl; causes = refl }
 
     by_unit : (found : Option AleUnit) → DiskAs told volume moment images before before
         (option_and_then (λ unit. record_of_late unit (answer_to rules before.world unit)) found)
-    by_unit None = record { journals = refl; vols = refl; overruns = refl }
+    by_unit None = record { journals = refl; vols = refl; causes = refl }
     by_unit (Some unit) = by_answer unit (answer_to rules before.world unit) refl
 
 -- an arrival that appends nothing and claims nothing leaves all as it is
@@ -138,7 +138,7 @@ pub arrived-still : {R A V : Type 0} (rules : Meaning) (faults : V → ℕ → �
 arrived-still rules faults before unit given arrives none stays =
     happened-none rules faults before before (event.Arrive unit.tid) (arrival-record rules before.world unit given arrives ∙ none)
     (sym (arrival-after rules before.world unit given arrives ∙ ap (λ found. written found (with_run before.world unit given)) none ∙ stays))
-    (record { journals = refl; vols = refl; overruns = refl })
+    (record { journals = refl; vols = refl; causes = refl }) refl
 
 -- ---- a unit is taken in
 
@@ -154,39 +154,6 @@ taken-as rules faults before then unit comes (Err Before) ends = inl ends
 taken-as rules faults before then unit comes (Err After) ends = inr (unit, comes.late, inl (comes.answers, ends))
 
 -- ---- a unit is run
-
-module _ {R : Type 0} (rules : Meaning) (lawful : IsLawful rules) (world : World R) (safe : Safe rules world) where
-  -- no claim has the next number
-  none_next : claim_of world.next_number world.claims ≡ None
-  none_next =
-      elim (none_or_some (claim_of world.next_number world.claims)) [
-        | inl none ↦ none
-        | inr some ↦
-            let held : Held = some.0 in
-            let is = claim_of-Some world.next_number world.claims held some.1 in
-            let below : held.number < world.next_number = (hold rules lawful world safe held is.0).number in
-            let same : held.number ≡ world.next_number = is.1 in
-            absurd (omega (arith, below, same))
-      ]
-
-  -- a claim that is made and given up uses up its number, and no more
-  pub made-given_up : (tid : TidOf) (system : ℕ) → without_claim (with_claim world tid system Direct) world.next_number ≡ number_used world
-  made-given_up tid system =
-      let n = world.next_number in
-      let new : Held = record { number = n; tid = tid; system = system; kind = Direct } in
-      let test = λ (held : Held). not (held.number == n) in
-      let gone : filter test (new ∷ []) ≡ [] = ap (λ b. cond (not b) (new ∷ []) []) (eq-eqb n n refl) in
-      ap (λ claims. let w : World R = record world { claims = claims; next_number = n + 1 } in w)
-      (filter-append test world.claims (new ∷ []) ∙ ap (λ rest. filter test world.claims ++ rest) gone
-      ∙ append-nil (filter test world.claims) ∙ none-gone n world.claims none_next)
-
--- a landscape stays one where a claim goes
-pub landscape-without : {R : Type 0} (meaning : R → Meaning) → ((r : R) → IsLawful (meaning r)) → (world : World R) (number : ℕ) → IsLandscape meaning world
-    → IsLandscape meaning (without_claim world number)
-landscape-without meaning lawful world number is = record {
-  safe = (Next-without_claim (meaning world.rules) (lawful world.rules) world is.safe number).0;
-  writable = is.writable;
-}
 
 contains_last : {X : Type 0} (xs : List X) (x : X) → Contains (xs ++ x ∷ []) x
 contains_last [] x = Contains-here x []
@@ -204,7 +171,7 @@ module _ {R A V : Type 0} (before : KeptOf R A V) (unit : AleUnit) where
   pub claimed-is : (mid : KeptOf R A V) → mid.world ≡ with_run_claimed → mid.tables ≡ before.tables → KeepsVolumes before mid → mid ≡ claimed_by
   claimed-is mid world tables keeps = λ i.
       let k : KeptOf R A V =
-      record { world = world i; tables = tables i; journals = keeps.journals i; vols = keeps.vols i; overruns = keeps.overruns i } in k
+      record { world = world i; tables = tables i; journals = keeps.journals i; vols = keeps.vols i; causes = keeps.causes i } in k
 
   -- it is what is kept as the run begins
   pub claimed-begun : (rules : Meaning) → Arrives rules before.world unit answer.Run → claimed_by ≡ begun_by rules before unit.tid
@@ -219,57 +186,70 @@ module _ {R A V : Type 0} (before : KeptOf R A V) (unit : AleUnit) where
       direct-appends rules lawful with_run_claimed safe held
       (claim_of-Contains with_run_claimed.claims held safe.apart (contains_last before.world.claims held)) refl unit comes.late.committed
 
+-- where the record of a run was not appended and no system fell, its claim was made last
+pub run-known : {R A V T : Type 0} (meaning : R → Meaning) (stands : A → List Record → Type 0) (rules : Meaning) (faults : V → ℕ → ℕ)
+    (before last : KeptOf R A V) (unit : AleUnit)
+    → IsLandscape meaning before.world → AreInStepWith stands meaning before.world before.tables → (e : Event) (it : Writing)
+    → (result : Result T AppendEnd) → AppendsAs rules faults (claimed_by before unit) last e it result → IsGivenBack meaning stands before last result
+run-known meaning stands rules faults before last unit is in_step e it (Ok done) ends undone = cc
+run-known meaning stands rules faults before last unit is in_step e it (Err Volume) ends undone = cc
+run-known {R} {A} {V} meaning stands rules faults before last unit is in_step e it (Err (TooLong size)) ends undone = record {
+  tid = unit.tid;
+  system = unit.receiver;
+  claimed = ap (λ (k : KeptOf R A V). k.world) ends.same;
+  landscape = is;
+  in_step = subst (AreInStepWith stands meaning before.world) (sym (ap (λ (k : KeptOf R A V). k.tables) ends.same)) in_step;
+}
+run-known meaning stands rules faults before last unit is in_step e it (Err Before) ends undone = record {
+  tid = unit.tid;
+  system = unit.receiver;
+  claimed = ends.world;
+  landscape = is;
+  in_step = subst (AreInStepWith stands meaning before.world) (sym ends.tables) in_step;
+}
+run-known meaning stands rules faults before last unit is in_step e it (Err After) ends undone = cc
+
+-- a claim that was taken back leaves the world before it
+pub given-back : {R A V : Type 0} (meaning : R → Meaning) (stands : A → List Record → Type 0) (before last : KeptOf R A V) (after : World R)
+    → IsOfRun meaning stands before last → after ≡ without_last_claim last.world → after ≡ before.world
+given-back meaning stands before last after run back = back ∙ ap without_last_claim run.claimed ∙ claim-undone before.world run.tid run.system Direct
+
 module _ {R A V : Type 0} (rules : Meaning) (lawful : IsLawful rules) (faults : V → ℕ → ℕ) (before last after : KeptOf R A V)
     (safe : Safe rules before.world) (unit : AleUnit)
     (comes : ComesLate rules before.world unit answer.Run) where
-  abbrev begun : KeptOf R A V
-  begun = begun_by rules before unit.tid
-
-  used : last.world ≡ begun.world → after.world ≡ without_claim last.world before.world.next_number → after.world ≡ number_used before.world
-  used same gone =
-      gone ∙ ap (λ (w : World R). without_claim w before.world.next_number)
-      (same ∙ arrival-after rules before.world unit answer.Run (comes-arrives rules lawful before.world safe unit answer.Run comes))
-      ∙ made-given_up rules lawful before.world safe unit.tid unit.receiver
-
   -- what comes of a unit that is run, by how its record was appended
-  pub ran-as : {T : Type 0} → (result : Result T AppendEnd) → AppendsAs rules faults begun last (event.Finish before.world.next_number)
-      (at unit.receiver (log.Direct unit)) result
-      → GivesUp last after before.world.next_number result → LateAs rules faults before after unit.tid (late_of result)
-  ran-as (Ok done) ends gives = subst (λ k. LateAs rules faults before k unit.tid (Ok New)) (sym gives) (unit, comes.late, inr (comes.answers, ends))
-  ran-as (Err Volume) ends gives = subst (λ k. LateAs rules faults before k unit.tid (Ok Down)) (sym gives)
+  pub ran-as : {T : Type 0} → (result : Result T AppendEnd)
+      → AppendsAs rules faults (begun_by rules before unit.tid) last (event.Finish before.world.next_number) (at unit.receiver (log.Direct unit)) result
+      → GivesBack before last after result → LateAs rules faults before after unit.tid (late_of result)
+  ran-as (Ok done) ends gives = subst (λ k. LateAs rules faults before k unit.tid (Ok New)) (sym (gives.done refl)) (unit, comes.late, inr (comes.answers, ends))
+  ran-as (Err Volume) ends gives = subst (λ k. LateAs rules faults before k unit.tid (Ok Down)) (sym (gives.done refl))
       (unit, comes.late, inr (inr (comes.answers, ends)))
-  ran-as (Err (TooLong size)) ends gives = (
-    unit,
-    comes.late,
-    inr (
-      comes.answers,
-      record {
-        given_up = record {
-          world = used (ap (λ (k : KeptOf R A V). k.world) ends.same) gives.0;
-          journals = gives.1.journals ∙ ap (λ (k : KeptOf R A V). k.journals) ends.same;
-          no_faults = λ place. ap (λ vols. faults vols place) (gives.1.vols ∙ ap (λ (k : KeptOf R A V). k.vols) ends.same);
-          overruns = gives.1.overruns ∙ ap (λ (k : KeptOf R A V). k.overruns) ends.same;
-        };
-        vols = gives.1.vols ∙ ap (λ (k : KeptOf R A V). k.vols) ends.same;
-        long = too_long-same begun before (at unit.receiver (log.Direct unit)) size
-            (sym (ap (λ (w : World R). log_of w unit.receiver)
-            (arrival-after rules before.world unit answer.Run (comes-arrives rules lawful before.world safe unit answer.Run comes))))
-            refl refl ends.long;
-      },
-    ),
-  )
-  ran-as (Err Before) ends gives = inr (
-    unit,
-    comes.late,
-    inr (
-      comes.answers,
-      inl (record {
-        world = used ends.world gives.0;
-        journals = gives.1.journals ∙ ends.journals;
-        no_faults = λ place. ap (λ vols. faults vols place) gives.1.vols ∙ ends.no_faults place;
-        overruns = gives.1.overruns ∙ ends.overruns;
-      }),
-    ),
-  )
+  ran-as (Err (TooLong size)) ends gives =
+      let back = gives.undone refl in
+      let tables = back.1 ∙ ap (λ (k : KeptOf R A V). k.tables) ends.same in
+      let journals = back.2.journals ∙ ap (λ (k : KeptOf R A V). k.journals) ends.same in
+      let vols = back.2.vols ∙ ap (λ (k : KeptOf R A V). k.vols) ends.same in
+      let causes = back.2.causes ∙ ap (λ (k : KeptOf R A V). k.causes) ends.same in (
+        unit,
+        comes.late,
+        inr (
+          comes.answers,
+          record {
+            same = λ i.
+                let k : KeptOf R A V = record { world = back.0 i; tables = tables i; journals = journals i; vols = vols i; causes = causes i } in k;
+            long = too_long-same (begun_by rules before unit.tid) before (at unit.receiver (log.Direct unit)) size
+                (sym (ap (λ (w : World R). log_of w unit.receiver)
+                (arrival-after rules before.world unit answer.Run (comes-arrives rules lawful before.world safe unit answer.Run comes))))
+                refl refl ends.long;
+          },
+        ),
+      )
+  ran-as (Err Before) ends gives = let back = gives.undone refl in inl (record {
+    world = back.0;
+    tables = back.1 ∙ ends.tables;
+    journals = back.2.journals ∙ ends.journals;
+    no_faults = λ place. ap (λ vols. faults vols place) back.2.vols ∙ ends.no_faults place;
+    causes = back.2.causes ∙ ends.causes;
+  })
   ran-as {T} (Err After) ends gives =
-      subst (λ k. LateAs rules faults before k unit.tid (late_of {T = T} (Err After))) (sym gives) (inr (unit, comes.late, inr (comes.answers, inr ends)))
+      subst (λ k. LateAs rules faults before k unit.tid (late_of {T = T} (Err After))) (sym (gives.done refl)) (inr (unit, comes.late, inr (comes.answers, ends)))

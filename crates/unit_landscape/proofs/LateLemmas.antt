@@ -43,9 +43,9 @@ use Rattle.trfc_protocol.proofs.LegalLemmas.{IsLegal-push, committed-grows, is_f
 use Rattle.trfc_protocol.proofs.SafeLemmas.{sound_now, committed_unit-is}
 use Rattle.trfc_protocol.proofs.ReplyingLemmas.{out_parts}
 use Rattle.trfc_protocol.proofs.ForCallers.{forgotten_unit}
-use Rattle.world_tables.specs.Claims.{is_at, claim_at}
+use Rattle.unit_landscape.specs.Claims.{is_at, claim_at}
 use Rattle.system_tables.specs.Tables.{TablesOf}
-use Rattle.kept_world.specs.Answers.{AreTablesNow}
+use Rattle.unit_landscape.specs.LogAnswers.{AreTablesNow}
 use Rattle.unit_landscape.specs.Late.{is_of_loss, is_lost, IsLate, is_marked_lost}
 
 -- ---- a unit that is marked and not done heads its queues

@@ -1,3 +1,27 @@
+-- Lemmas on the tables of a world. Each file stands on those before it.
+
+-- claims as the tables know them: one more, one less
+pub mod ClaimsLemmas
+-- tables that stay in step where a claim is made or given up, and where a system falls
+pub mod InStepLemmas
+-- tables that stay in step where a record joins a log
+pub mod JoiningLemmas
+-- what was entered is taken back; the state of one system changes
+pub mod EnteringLemmas
+-- Lemmas on the world that is kept. Each file stands on those before it.
+
+-- the volumes hold the logs: one more record, a system that falls
+pub mod OnVolumesLemmas
+-- why each system is down, behind an append and behind a fall
+pub mod CausesLemmas
+-- the tables are in step with the logs: a record that is noted, a system that falls behind it
+pub mod BehindLemmas
+-- how the write of a record ends, by what the journal answered
+mod WritingLemmas
+-- what the tables answer, said by the logs and the claims
+pub mod AnswersLemmas
+-- the unit of an id stands at the place of its number
+pub mod PlaceLemmas
 -- Lemmas on the calls of a landscape. Each file stands on those before it.
 
 -- calls that append nothing, and what a call leaves on the volumes
@@ -30,3 +54,11 @@ pub mod OperatingLemmas
 pub mod LateLemmas
 -- what comes of a late request
 pub mod LateEndsLemmas
+-- Lemmas on a landscape that begins. Each file stands on those before it.
+
+-- volumes that are opened for a landscape that begins
+pub mod OpeningLemmas
+-- the first record of each system
+pub mod BeginningLemmas
+-- the world as its systems begin, for who begins a landscape
+pub mod BegunLemmas

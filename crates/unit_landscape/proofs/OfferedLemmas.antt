@@ -32,9 +32,9 @@ use Rattle.trfc_protocol.proofs.LegalLemmas.{is_free-parts}
 use Rattle.trfc_protocol.proofs.SafeLemmas.{sound_now, hold, numbered, committed_place, received-is}
 use Rattle.trfc_protocol.proofs.ExecutingLemmas.{in_received}
 use Rattle.trfc_protocol.proofs.ForCallers.{shipped_by}
-use Rattle.world_tables.specs.Claims.{is_at, claim_at, kind_of}
-use Rattle.world_tables.proofs.ClaimsLemmas.{claim_at-none}
-use Rattle.kept_world.specs.Answers.{may_go_at, first_to_go}
+use Rattle.unit_landscape.specs.Claims.{is_at, claim_at, kind_of}
+use Rattle.unit_landscape.proofs.ClaimsLemmas.{claim_at-none}
+use Rattle.unit_landscape.specs.LogAnswers.{may_go_at, first_to_go}
 
 -- ---- the claims on a unit
 

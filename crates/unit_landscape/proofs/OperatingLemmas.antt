@@ -25,9 +25,9 @@ use Rattle.trfc_protocol.proofs.WorldLemmas.{is_up-known}
 use Rattle.trfc_protocol.proofs.SafeLemmas.{begun}
 use Rattle.trfc_protocol.proofs.NextLemmas.{record_if-each}
 use Rattle.system_tables.specs.Concerns.{concerns_application}
-use Rattle.kept_world.specs.declared.append_end.AppendEnd.{AppendEnd}
-use Rattle.kept_world.specs.declared.append_end.AppendEnd.TheVariants.{Volume, Full, Before, After}
-use Rattle.kept_world.specs.Kept.{KeptOf}
+use Rattle.unit_landscape.specs.declared.append_end.AppendEnd.{AppendEnd}
+use Rattle.unit_landscape.specs.declared.append_end.AppendEnd.TheVariants.{Volume, Full, Before, After}
+use Rattle.unit_landscape.specs.KeptWorlds.{KeptOf}
 use Rattle.unit_landscape.specs.Writes.{has_texts, Appends}
 use Rattle.unit_landscape.specs.Ends.{AppendsAs}
 use Rattle.unit_landscape.specs.Calls.{OperatedAs}

@@ -24,9 +24,9 @@ use Rattle.trfc_protocol.specs.declared.held.HeldKind.TheVariants.{Out, In}
 use Rattle.trfc_protocol.proofs.WorldLemmas.{is_up-known, state_of-most}
 use Rattle.trfc_protocol.proofs.SafeLemmas.{sound_now, numbered, committed_place, committed_unit-is}
 use Rattle.trfc_protocol.proofs.ForCallers.{done_unit}
-use Rattle.kept_world.specs.Answers.{AreTablesNow}
-use Rattle.kept_world.proofs.AnswersLemmas.{unconfirmed-at}
-use Rattle.kept_world.proofs.PlaceLemmas.{named-at}
+use Rattle.unit_landscape.specs.LogAnswers.{AreTablesNow}
+use Rattle.unit_landscape.proofs.AnswersLemmas.{unconfirmed-at}
+use Rattle.unit_landscape.proofs.PlaceLemmas.{named-at}
 use Rattle.unit_landscape.specs.Quiet.{IsQuiet, AreConfirmed, IsQuietAt, receiver_up, none_up}
 
 list_all-from : {X : Type 0} (p : X → Bool) (xs : List X) → ((x : X) → Contains xs x → p x ≡ true) → list_all p xs ≡ true

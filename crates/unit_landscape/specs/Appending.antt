@@ -20,9 +20,9 @@ use Rattle.trfc_protocol.specs.Worlds.{log_of, is_up, committed_unit, claim_of, 
 use Rattle.trfc_protocol.specs.Offered.{may_arrive, answer_to}
 use Rattle.trfc_protocol.specs.RecordOf.{Writing}
 use Rattle.system_tables.specs.Tables.{TablesOf}
-use Rattle.kept_world.specs.Kept.{KeptOf}
-use Rattle.kept_world.specs.declared.append_end.AppendEnd.{AppendEnd}
-use Rattle.kept_world.specs.declared.append_end.AppendEnd.TheVariants.{Volume, Full, Before, After}
+use Rattle.unit_landscape.specs.KeptWorlds.{KeptOf}
+use Rattle.unit_landscape.specs.declared.append_end.AppendEnd.{AppendEnd}
+use Rattle.unit_landscape.specs.declared.append_end.AppendEnd.TheVariants.{Volume, Full, Before, After}
 use Rattle.unit_landscape.specs.declared.claims.OutClaim.{OutClaim}
 use Rattle.unit_landscape.specs.declared.claims.InClaim.{InClaim}
 use Rattle.unit_landscape.specs.declared.appending.Appended.{Appended}

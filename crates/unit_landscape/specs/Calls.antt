@@ -22,8 +22,8 @@ use Rattle.trfc_protocol.specs.Legal.{is_empty, may_follow}
 use Rattle.trfc_protocol.specs.Worlds.{log_of, is_up, committed_unit, offers_now, is_kind, claim_of}
 use Rattle.trfc_protocol.specs.Offered.{is_offered_outbound, is_offered_inbound, answer_to}
 use Rattle.trfc_protocol.specs.RecordOf.{record_of}
-use Rattle.kept_world.specs.Kept.{KeptOf}
-use Rattle.kept_world.specs.Answers.{first_to_go}
+use Rattle.unit_landscape.specs.KeptWorlds.{KeptOf}
+use Rattle.unit_landscape.specs.LogAnswers.{first_to_go}
 use Rattle.unit_landscape.specs.Ends.{Happened, Failed, IsFull, FellInstead, IsShort}
 use Rattle.unit_landscape.specs.declared.claims.OutClaim.{OutClaim}
 use Rattle.unit_landscape.specs.declared.claims.InClaim.{InClaim}

@@ -8,7 +8,7 @@ use Rattle.trfc_protocol.specs.declared.world.World.{World}
 use Rattle.trfc_protocol.specs.Meaning.{Meaning}
 use Rattle.trfc_protocol.specs.Worlds.{is_up, committed_unit}
 use Rattle.trfc_protocol.specs.Offered.{is_offered_outbound, is_offered_inbound}
-use Rattle.kept_world.specs.Answers.{first_to_go}
+use Rattle.unit_landscape.specs.LogAnswers.{first_to_go}
 
 -- a unit is the first that is offered outbound at a system
 pub record IsFirstOut {R : Type 0} (rules : Meaning) (world : World R) (system : ℕ) (unit : AleUnit) : Type 0 where

@@ -6,11 +6,12 @@ use Rattle.trfc_protocol.specs.declared.event.Event.TheVariants.{Fall}
 use Rattle.trfc_protocol.specs.Meaning.{Meaning}
 use Rattle.trfc_protocol.specs.RecordOf.{Writing, record_of}
 use Rattle.trfc_protocol.specs.Happens.{happens}
-use Rattle.kept_world.specs.declared.append_end.AppendEnd.{AppendEnd}
-use Rattle.kept_world.specs.declared.append_end.AppendEnd.TheVariants.{Volume, Full, Before, After}
-use Rattle.kept_world.specs.Kept.{KeptOf}
-use Rattle.kept_world.specs.Overruns.{overrun_in, with_overrun}
-use Rattle.kept_world.specs.Appending.{HasOneMore}
+use Rattle.unit_landscape.specs.declared.append_end.AppendEnd.{AppendEnd}
+use Rattle.unit_landscape.specs.declared.append_end.AppendEnd.TheVariants.{Volume, Full, Before, After}
+use Rattle.unit_landscape.specs.KeptWorlds.{KeptOf}
+use Rattle.unit_landscape.specs.declared.cause.Cause.TheVariants.{Faulted, Overran, Short}
+use Rattle.unit_landscape.specs.Causes.{cause_in, with_cause, causes_after}
+use Rattle.unit_landscape.specs.AppendEnds.{HasOneMore}
 use Rattle.unit_landscape.specs.Writes.{IsTooLong, MomentsAs}
 
 module _ {R A V : Type 0} (rules : Meaning) (faults : V → ℕ → ℕ) (before after : KeptOf R A V) where
@@ -28,28 +29,27 @@ module _ {R A V : Type 0} (rules : Meaning) (faults : V → ℕ → ℕ) (before
     pub moments : MomentsAs before.journals after.journals (record_of rules before.world e)
     pub fits : (it : Writing) → record_of rules before.world e ≡ Some it → Fits it
     pub no_faults : NoFaults
-    pub overruns : after.overruns ≡ before.overruns
+    pub causes : after.causes ≡ causes_after e before.causes
 
-  -- a volume failed as it was to take a record that fits: the count of its faults rose, and its system fell, and may find the record; no
-  -- length is kept of it
+  -- a volume failed as it was to take a record that fits: the count of its faults rose, and its system fell by that, and may find the record
   pub record Failed (it : Writing) : Type 0 where
     pub world : after.world ≡ happens rules before.world (Fall it.system (Some it.next))
     pub journals : after.journals ≡ before.journals
     pub fits : Fits it
     pub rose : Rose (faults before.vols (it.system - 1)) (faults after.vols (it.system - 1))
     pub others : (place : ℕ) → place ≢ it.system - 1 → faults after.vols place ≡ faults before.vols place
-    pub overruns : after.overruns ≡ before.overruns
-    pub untold : overrun_in after.overruns it.system ≡ None
+    pub causes : after.causes ≡ with_cause before.causes it.system Faulted
+    pub told : cause_in after.causes it.system ≡ Faulted
 
-  -- a record does not fit, and its system fell, with how long its volume would have been; no volume was called
+  -- a record does not fit, and its system fell by that; no volume was called
   pub record Overflowed (it : Writing) : Type 0 where
     pub world : after.world ≡ happens rules before.world (Fall it.system None)
     pub journals : after.journals ≡ before.journals
     pub vols : after.vols ≡ before.vols
     pub size : ℕ
     pub long : IsTooLong before it size
-    pub overruns : after.overruns ≡ with_overrun before.overruns it.system (Some size)
-    pub told : overrun_in after.overruns it.system ≡ Some size
+    pub causes : after.causes ≡ with_cause before.causes it.system (Overran size)
+    pub told : cause_in after.causes it.system ≡ Overran size
 
   -- a record does not fit, and nothing has changed; this long the volume would be
   pub record IsFull (it : Writing) (size : ℕ) : Type 0 where
@@ -62,7 +62,7 @@ module _ {R A V : Type 0} (rules : Meaning) (faults : V → ℕ → ℕ) (before
     pub tables : after.tables ≡ before.tables
     pub journals : after.journals ≡ before.journals
     pub no_faults : NoFaults
-    pub overruns : after.overruns ≡ before.overruns
+    pub causes : after.causes ≡ before.causes
 
   -- memory was wanting behind the record of an event, and its system fell there
   pub record FellBehind (e : Event) (it : Writing) : Type 0 where
@@ -70,7 +70,7 @@ module _ {R A V : Type 0} (rules : Meaning) (faults : V → ℕ → ℕ) (before
     pub moments : HasOneMore (it.system - 1) before.journals after.journals
     pub fits : Fits it
     pub no_faults : NoFaults
-    pub overruns : after.overruns ≡ before.overruns
+    pub causes : after.causes ≡ with_cause before.causes it.system Short
 
   -- the system that was to append the record of an event fell in its place
   abbrev pub FellInstead : Event → Type 0

@@ -1,11 +1,12 @@
 -- An earlier request of a unit comes to its receiver now, and nothing is told to its sender.
-use Rattle.std.specs.Prelude.{◌≡◌, ◌⊎◌, ℕ, ◌+◌, ⊤, Bool, true, false, not, ◌&&◌, Option, Some, None, is_some, Result, Ok, Err}
+use Rattle.std.specs.Prelude.{◌≡◌, ◌⊎◌, ℕ, ⊤, Bool, true, false, not, ◌&&◌, Option, Some, None, is_some, List, Result, Ok, Err}
 use Rattle.std.specs.Option.{option_and_then}
 use Rattle.ale_base.specs.Tid.{TidOf}
 use Rattle.ale_base.specs.declared.mark.Mark.{Mark}
 use Rattle.ale_base.specs.declared.mark.Mark.TheVariants.{Cpicerr, Sysfail}
 use Rattle.ale_base.specs.declared.way.Way.TheVariants.{Outgoing}
 use Rattle.unit_core.specs.declared.ale_unit.AleUnit.{AleUnit}
+use Rattle.unit_core.specs.declared.records.Record.{Record}
 use Rattle.unit_core.specs.declared.records.Record.TheVariants as log
 use Rattle.unit_core.specs.Filters.{done_in, mark_of}
 use Rattle.unit_core.specs.Queues.{is_listed}
@@ -16,16 +17,18 @@ use Rattle.trfc_protocol.specs.declared.answer.Answer.{Answer}
 use Rattle.trfc_protocol.specs.declared.answer.Answer.TheVariants as answer
 use Rattle.trfc_protocol.specs.declared.event.Event.TheVariants as event
 use Rattle.trfc_protocol.specs.Meaning.{Meaning}
-use Rattle.trfc_protocol.specs.Worlds.{log_of, is_up, state_of, committed_unit, without_claim}
+use Rattle.trfc_protocol.specs.declared.held.HeldKind.TheVariants.{Direct}
+use Rattle.trfc_protocol.specs.Worlds.{log_of, is_up, state_of, committed_unit, with_claim}
 use Rattle.trfc_protocol.specs.Offered.{answer_to}
 use Rattle.trfc_protocol.specs.RecordOf.{Writing}
 use Rattle.trfc_protocol.specs.Happens.{happens}
-use Rattle.kept_world.specs.declared.append_end.AppendEnd.{AppendEnd}
-use Rattle.kept_world.specs.declared.append_end.AppendEnd.TheVariants.{Volume, Full as TooLong, Before, After}
-use Rattle.kept_world.specs.Kept.{KeptOf}
-use Rattle.kept_world.specs.Answers.{KeepsVolumes}
-use Rattle.unit_landscape.specs.Writes.{IsTooLong}
-use Rattle.unit_landscape.specs.Ends.{NoFaults, Happened, Failed, IsFull, Stays, FellBehind}
+use Rattle.unit_landscape.specs.declared.append_end.AppendEnd.{AppendEnd}
+use Rattle.unit_landscape.specs.declared.append_end.AppendEnd.TheVariants.{Volume, Full as TooLong, Before, After}
+use Rattle.unit_landscape.specs.KeptWorlds.{KeptOf}
+use Rattle.unit_landscape.specs.LogAnswers.{KeepsVolumes}
+use Rattle.unit_landscape.specs.Kept.{IsLandscape}
+use Rattle.unit_landscape.specs.InStep.{AreInStepWith}
+use Rattle.unit_landscape.specs.Ends.{Happened, Failed, IsFull, Stays, FellBehind}
 use Rattle.unit_landscape.specs.Calls.{AnsweredIdle}
 use Rattle.unit_landscape.specs.Appending.{at}
 use Rattle.unit_landscape.specs.declared.answers.Late.{Late}
@@ -73,24 +76,7 @@ late_record rules world tid = option_and_then (λ unit. record_of_late unit (ans
 abbrev pub begun_by : {R A V : Type 0} → Meaning → KeptOf R A V → TidOf → KeptOf R A V
 begun_by rules before tid = record before { world = happens rules before.world (event.Arrive tid) }
 
--- the world in which the number of a claim was used up
-abbrev pub number_used : {R : Type 0} → World R → World R
-number_used world = record world { next_number = world.next_number + 1 }
-
 module _ {R A V : Type 0} (rules : Meaning) (faults : V → ℕ → ℕ) (before after : KeptOf R A V) where
-  -- nothing has changed but that the number of a claim is used up
-  pub record IsGivenUp : Type 0 where
-    pub world : after.world ≡ number_used before.world
-    pub journals : after.journals ≡ before.journals
-    pub no_faults : NoFaults rules faults before after
-    pub overruns : after.overruns ≡ before.overruns
-
-  -- the record of a run does not fit, and nothing has changed but that the number of its claim is used up; this long the volume would be
-  pub record IsFullRun (it : Writing) (size : ℕ) : Type 0 where
-    pub given_up : IsGivenUp
-    pub vols : after.vols ≡ before.vols
-    pub long : IsTooLong before it size
-
   module _ (unit : AleUnit) where
     abbrev Answers : Answer → Type 0
     Answers given = answer_to rules before.world unit ≡ given
@@ -111,14 +97,14 @@ module _ {R A V : Type 0} (rules : Meaning) (faults : V → ℕ → ℕ) (before
     abbrev pub IsFullLate : ℕ → Type 0
     IsFullLate size =
         (Answers answer.New × IsFull rules faults before after (at unit.receiver (log.Accept unit)) size)
-        ⊎ (Answers answer.Run × IsFullRun (at unit.receiver (log.Direct unit)) size)
+        ⊎ (Answers answer.Run × IsFull rules faults before after (at unit.receiver (log.Direct unit)) size)
 
     -- memory was wanting at its receiver
     abbrev pub IsShortLate : Type 0
     IsShortLate =
         (Answers answer.New × FellBehind rules faults before after (event.Arrive unit.tid) (at unit.receiver (log.Accept unit)))
-        ⊎ (Answers answer.Run × (IsGivenUp
-        ⊎ FellBehind rules faults (begun_by rules before unit.tid) after (event.Finish before.world.next_number) (at unit.receiver (log.Direct unit))))
+        ⊎ (Answers answer.Run
+        × FellBehind rules faults (begun_by rules before unit.tid) after (event.Finish before.world.next_number) (at unit.receiver (log.Direct unit)))
 
   -- what came of a late request of an id
   abbrev pub LateAs : TidOf → Result Late LateEnd → Type 0
@@ -153,8 +139,25 @@ late_of (Err (TooLong size)) = Err (Full size)
 late_of (Err Before) = Err OutOfMemory
 late_of (Err After) = Err OutOfMemory
 
--- the claim of a run that was not appended is given up, and nothing else changes
-abbrev pub GivesUp : {R A V T : Type 0} → KeptOf R A V → KeptOf R A V → ℕ → Result T AppendEnd → Type 0
-GivesUp before after number (Err (TooLong size)) = (after.world ≡ without_claim before.world number) × KeepsVolumes before after
-GivesUp before after number (Err Before) = (after.world ≡ without_claim before.world number) × KeepsVolumes before after
-GivesUp before after number _ = after ≡ before
+-- the world has one claim more than the one before, on a run of a unit as it arrived: that was a landscape's, and the tables are in step with it
+pub record IsOfRun {R A V : Type 0} (meaning : R → Meaning) (stands : A → List Record → Type 0) (before last : KeptOf R A V) : Type 0 where
+  pub tid : TidOf
+  pub system : ℕ
+  pub claimed : last.world ≡ with_claim before.world tid system Direct
+  pub landscape : IsLandscape meaning before.world
+  pub in_step : AreInStepWith stands meaning before.world last.tables
+
+-- whether a record was not appended, though no system fell
+abbrev pub is_undone : {T : Type 0} → Result T AppendEnd → Bool
+is_undone (Err (TooLong size)) = true
+is_undone (Err Before) = true
+is_undone _ = false
+
+-- where the record of a run was not appended and no system fell, the claim of the run was made last
+abbrev pub IsGivenBack : {R A V T : Type 0} → (R → Meaning) → (A → List Record → Type 0) → KeptOf R A V → KeptOf R A V → Result T AppendEnd → Type 0
+IsGivenBack meaning stands before last result = is_undone result ≡ true → IsOfRun meaning stands before last
+
+-- the claim of a run that was not appended is taken back, and nothing else changes
+pub record GivesBack {R A V T : Type 0} (before last after : KeptOf R A V) (result : Result T AppendEnd) : Type 0 where
+  pub undone : is_undone result ≡ true → (after.world ≡ before.world) × (after.tables ≡ last.tables) × KeepsVolumes last after
+  pub done : is_undone result ≡ false → after ≡ last

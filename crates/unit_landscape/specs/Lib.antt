@@ -1,3 +1,29 @@
+-- the claims of a world as its systems' tables know them
+pub mod Claims
+-- how the tables of one system among all change
+pub mod Changed
+-- tables that are in step with a world
+pub mod InStep
+-- a record that joins the log of a system, and the claim that it ends
+pub mod Joining
+-- what noting the last record of a log asks
+pub mod Noting
+-- how a claim is answered
+pub mod ClaimAnswers
+-- what was entered, and can be taken back
+pub mod Entered
+-- what the volumes hold of the logs of all systems
+pub mod OnVolumes
+-- why each system is down
+pub mod Causes
+-- the world kept with its tables, journals and volumes
+pub mod KeptWorlds
+-- how an append ends
+pub mod AppendEnds
+-- what is answered by the logs and the claims
+pub mod LogAnswers
+-- what private functions cite
+pub mod steps
 -- what a landscape keeps
 pub mod Kept
 -- the tables of a system that is up
@@ -16,3 +42,7 @@ pub mod Claiming
 pub mod Appending
 -- an earlier request of a unit that comes now
 pub mod Late
+-- volumes that are opened for a landscape that begins
+pub mod Opening
+-- the first record of each system
+pub mod Beginning

@@ -4,8 +4,8 @@ use Rattle.unit_core.specs.declared.records.Record.{Record}
 use Rattle.system_tables.specs.Tables.{TablesOf}
 use Rattle.trfc_protocol.specs.Meaning.{Meaning}
 use Rattle.trfc_protocol.specs.Worlds.{is_up}
-use Rattle.kept_world.specs.Kept.{KeptOf}
-use Rattle.kept_world.specs.Answers.{AreTablesNow}
+use Rattle.unit_landscape.specs.KeptWorlds.{KeptOf}
+use Rattle.unit_landscape.specs.LogAnswers.{AreTablesNow}
 
 -- tables are those that are kept of a system, which is up, and they are those of its log and of the claims at it
 pub record AreItsTables {R A V : Type 0} (stands : A → List Record → Type 0) (rules : Meaning) (kept : KeptOf R A V) (system : ℕ)

@@ -17,9 +17,9 @@ use Rattle.trfc_protocol.specs.Worlds.{log_of}
 use Rattle.trfc_protocol.specs.RecordOf.{Writing, record_of}
 use Rattle.unit_journal.specs.declared.journals.SystemJournals.{SystemJournals}
 use Rattle.unit_journal.specs.OnDisk.{next_moment, entries_at, length_with}
-use Rattle.kept_world.specs.Kept.{KeptOf}
-use Rattle.kept_world.specs.Answers.{KeepsVolumes}
-use Rattle.kept_world.specs.Appending.{HasOneMore}
+use Rattle.unit_landscape.specs.KeptWorlds.{KeptOf}
+use Rattle.unit_landscape.specs.LogAnswers.{KeepsVolumes}
+use Rattle.unit_landscape.specs.AppendEnds.{HasOneMore}
 
 -- the number of the claim that an event speaks of: it goes with the event's record
 abbrev pub claim_in : Event → Option ℕ

@@ -138,11 +138,10 @@ pub enum LateEnd {
     #[error("the unit is not marked")]
     NotMarked,
     /// The receiver's volume is full: with the record it would be this long, in bytes, over 67,108,864. The receiver stays up, and
-    /// nothing has changed, but for a unit that was to run: there the number of its claim is used up.
+    /// nothing has changed.
     #[error("volume full at {0}")]
     Full(u64),
-    /// A request for memory was refused: nothing has changed but perhaps that the number of a claim is used up, or the record was
-    /// appended and the receiver is down.
+    /// A request for memory was refused: nothing has changed, or the record was appended and the receiver is down.
     #[error("out of memory")]
     OutOfMemory,
 }

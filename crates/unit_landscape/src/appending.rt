@@ -5,9 +5,9 @@ ghost use Rattle.unit_landscape.specs.Kept.{IsLandscape};
 ghost use Rattle.unit_landscape.specs.Writes.{WritesOnly};
 ghost use Rattle.unit_landscape.specs.Appending.{IsDue, EndsAs, EndsSo, at};
 
+use crate::{AppendEnd, Cause, KeptWorld};
 use ale_base::{OutOfMemory, SystemNo};
 use ale_volumes::Volumes;
-use kept_world::{AppendEnd, KeptWorld};
 use system_tables::Application;
 use trfc_protocol::Rules;
 use unit_core::{AleUnit, Record};
@@ -59,7 +59,7 @@ pub(crate) fn append<R: Rules, A: Application, V: Volumes>(
         Err(AppendEnd::Volume) => Ok(Appended::Fallen),
         Err(AppendEnd::Full(size)) => {
             let _ = kept.world();
-            kept.fall(system, Some(size));
+            kept.fall(system, Cause::Overran(size));
             Ok(Appended::Fallen)
         }
         Err(AppendEnd::Before | AppendEnd::After) => Err(OutOfMemory),

@@ -11,9 +11,9 @@ mod operating;
 mod quiet;
 mod replying;
 
+use crate::{Cause, KeptWorld};
 use ale_base::{SystemNo, Tid};
 use ale_volumes::Volumes;
-use kept_world::KeptWorld;
 use std::alloc::Global;
 use std::marker::Model;
 use system_tables::{Application, SystemTables};
@@ -29,7 +29,7 @@ pub struct UnitLandscape<R: Rules, A: Application, V: Volumes> {
 }
 
 impl<R: Rules, A: Application, V: Volumes> Model for UnitLandscape<R, A, V> {
-    ghost use Rattle.kept_world.specs.Kept.{KeptOf};
+    ghost use Rattle.unit_landscape.specs.KeptWorlds.{KeptOf};
     ghost use Rattle.unit_landscape.specs.Kept.{IsLandscape};
 
     ghost Value = { KeptOf R A V };
@@ -46,12 +46,12 @@ impl<R: Rules, A: Application, V: Volumes> UnitLandscape<R, A, V> {
     ghost use Rattle.system_tables.specs.Tables.{TablesOf};
     ghost use Rattle.unit_journal.specs.OnDisk.{moments_at};
     ghost use Rattle.unit_journal.specs.Changes.{with_moment};
-    ghost use Rattle.kept_world.specs.Kept.{IsKept, overrun_at};
+    ghost use Rattle.unit_landscape.specs.KeptWorlds.{IsKept, cause_at};
     ghost use Rattle.unit_landscape.specs.Kept.{IsLandscape};
     ghost use Rattle.unit_landscape.specs.Tables.{AreTablesUp};
 
     /// A landscape of a world that is kept, is safe, and commits what can be written.
-    pub fn new(alloc: Global, kept: KeptWorld<R, A, V>) -> UnitLandscape<R, A, V>
+    pub(crate) fn new(alloc: Global, kept: KeptWorld<R, A, V>) -> UnitLandscape<R, A, V>
         requires { IsLandscape R.meaning kept.world }
         ensures { result ≡ kept }
     {
@@ -81,12 +81,11 @@ impl<R: Rules, A: Application, V: Volumes> UnitLandscape<R, A, V> {
         self.kept.world().is_up(system)
     }
 
-    /// How long the volume of a system would have been with the record that did not fit as the system last fell. None where it fell
-    /// otherwise, or has not fallen.
-    pub fn overrun(&self, system: SystemNo) -> Option<u64>
-        ensures { result ≡ overrun_at self.now system }
+    /// Why a system is down, if it is.
+    pub fn cause(&self, system: SystemNo) -> Cause
+        ensures { result ≡ cause_at self.now system }
     {
-        self.kept.overrun(system)
+        self.kept.cause(system)
     }
 
     /// The unit of this id, as its sender committed it, in constant time. None exactly where it committed none.

@@ -1,19 +1,44 @@
-//! Systems that commit units, ship them, execute them and confirm them, by any rules.
+//! Systems that commit units, ship them, execute them and confirm them, by any rules, with the tables that follow their logs and the
+//! volumes that hold them.
 //!
-//! Contract: each call is an event of the protocol, or says how it ended otherwise, and the world stays safe. A call that appends
-//! writes its record on one volume, and at every moment of it a crash leaves the log of that system, perhaps with the record. What a
-//! call answers comes exactly where the logs and the claims say so. The definitions are in `specs/`: `Kept` (what a landscape keeps),
-//! `Tables` (the tables of a system that is up), `Writes` (the record of an event), `Ends` (how a call ends), `Calls`, `Late` and
-//! `Quiet` (what each call answers). `Claiming` and `Appending` serve private functions.
+//! Contract: each call is an event of the protocol, or says how it ended otherwise, and the world stays safe; the tables are in step with
+//! it, the volumes hold its logs, and it is told why a system is down. A call that appends writes its record on one volume, and at every
+//! moment of it a crash leaves the log of that system, perhaps with the record. What a call answers comes exactly where the logs and the
+//! claims say so. A landscape begins over volumes that are empty: they are opened one after the other, and each log gets its Genesis; one
+//! that is not empty is refused, exactly for its cause, and left as it reads.
+//!
+//! The definitions are in `specs/`: `Kept` (what a landscape keeps), `KeptWorlds`, `InStep`, `OnVolumes` and `Causes` (a world with its
+//! tables, its volumes, and why systems are down), `Tables` (the tables of a system that is up), `Writes` (the record of an event), `Ends`
+//! (how a call ends), `Calls`, `Late` and `Quiet` (what each call answers), `Opening` and `Beginning` (a landscape that begins). The others
+//! serve private functions: `Claims`, `Joining`, `Entered`, `Noting` and `Changed` (a record that joins a log, before and after it is
+//! written), `AppendEnds`, `ClaimAnswers`, `LogAnswers`, `Claiming`, `Appending`.
 #![tactic(auto)]
 
+mod adding;
 mod answers;
+mod append_end;
 mod appending;
+mod beginning;
+mod cause;
+mod claim_end;
 mod claims;
+mod kept_world;
 mod landscape;
+mod letting_go;
+mod noting;
+mod opening;
+mod world_tables;
+mod writing;
 
 pub use answers::{
     Arrival, Closed, Confirmed, Finished, Late, LateEnd, OperatorEnd, Replied, Reply, WorkEnd,
 };
+pub use append_end::AppendEnd;
+pub use beginning::{BeginEnd, MOST_TEXT, begin, begun};
+pub use cause::Cause;
+pub(crate) use claim_end::ClaimEnd;
 pub use claims::{InClaim, OutClaim, Receipt};
+pub use kept_world::KeptWorld;
 pub use landscape::UnitLandscape;
+pub use opening::{NotOpened, OpenFault, Opening};
+pub(crate) use world_tables::WorldTables;

@@ -26,7 +26,7 @@ use Rattle.trfc_protocol.proofs.ClaimLemmas.{claim_of-Some, is_claimed-Contains}
 use Rattle.trfc_protocol.proofs.EventLemmas.{Safe-step}
 use Rattle.trfc_protocol.proofs.ForCallers.{claimed_unit}
 use Rattle.trfc_protocol.proofs.SafeLemmas.{committed_unit-is}
-use Rattle.kept_world.specs.Kept.{KeptOf}
+use Rattle.unit_landscape.specs.KeptWorlds.{KeptOf}
 use Rattle.unit_landscape.specs.declared.answers.Arrival.{Arrival}
 use Rattle.unit_landscape.specs.declared.answers.Arrival.TheVariants as arrival
 use Rattle.unit_landscape.specs.declared.claims.OutClaim.{OutClaim}

@@ -17,7 +17,7 @@ use Rattle.trfc_protocol.specs.Legal.{IsLawful, is_empty, is_free_inbound, is_fr
 use Rattle.trfc_protocol.specs.Meaning.{Meaning}
 use Rattle.trfc_protocol.specs.Offered.{answer_to, is_stopped_inbound, is_stopped_outbound, may_move, offers_received_now}
 use Rattle.trfc_protocol.specs.Worlds.{claim_of, committed_by, committed_unit, is_claimed, is_kind, is_up, log_of, offers_now, rest_of, with_claim}
-use Rattle.kept_world.specs.Kept.{KeptOf}
+use Rattle.unit_landscape.specs.KeptWorlds.{KeptOf}
 use Rattle.unit_landscape.specs.declared.claims.OutClaim.{OutClaim}
 use Rattle.unit_landscape.specs.declared.claims.InClaim.{InClaim}
 use Rattle.unit_landscape.specs.Calls.{ClaimedIn, ClaimedOut}

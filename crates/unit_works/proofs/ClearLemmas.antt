@@ -30,7 +30,7 @@ use Rattle.trfc_protocol.specs.RecordOf.{Writing}
 use Rattle.trfc_protocol.specs.Worlds.{committed_unit, is_claimed, is_up, log_of, offers_now}
 use Rattle.trfc_protocol.proofs.LegalLemmas.{is_free-parts}
 use Rattle.trfc_protocol.proofs.SafeLemmas.{committed_unit-is, received-is}
-use Rattle.kept_world.specs.Kept.{KeptOf}
+use Rattle.unit_landscape.specs.KeptWorlds.{KeptOf}
 use Rattle.unit_landscape.specs.Kept.{IsLandscape}
 use Rattle.document_state.specs.declared.document_tables.DocumentTables.{DocumentTables}
 use Rattle.document_state.specs.declared.model_rules.ModelRules.{ModelRules}

@@ -24,7 +24,7 @@ use Rattle.trfc_protocol.specs.Worlds.{committed_unit, is_up, log_of, state_with
 use Rattle.trfc_protocol.proofs.EventLemmas.{Safe-step}
 use Rattle.trfc_protocol.proofs.SafeLemmas.{committed_unit-is}
 use Rattle.trfc_protocol.proofs.WorldLemmas.{is_up-known, joins-with_state}
-use Rattle.kept_world.specs.Kept.{KeptOf}
+use Rattle.unit_landscape.specs.KeptWorlds.{KeptOf}
 use Rattle.unit_landscape.specs.declared.answers.Closed.{Closed}
 use Rattle.unit_landscape.specs.declared.answers.Closed.TheVariants as closed
 use Rattle.unit_landscape.specs.declared.answers.Confirmed.{Confirmed}

@@ -26,7 +26,7 @@ use Rattle.trfc_protocol.specs.declared.world.World.{World}
 use Rattle.trfc_protocol.specs.Legal.{IsUnitAt, is_free_inbound, is_free_outbound}
 use Rattle.trfc_protocol.specs.Offered.{is_offered_inbound, is_offered_outbound, is_stopped_inbound, is_stopped_outbound, may_move}
 use Rattle.trfc_protocol.specs.Worlds.{committed_by, committed_unit, is_claimed, is_kind, is_up, log_of}
-use Rattle.kept_world.specs.Kept.{KeptOf}
+use Rattle.unit_landscape.specs.KeptWorlds.{KeptOf}
 use Rattle.unit_landscape.specs.Kept.{IsLandscape}
 use Rattle.landscape.specs.Shown.{AreUnconfirmedAt}
 use Rattle.document_state.specs.declared.document_tables.DocumentTables.{DocumentTables}
@@ -247,11 +247,11 @@ module _ {V : Type 0} (faults : V → ℕ → ℕ) where
         ∙ ap (λ (w : World ModelRules). record w { claims = after.world.claims; next_number = after.world.next_number }) first.world;
     journals = second.journals ∙ first.journals;
     vols = second.vols ∙ first.vols;
-    overruns = second.overruns ∙ first.overruns;
+    causes = second.causes ∙ first.causes;
   }
 
   pub only-same : (before after : KeptOf ModelRules DocumentTables V) → after ≡ before → HaveOnlyClaimed before after
-  only-same before after same = subst (HaveOnlyClaimed before) (sym same) (record { world = refl; journals = refl; vols = refl; overruns = refl })
+  only-same before after same = subst (HaveOnlyClaimed before) (sym same) (record { world = refl; journals = refl; vols = refl; causes = refl })
 
   only-first : (more : List Act) (before between after : KeptOf ModelRules DocumentTables V) (lines lines_after : Lines) → HaveOnlyClaimed before between
       → HaveActed faults between lines more after lines_after → HaveActed faults before lines more after lines_after

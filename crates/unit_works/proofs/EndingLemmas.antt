@@ -26,8 +26,8 @@ use Rattle.trfc_protocol.proofs.ClaimLemmas.{claim_of-Some}
 use Rattle.trfc_protocol.proofs.ForCallers.{claimed_unit}
 use Rattle.trfc_protocol.proofs.LegalLemmas.{is_free-parts}
 use Rattle.trfc_protocol.proofs.SafeLemmas.{IsRun-due, hold, received-is}
-use Rattle.kept_world.specs.Kept.{KeptOf}
-use Rattle.world_tables.specs.Joining.{after_record}
+use Rattle.unit_landscape.specs.KeptWorlds.{KeptOf}
+use Rattle.unit_landscape.specs.Joining.{after_record}
 use Rattle.unit_landscape.specs.declared.answers.Finished.{Finished}
 use Rattle.unit_landscape.specs.declared.answers.Finished.TheVariants as finished
 use Rattle.unit_landscape.specs.declared.answers.WorkEnd.{WorkEnd}

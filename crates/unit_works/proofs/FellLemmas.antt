@@ -14,7 +14,7 @@ use Rattle.trfc_protocol.proofs.KeepingLemmas.{kept-is}
 use Rattle.trfc_protocol.proofs.RecordLemmas.{MayWrite-record}
 use Rattle.unit_journal.specs.declared.journals.SystemJournals.{SystemJournals}
 use Rattle.unit_journal.specs.OnDisk.{moments_at, next_moment}
-use Rattle.kept_world.specs.Kept.{KeptOf}
+use Rattle.unit_landscape.specs.KeptWorlds.{KeptOf}
 use Rattle.unit_landscape.specs.Ends.{Failed, FellInstead, Overflowed}
 use Rattle.unit_landscape.specs.Kept.{IsLandscape}
 use Rattle.unit_landscape.proofs.EndsLemmas.{falls-up, too_long-same}
@@ -89,7 +89,7 @@ module _ {R A V : Type 0} (meaning : R → Meaning) (lawful : (r : R) → IsLawf
   fell-cut = elim did.2 [
     | inl failed ↦
         let world = fell-failed failed in
-        cut-at (Some (did.0).next) world (inl (record { finds = finds (Some (did.0).next) world; untold = failed.untold }))
+        cut-at (Some (did.0).next) world (inl (record { finds = finds (Some (did.0).next) world; told = failed.told }))
     | inr full ↦
         let world = fell-full full in
         cut-at None world (inr (record {

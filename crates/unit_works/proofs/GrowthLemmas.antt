@@ -8,7 +8,7 @@ use Rattle.trfc_protocol.specs.Legal.{IsLawful}
 use Rattle.trfc_protocol.specs.Meaning.{Meaning}
 use Rattle.trfc_protocol.specs.RecordOf.{Writing, record_of}
 use Rattle.trfc_protocol.specs.Worlds.{is_up, log_of, rest_of}
-use Rattle.kept_world.specs.Kept.{KeptOf}
+use Rattle.unit_landscape.specs.KeptWorlds.{KeptOf}
 use Rattle.unit_landscape.specs.Ends.{Happened}
 use Rattle.unit_landscape.specs.Kept.{IsLandscape}
 use Rattle.unit_works.specs.Trips.{AppendedAs, CutAt, HaveGrown, Wholly}

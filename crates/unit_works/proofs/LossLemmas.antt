@@ -28,7 +28,7 @@ use Rattle.trfc_protocol.specs.Offered.{answer_to, is_stopped_outbound, may_move
 use Rattle.trfc_protocol.specs.RecordOf.{Writing}
 use Rattle.trfc_protocol.specs.Worlds.{committed_by, committed_unit, is_up, log_of}
 use Rattle.trfc_protocol.proofs.LegalLemmas.{is_free-parts}
-use Rattle.kept_world.specs.Kept.{KeptOf}
+use Rattle.unit_landscape.specs.KeptWorlds.{KeptOf}
 use Rattle.document_state.specs.declared.document_tables.DocumentTables.{DocumentTables}
 use Rattle.document_state.specs.declared.model_rules.ModelRules.{ModelRules}
 use Rattle.unit_works.specs.declared.letter.Letter.{Letter}

@@ -20,8 +20,8 @@ use Rattle.trfc_protocol.specs.RecordOf.{record_of}
 use Rattle.trfc_protocol.specs.Worlds.{without_claim}
 use Rattle.trfc_protocol.proofs.ClaimLemmas.{claim_of-Some}
 use Rattle.trfc_protocol.proofs.ForCallers.{shipped_by}
-use Rattle.kept_world.specs.Kept.{KeptOf}
-use Rattle.world_tables.specs.Joining.{after_record}
+use Rattle.unit_landscape.specs.KeptWorlds.{KeptOf}
+use Rattle.unit_landscape.specs.Joining.{after_record}
 use Rattle.unit_landscape.specs.declared.answers.Replied.{Replied}
 use Rattle.unit_landscape.specs.declared.answers.Replied.TheVariants as replied
 use Rattle.unit_landscape.specs.declared.answers.Reply.{Reply}

@@ -33,7 +33,7 @@ use Rattle.trfc_protocol.specs.Worlds.{claim_of, committed_unit, is_claimed, is_
 use Rattle.trfc_protocol.proofs.ClaimLemmas.{claim_of-Some}
 use Rattle.trfc_protocol.proofs.ForCallers.{claim_up, forgotten_unit, shipped_by, shipped_unit}
 use Rattle.trfc_protocol.proofs.SafeLemmas.{committed_unit-is, sound_now}
-use Rattle.kept_world.specs.Kept.{KeptOf}
+use Rattle.unit_landscape.specs.KeptWorlds.{KeptOf}
 use Rattle.unit_landscape.specs.declared.answers.Arrival.{Arrival}
 use Rattle.unit_landscape.specs.declared.answers.Arrival.TheVariants as arrival
 use Rattle.unit_landscape.specs.declared.answers.Finished.{Finished}

@@ -10,7 +10,7 @@ use Rattle.std.proofs.lemmas.List.Folds.{list_all-append}
 use Rattle.ale_base.specs.Tid.{TidOf}
 use Rattle.unit_core.specs.declared.records.Record.{Record}
 use Rattle.trfc_protocol.specs.declared.event.Event.{Event}
-use Rattle.trfc_protocol.specs.declared.event.Event.TheVariants.{Fall}
+use Rattle.trfc_protocol.specs.declared.event.Event.TheVariants.{Fall, Open}
 use Rattle.trfc_protocol.specs.declared.world.World.{World}
 use Rattle.trfc_protocol.specs.Happens.{happens, run}
 use Rattle.trfc_protocol.specs.Legal.{IsLawful, may_follow}
@@ -24,9 +24,11 @@ use Rattle.trfc_protocol.proofs.WorldLemmas.{is_up-known, state_of-least, state_
 use Rattle.unit_journal.specs.declared.journals.SystemJournals.{SystemJournals}
 use Rattle.unit_journal.specs.Changes.{OnlyAt}
 use Rattle.unit_journal.specs.OnDisk.{last_moment, later, moment_of, moments_at, next_moment}
-use Rattle.kept_world.specs.Appending.{HasOneMore}
-use Rattle.kept_world.specs.Kept.{KeptOf, overrun_at}
-use Rattle.kept_world.specs.Overruns.{overrun_in}
+use Rattle.unit_landscape.specs.AppendEnds.{HasOneMore}
+use Rattle.unit_landscape.specs.KeptWorlds.{KeptOf, cause_at}
+use Rattle.unit_landscape.specs.declared.cause.Cause.{Cause}
+use Rattle.unit_landscape.specs.declared.cause.Cause.TheVariants.{Up, Faulted, Overran, Short}
+use Rattle.unit_landscape.specs.Causes.{cause_in, with_cause, causes_after}
 use Rattle.unit_landscape.specs.Ends.{NoFaults, Happened, Failed, FellBehind, Stays, FellInstead, IsShort, Overflowed}
 use Rattle.unit_landscape.specs.Kept.{IsLandscape}
 use Rattle.unit_landscape.specs.Writes.{MomentsAs}
@@ -80,6 +82,12 @@ all-wider may might (e ∷ events) wider each =
     let parts = and_parts (may e) (list_all may events) each in
     and_from (might e) (list_all might events) (wider e parts.0) (all-wider may might events wider parts.1)
 
+-- a step changes no cause
+quiet-step : (e : Event) (causes : List Cause) → is_step e ≡ true → causes_after e causes ≡ causes
+quiet-step (Fall system kept) causes step = cc
+quiet-step (Open system) causes step = cc
+quiet-step e causes step = refl
+
 module _ {R A V : Type 0} (meaning : R → Meaning) (faults : V → ℕ → ℕ) (before between after : KeptOf R A V) (system : ℕ) where
   -- a record that did not fit does not where its system stays down
   unfit-still : (rules : after.world.rules ≡ between.world.rules)
@@ -94,7 +102,7 @@ module _ {R A V : Type 0} (meaning : R → Meaning) (faults : V → ℕ → ℕ)
         sent = λ unit takes. committed unit.tid ∙ unfit.sent unit takes;
         size = unfit.size;
         long = too_long-same between after (record { system = system; next = unfit.next }) unfit.size stays.log stays.moments stays.moment unfit.long;
-        told = stays.overrun ∙ unfit.told;
+        told = stays.cause ∙ unfit.told;
       }
 
   -- a record that does not fit at last did not
@@ -123,7 +131,7 @@ module _ {R A V : Type 0} (meaning : R → Meaning) (faults : V → ℕ → ℕ)
       → HasCause meaning faults before between system rest → HasCause meaning faults before after system rest
   cause-first (Some next) rules committed holds stays cause = (
     risen-then (faults before.vols (system - 1)) (faults between.vols (system - 1)) (faults after.vols (system - 1)) cause.0 holds,
-    stays.overrun ∙ cause.1,
+    stays.cause ∙ cause.1,
   )
   cause-first None rules committed holds stays cause = unfit-still rules committed stays cause
 
@@ -164,7 +172,7 @@ module _ {R A V : Type 0} (meaning : R → Meaning) (faults : V → ℕ → ℕ)
     moments = λ place. (0, refl);
     counts = λ place. inl (omega arith);
     unharmed = λ system least up. refl;
-    stays = λ system least down. record { down = down; rest = refl; log = refl; moments = refl; moment = refl; overrun = refl };
+    stays = λ system least down. record { down = down; rest = refl; log = refl; moments = refl; moment = refl; cause = refl };
     falls = λ is system up down. absurd (both_ways (is_up kept.world system) down up);
   }
 
@@ -219,7 +227,7 @@ module _ {R A V : Type 0} (meaning : R → Meaning) (faults : V → ℕ → ℕ)
           log = two.log ∙ one.log;
           moments = two.moments ∙ one.moments;
           moment = two.moment ∙ one.moment;
-          overrun = two.overrun ∙ one.overrun;
+          cause = two.cause ∙ one.cause;
         };
     falls = λ is system up down. elim (cases_Bool (is_up between.world system)) [
       | inl still ↦ cause-last meaning faults before between after system (rest_of after.world system) (first.counts (system - 1))
@@ -277,19 +285,25 @@ module _ {R A V : Type 0} (meaning : R → Meaning) (lawful : (r : R) → IsLawf
 
   same-state : (other : ℕ) → is_up before.world other ≡ false → state_of after.world.systems other ≡ state_of before.world.systems other
       → moments_at after.journals (other - 1) ≡ moments_at before.journals (other - 1)
-      → next_moment after.journals (other - 1) ≡ next_moment before.journals (other - 1) → overrun_at after other ≡ overrun_at before other
+      → next_moment after.journals (other - 1) ≡ next_moment before.journals (other - 1) → cause_at after other ≡ cause_at before other
       → StaysDown before after other
-  same-state other down state moments moment overrun = record {
+  same-state other down state moments moment cause = record {
     down = ap up_or_not state ∙ down;
     rest = ap rest_or_none state;
     log = ap log_or_none state;
     moments = moments;
     moment = moment;
-    overrun = overrun;
+    cause = cause;
   }
 
-  same-overrun : after.overruns ≡ before.overruns → (other : ℕ) → overrun_at after other ≡ overrun_at before other
-  same-overrun same other = ap (λ all. overrun_in all other) same
+  same-cause : after.causes ≡ before.causes → (other : ℕ) → cause_at after other ≡ cause_at before other
+  same-cause same other = ap (λ all. cause_in all other) same
+
+  -- another system that is told of leaves the cause of one that is down
+  other-cause : (system : ℕ) (cause : Cause) → is_up before.world system ≡ true → after.causes ≡ with_cause before.causes system cause
+      → (other : ℕ) → 1 ≤ other → is_up before.world other ≡ false → cause_at after other ≡ cause_at before other
+  other-cause system cause up told other least down =
+      ap (λ all. cause_in all other) told ∙ get_or-set_other before.causes (system - 1) (other - 1) cause Up (places-differ system other up least down)
 
   same-journals : after.journals ≡ before.journals → (other : ℕ)
       → (moments_at after.journals (other - 1) ≡ moments_at before.journals (other - 1))
@@ -357,7 +371,7 @@ module _ {R A V : Type 0} (meaning : R → Meaning) (lawful : (r : R) → IsLawf
         same-state other down
         (ap (λ (w : World R). state_of w.systems other) did.world
         ∙ step-down (meaning before.world.rules) (lawful before.world.rules) before.world is.safe e step other down) journals.0 journals.1
-        (same-overrun did.overruns other);
+        (same-cause (did.causes ∙ quiet-step e before.causes step) other);
     falls = λ is_whole other up down.
         absurd (both_ways (is_up before.world other)
         (sym (step-up (meaning before.world.rules) (lawful before.world.rules) before.world is.safe e step other)
@@ -379,7 +393,7 @@ module _ {R A V : Type 0} (meaning : R → Meaning) (lawful : (r : R) → IsLawf
     counts = counted-same did.no_faults;
     stays = λ other least down.
         let journals = same-journals did.journals other in
-        same-state other down (ap (λ (w : World R). state_of w.systems other) did.world) journals.0 journals.1 (same-overrun did.overruns other);
+        same-state other down (ap (λ (w : World R). state_of w.systems other) did.world) journals.0 journals.1 (same-cause did.causes other);
     falls = λ is_whole other up down. absurd (both_ways (is_up before.world other) (sym (ap (λ (w : World R). is_up w other) did.world) ∙ down) up);
   }
 
@@ -388,11 +402,11 @@ module _ {R A V : Type 0} (meaning : R → Meaning) (lawful : (r : R) → IsLawf
     one-fall : (whole : Bool) (system : ℕ) (rest : Option Record) → is_works_rest rest ≡ true → is_up before.world system ≡ true
         → after.world ≡ happens (meaning before.world.rules) before.world (Fall system rest) → after.world ≡ with_fall before.world system rest
         → after.journals ≡ before.journals
-        → ((other : ℕ) → 1 ≤ other → is_up before.world other ≡ false → overrun_at after other ≡ overrun_at before other)
+        → ((other : ℕ) → 1 ≤ other → is_up before.world other ≡ false → cause_at after other ≡ cause_at before other)
         → ((place : ℕ) → HasNotFallen (faults before.vols place) (faults after.vols place))
         → ((other : ℕ) → 1 ≤ other → is_up after.world other ≡ true → faults after.vols (other - 1) ≡ faults before.vols (other - 1))
         → HasCause meaning faults before after system rest → WentOn meaning faults may whole before after
-    one-fall whole system rest works up world fall journals overruns counts unharmed cause = record {
+    one-fall whole system rest works up world fall journals causes counts unharmed cause = record {
       events = Fall system rest ∷ [];
       each = and_from (may (Fall system rest)) true (falls system rest works) refl;
       world = world;
@@ -409,7 +423,7 @@ module _ {R A V : Type 0} (meaning : R → Meaning) (lawful : (r : R) → IsLawf
       stays = λ other least down.
           let same = same-journals journals other in
           same-state other down (ap (λ (w : World R). state_of w.systems other) fall ∙ fall-down before.world system up rest other down) same.0 same.1
-          (overruns other least down);
+          (causes other least down);
       falls = λ is_whole other was down.
           let its : other ≡ system = fall-only before.world system up rest other was (sym (ap (λ (w : World R). is_up w other) fall) ∙ down) in
           subst (λ s. HasCause meaning faults before after s (rest_of after.world s)) (sym its)
@@ -487,12 +501,11 @@ module _ {R A V : Type 0} (meaning : R → Meaning) (lawful : (r : R) → IsLawf
           | inl failed ↦
               one-fall whole it.system (Some it.next) (works-of e it step did.1) up failed.world
               (fell-failed meaning lawful faults before after is e did failed)
-              failed.journals (λ other least down. same-overrun failed.overruns other) (failed-counts it failed)
-              (failed-unharmed it up failed (fell-failed meaning lawful faults before after is e did failed)) (failed-risen it failed, failed.untold)
+              failed.journals (other-cause it.system Faulted up failed.causes) (failed-counts it failed)
+              (failed-unharmed it up failed (fell-failed meaning lawful faults before after is e did failed)) (failed-risen it failed, failed.told)
           | inr full ↦
               one-fall whole it.system None refl up full.world (fell-full meaning lawful faults before after is e did full) full.journals
-              (λ other least down. ap (λ all. overrun_in all other) full.overruns
-              ∙ get_or-set_other before.overruns (it.system - 1) (other - 1) (Some full.size) None (places-differ it.system other up least down))
+              (other-cause it.system (Overran full.size) up full.causes)
               (λ place. inl (omega (arith, ap (λ (vols : V). faults vols place) full.vols)))
               (λ other least still. ap (λ (vols : V). faults vols (other - 1)) full.vols)
               (unfit e it step did.1 up (fell-full meaning lawful faults before after is e did full) full)
@@ -532,7 +545,7 @@ module _ {R A V : Type 0} (meaning : R → Meaning) (lawful : (r : R) → IsLawf
               same-state other down
               (ap (λ (w : World R). state_of w.systems other) fall
               ∙ fall-down between it.system still None other (step-up rules law before.world is.safe e step other ∙ down)
-              ∙ step-down rules law before.world is.safe e step other down) journals.0 journals.1 (same-overrun did.overruns other);
+              ∙ step-down rules law before.world is.safe e step other down) journals.0 journals.1 (other-cause it.system Short up did.causes other least down);
           falls = λ is_whole. absurd (cc);
         }
 

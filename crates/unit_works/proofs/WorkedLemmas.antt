@@ -24,7 +24,7 @@ use Rattle.trfc_protocol.specs.Meaning.{Meaning}
 use Rattle.trfc_protocol.specs.Offered.{answer_to, offers_received_now}
 use Rattle.trfc_protocol.specs.Worlds.{claim_of, committed_unit, is_up, log_of, without_claim}
 use Rattle.trfc_protocol.proofs.SafeLemmas.{committed_unit-is}
-use Rattle.kept_world.specs.Kept.{KeptOf}
+use Rattle.unit_landscape.specs.KeptWorlds.{KeptOf}
 use Rattle.unit_landscape.specs.declared.answers.Arrival.{Arrival}
 use Rattle.unit_landscape.specs.declared.answers.Arrival.TheVariants as arrival
 use Rattle.unit_landscape.specs.declared.answers.Reply.{Reply}

@@ -8,7 +8,7 @@ use Rattle.trfc_protocol.specs.declared.world.World.{World}
 use Rattle.trfc_protocol.specs.declared.world.SystemState.{SystemState}
 use Rattle.trfc_protocol.specs.Worlds.{is_up, state_of, state_with, state_down, with_state, with_state_at, with_record, with_fall, one_fall_more}
 use Rattle.trfc_protocol.proofs.WorldLemmas.{is_up-known}
-use Rattle.world_tables.specs.Joining.{without_named, after_record}
+use Rattle.unit_landscape.specs.Joining.{without_named, after_record}
 use Rattle.unit_works.specs.Finished.{is_ending, endings_in, finished_in}
 
 -- ---- sums over the systems

@@ -5,7 +5,7 @@ use Rattle.trfc_protocol.specs.Meaning.{Meaning}
 use Rattle.trfc_protocol.specs.Offered.{answer_to, is_offered_inbound, is_offered_outbound, offers_received_now}
 use Rattle.trfc_protocol.specs.Worlds.{claim_of, committed_unit}
 use Rattle.unit_core.specs.declared.ale_unit.AleUnit.{AleUnit}
-use Rattle.kept_world.specs.Answers.{first_to_go}
+use Rattle.unit_landscape.specs.LogAnswers.{first_to_go}
 use Rattle.trfc_protocol.specs.declared.held.Held.{Held}
 use Rattle.trfc_protocol.specs.declared.held.HeldKind.TheVariants.{In, Out}
 use Rattle.trfc_protocol.specs.declared.world.World.{World}

@@ -10,7 +10,7 @@ use Rattle.unit_core.specs.declared.ale_unit.AleUnit.{AleUnit}
 use Rattle.trfc_protocol.specs.declared.world.World.{World}
 use Rattle.trfc_protocol.specs.Worlds.{committed_unit, log_of}
 use Rattle.trfc_protocol.specs.Offered.{is_offered_outbound, is_offered_inbound}
-use Rattle.kept_world.specs.Kept.{KeptOf}
+use Rattle.unit_landscape.specs.KeptWorlds.{KeptOf}
 use Rattle.document_state.specs.declared.document_tables.DocumentTables.{DocumentTables}
 use Rattle.document_state.specs.declared.model_rules.ModelRules.{ModelRules}
 use Rattle.document_state.specs.Meaning.{model_meaning}

@@ -7,7 +7,7 @@ use Rattle.unit_core.specs.declared.ale_unit.AleUnit.{AleUnit}
 use Rattle.unit_core.specs.Filters.{done_in}
 use Rattle.unit_core.specs.Queues.{is_listed}
 use Rattle.trfc_protocol.specs.Worlds.{committed_unit, is_up, log_of}
-use Rattle.kept_world.specs.Kept.{KeptOf}
+use Rattle.unit_landscape.specs.KeptWorlds.{KeptOf}
 use Rattle.document_state.specs.declared.document_tables.DocumentTables.{DocumentTables}
 use Rattle.document_state.specs.Meaning.{model_meaning}
 use Rattle.unit_works.specs.Acts.{Act, takes}

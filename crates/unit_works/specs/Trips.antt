@@ -21,7 +21,8 @@ use Rattle.trfc_protocol.specs.declared.held.HeldKind.{HeldKind}
 use Rattle.trfc_protocol.specs.declared.held.HeldKind.TheVariants as kind
 use Rattle.trfc_protocol.specs.Offered.{is_stopped_outbound, is_stopped_inbound, may_move, offers_received_now}
 use Rattle.trfc_protocol.specs.RecordOf.{Writing}
-use Rattle.kept_world.specs.Kept.{KeptOf, overrun_at}
+use Rattle.unit_landscape.specs.declared.cause.Cause.TheVariants.{Faulted, Overran}
+use Rattle.unit_landscape.specs.KeptWorlds.{KeptOf, cause_at}
 use Rattle.unit_landscape.specs.Writes.{IsTooLong}
 use Rattle.unit_works.specs.declared.letter.Letter.{Letter}
 use Rattle.unit_works.specs.Events.{arrives_under, is_answered_under, is_confirmed_under, is_sent_under}
@@ -39,18 +40,19 @@ pub record Wholly {R : Type 0} (before after : World R) (added : List Writing) :
   pub grew : HaveGrown before after added
   pub stand : (system : ℕ) → (is_up after system ≡ is_up before system) × (rest_of after system ≡ rest_of before system)
 
--- A record did not fit on the volume of its system: that may find nothing, and the landscape keeps how long the volume would have been with
+-- A record did not fit on the volume of its system: that may find nothing, and the landscape tells how long the volume would have been with
 -- this very record.
 pub record DidNotFit {R A V : Type 0} (after : KeptOf R A V) (next : Writing) : Type 0 where
   pub nothing : rest_of after.world next.system ≡ None
   pub size : ℕ
   pub long : IsTooLong after next size
-  pub told : overrun_at after next.system ≡ Some size
+  pub told : cause_at after next.system ≡ Overran size
 
--- A volume failed as a record was to be appended, and its faults rose (`HasCause`): its system may find that record, and no length is kept.
+-- A volume failed as a record was to be appended, and its faults rose (`HasCause`): its system may find that record, and the landscape tells
+-- that it is down by a fault.
 pub record HasFailed {R A V : Type 0} (after : KeptOf R A V) (next : Writing) : Type 0 where
   pub finds : rest_of after.world next.system ≡ Some next.next
-  pub untold : overrun_at after next.system ≡ None
+  pub told : cause_at after next.system ≡ Faulted
 
 -- These records were appended, one after the other, and a system fell as it was to append one more: its volume failed, and it may find that
 -- one; or that one did not fit. All other systems are up or down as before, and may find what they might.

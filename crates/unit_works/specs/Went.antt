@@ -12,7 +12,8 @@ use Rattle.trfc_protocol.specs.Meaning.{Meaning}
 use Rattle.trfc_protocol.specs.Legal.{may_follow}
 use Rattle.trfc_protocol.specs.Worlds.{committed_unit, is_up, log_of, rest_of}
 use Rattle.unit_journal.specs.OnDisk.{last_moment, later, moment_of, moments_at, next_moment}
-use Rattle.kept_world.specs.Kept.{KeptOf, overrun_at}
+use Rattle.unit_landscape.specs.declared.cause.Cause.TheVariants.{Faulted, Overran}
+use Rattle.unit_landscape.specs.KeptWorlds.{KeptOf, cause_at}
 use Rattle.unit_landscape.specs.Writes.{IsTooLong}
 use Rattle.unit_works.specs.Events.{is_works_record}
 
@@ -26,7 +27,7 @@ HasRisen before after = (before < after) ⊎ (2 ^ 64 - 1 ≤ after)
 
 module _ {R A V : Type 0} (meaning : R → Meaning) (faults : V → ℕ → ℕ) (before after : KeptOf R A V) (system : ℕ) where
   -- A record that a work appends is too long for the volume of a system: it may follow the log there, and a unit that it takes in was
-  -- committed. The landscape keeps how long the volume would have been.
+  -- committed. The landscape tells that, and how long the volume would have been.
   pub record IsUnfit : Type 0 where
     pub next : Record
     pub works : is_works_record next ≡ true
@@ -34,22 +35,21 @@ module _ {R A V : Type 0} (meaning : R → Meaning) (faults : V → ℕ → ℕ)
     pub sent : (unit : AleUnit) → taken_by next ≡ Some unit → committed_unit (meaning after.world.rules) after.world unit.tid ≡ Some unit
     pub size : ℕ
     pub long : IsTooLong after (record { system = system; next = next }) size
-    pub told : overrun_at after system ≡ Some size
+    pub told : cause_at after system ≡ Overran size
 
-  -- why a system is down that was up: its volume failed as it was to write a record, which it may find, and no length is kept; or a record
-  -- did not fit on it
+  -- why a system is down that was up: its volume failed as it was to write a record, which it may find; or a record did not fit on it
   abbrev pub HasCause : Option Record → Type 0
-  HasCause (Some next) = HasRisen (faults before.vols (system - 1)) (faults after.vols (system - 1)) × (overrun_at after system ≡ None)
+  HasCause (Some next) = HasRisen (faults before.vols (system - 1)) (faults after.vols (system - 1)) × (cause_at after system ≡ Faulted)
   HasCause None = IsUnfit
 
--- a system is down as it was before, with its log and the moments of that, what it may find, and what is kept of its length
+-- a system is down as it was before, with its log and the moments of that, what it may find, and why it is down
 pub record StaysDown {R A V : Type 0} (before after : KeptOf R A V) (system : ℕ) : Type 0 where
   pub down : is_up after.world system ≡ false
   pub rest : rest_of after.world system ≡ rest_of before.world system
   pub log : log_of after.world system ≡ log_of before.world system
   pub moments : moments_at after.journals (system - 1) ≡ moments_at before.journals (system - 1)
   pub moment : next_moment after.journals (system - 1) ≡ next_moment before.journals (system - 1)
-  pub overrun : overrun_at after system ≡ overrun_at before system
+  pub cause : cause_at after system ≡ cause_at before system
 
 -- each log is the one before with records behind it that works append
 abbrev pub HaveWorksBehind : {R : Type 0} → World R → World R → Type 0

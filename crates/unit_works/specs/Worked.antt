@@ -5,7 +5,7 @@ use Rattle.trfc_protocol.specs.declared.event.Event.{Event}
 use Rattle.trfc_protocol.specs.declared.world.World.{World}
 use Rattle.trfc_protocol.specs.Offered.{is_offered_outbound, is_offered_inbound}
 use Rattle.trfc_protocol.specs.Worlds.{is_up}
-use Rattle.kept_world.specs.Kept.{KeptOf}
+use Rattle.unit_landscape.specs.KeptWorlds.{KeptOf}
 use Rattle.document_state.specs.declared.document_tables.DocumentTables.{DocumentTables}
 use Rattle.document_state.specs.declared.model_rules.ModelRules.{ModelRules}
 use Rattle.document_state.specs.Meaning.{model_meaning}
@@ -20,7 +20,7 @@ pub record HaveOnlyClaimed {R A V : Type 0} (before after : KeptOf R A V) : Type
   pub world : after.world ≡ record before.world { claims = after.world.claims; next_number = after.world.next_number }
   pub journals : after.journals ≡ before.journals
   pub vols : after.vols ≡ before.vols
-  pub overruns : after.overruns ≡ before.overruns
+  pub causes : after.causes ≡ before.causes
 
 -- what is kept of the letters that are left of units
 abbrev pub Lines : Type 0

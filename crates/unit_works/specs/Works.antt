@@ -9,8 +9,8 @@ use Rattle.trfc_protocol.specs.declared.held.Held.{Held}
 use Rattle.trfc_protocol.specs.declared.held.HeldKind.TheVariants.{In}
 use Rattle.trfc_protocol.specs.Offered.{is_stopped_inbound, is_stopped_outbound, may_move}
 use Rattle.trfc_protocol.specs.Worlds.{committed_unit, log_of, without_claim}
-use Rattle.kept_world.specs.Kept.{KeptOf}
-use Rattle.kept_world.specs.Answers.{first_to_go}
+use Rattle.unit_landscape.specs.KeptWorlds.{KeptOf}
+use Rattle.unit_landscape.specs.LogAnswers.{first_to_go}
 use Rattle.document_state.specs.declared.document_tables.DocumentTables.{DocumentTables}
 use Rattle.document_state.specs.declared.model_rules.ModelRules.{ModelRules}
 use Rattle.document_state.specs.Meaning.{model_meaning}

@@ -50,6 +50,7 @@ fn unit_of<V: Volumes>(landscape: &Landscape<V>, claim: &OutClaim) -> Result<Ale
     let _ = landscape.world();
     match landscape.unit(claim.tid()) {
         Some(unit) => Ok(unit.clone()?),
+        // A claim is one on a unit that was committed.
         None => unreachable!(),
     }
 }

@@ -52,7 +52,7 @@ pub fn confirm<V: Volumes>(landscape: &mut Landscape<V>, tid: Tid) -> Result<(),
     confirm_done(landscape, tid)
 }
 
-/// The same of a unit that is done.
+/// Sends the confirmation of a unit that is done, and then the reply to it.
 fn confirm_done<V: Volumes>(landscape: &mut Landscape<V>, tid: Tid) -> Result<(), OutOfMemory>
     requires done { is_listed tid (done_in (log_of landscape.old.world tid.system)) ≡ true }
     ensures went { Worked V.faults landscape.old landscape.new is_confirmation (is_ok result) }

@@ -28,6 +28,7 @@ pub fn confirm_all<V: Volumes>(
 {
     for number in 0..SystemNo::MAX {
         let Some(system) = SystemNo::of(number + 1) else {
+            // Each number from 1 to 16 is that of a system.
             unreachable!()
         };
         confirm_at(landscape, wires, system)?;

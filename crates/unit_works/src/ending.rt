@@ -43,7 +43,7 @@ pub(crate) fn finish<V: Volumes>(
     Ok(finished)
 }
 
-/// The same, with what was prepared for it, or is prepared now.
+/// The work of a claim ends with what was prepared for it, or is prepared now.
 fn finish_ready<V: Volumes>(
     alloc: Global,
     landscape: &mut Landscape<V>,
@@ -65,7 +65,7 @@ fn finish_ready<V: Volumes>(
     }
 }
 
-/// The same, with what is prepared for it now.
+/// The work of a claim ends with what is prepared for it now.
 fn finish_prepared<V: Volumes>(
     alloc: Global,
     landscape: &mut Landscape<V>,

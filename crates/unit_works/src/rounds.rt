@@ -28,7 +28,7 @@ pub(crate) fn go_round<V: Volumes>(
     Ok(found)
 }
 
-/// The same, by the numbers of the systems.
+/// Ships and executes the first unit that is offered at each system, by their numbers. None exactly where nothing is offered.
 fn visit_all<V: Volumes>(
     alloc: Global,
     landscape: &mut Landscape<V>,
@@ -40,6 +40,7 @@ fn visit_all<V: Volumes>(
     let mut found = None;
     for number in 0..SystemNo::MAX {
         let Some(system) = SystemNo::of(number + 1) else {
+            // Each number from 1 to 16 is that of a system.
             unreachable!()
         };
         let here = visit(alloc, landscape, wires, system)?;

@@ -1,7 +1,7 @@
 -- Units are claimed.
 use Rattle.std.specs.Prelude.{ℕ, Bool}
 use Rattle.trfc_protocol.specs.declared.world.World.{World}
-use Rattle.kept_world.specs.Kept.{KeptOf}
+use Rattle.unit_landscape.specs.KeptWorlds.{KeptOf}
 use Rattle.document_state.specs.declared.document_tables.DocumentTables.{DocumentTables}
 use Rattle.document_state.specs.declared.model_rules.ModelRules.{ModelRules}
 use Rattle.unit_works.specs.Drained.{IsIdle}

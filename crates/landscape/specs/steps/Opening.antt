@@ -4,13 +4,13 @@ use Rattle.ale_volumes.specs.declared.volume.Volume.{Volume as OneVolume}
 use Rattle.ale_volumes.specs.Clock.{KeepsVolume}
 use Rattle.unit_journal.specs.Log.{Stands}
 use Rattle.unit_journal.specs.OnDisk.{count_of, moment_of, moments_at}
-use Rattle.kept_world.specs.Kept.{KeptOf}
-use Rattle.landscape_opening.specs.declared.beginning.BeginEnd.{BeginEnd}
-use Rattle.landscape_opening.specs.declared.beginning.BeginEnd.TheVariants as begin
-use Rattle.landscape_opening.specs.declared.opening.fault.OpenFault.{OpenFault}
-use Rattle.landscape_opening.specs.declared.opening.fault.OpenFault.TheVariants as open_fault
-use Rattle.landscape_opening.specs.declared.opening.fault.NotOpened.{NotOpened}
-use Rattle.landscape_opening.specs.Opening.{begun_world}
+use Rattle.unit_landscape.specs.KeptWorlds.{KeptOf}
+use Rattle.unit_landscape.specs.declared.beginning.BeginEnd.{BeginEnd}
+use Rattle.unit_landscape.specs.declared.beginning.BeginEnd.TheVariants as begin
+use Rattle.unit_landscape.specs.declared.opening.fault.OpenFault.{OpenFault}
+use Rattle.unit_landscape.specs.declared.opening.fault.OpenFault.TheVariants as open_fault
+use Rattle.unit_landscape.specs.declared.opening.fault.NotOpened.{NotOpened}
+use Rattle.unit_landscape.specs.Opening.{begun_world}
 use Rattle.document_state.specs.declared.document_tables.DocumentTables.{DocumentTables}
 use Rattle.document_state.specs.declared.model_rules.ModelRules.{ModelRules}
 use Rattle.landscape.specs.declared.open_end.OpenEnd.{OpenEnd}

@@ -8,12 +8,12 @@ use Rattle.status_log.specs.declared.refusal.Refusal.TheVariants.{N2, N10, Volum
 use Rattle.trfc_protocol.specs.declared.event.Event.{Event}
 use Rattle.trfc_protocol.specs.declared.world.World.{World}
 use Rattle.trfc_protocol.specs.Worlds.{is_up, log_of}
-use Rattle.kept_world.specs.declared.append_end.AppendEnd.{AppendEnd}
-use Rattle.kept_world.specs.declared.append_end.AppendEnd.TheVariants as end
+use Rattle.unit_landscape.specs.declared.append_end.AppendEnd.{AppendEnd}
+use Rattle.unit_landscape.specs.declared.append_end.AppendEnd.TheVariants as end
 use Rattle.unit_landscape.specs.declared.answers.OperatorEnd.{OperatorEnd}
 use Rattle.unit_landscape.specs.declared.answers.OperatorEnd.TheVariants as operator
-use Rattle.kept_world.specs.Kept.{KeptOf}
-use Rattle.kept_world.specs.Answers.{KeepsVolumes}
+use Rattle.unit_landscape.specs.KeptWorlds.{KeptOf}
+use Rattle.unit_landscape.specs.LogAnswers.{KeepsVolumes}
 use Rattle.unit_landscape.specs.Ends.{Happened, Failed, IsFull, Stays, FellBehind}
 use Rattle.unit_landscape.specs.Writes.{WritesOnly}
 use Rattle.unit_landscape.specs.Appending.{at}

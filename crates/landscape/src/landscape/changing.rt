@@ -14,7 +14,7 @@ use status_log::{Refusal, Status};
 impl<V: Volumes> Landscape<V> {
     ghost use Rattle.std.specs.Prelude.{◌≡◌, ◌⊎◌, true, IfOk};
     ghost use Rattle.trfc_protocol.specs.Worlds.{is_up, log_of};
-    ghost use Rattle.kept_world.specs.Answers.{KeepsVolumes};
+    ghost use Rattle.unit_landscape.specs.LogAnswers.{KeepsVolumes};
     ghost use Rattle.unit_landscape.specs.Writes.{WritesOnly};
     ghost use Rattle.unit_landscape.specs.Appending.{at};
     ghost use Rattle.landscape.specs.Asked.{asked_put, asked_app, asked_repost, pointers_noted};

@@ -21,7 +21,7 @@ impl<V: Volumes> Landscape<V> {
     ghost use Rattle.trfc_protocol.specs.declared.event.Event.TheVariants as event;
     ghost use Rattle.trfc_protocol.specs.Legal.{is_commit};
     ghost use Rattle.trfc_protocol.specs.Worlds.{log_of};
-    ghost use Rattle.kept_world.specs.Answers.{KeepsVolumes};
+    ghost use Rattle.unit_landscape.specs.LogAnswers.{KeepsVolumes};
     ghost use Rattle.unit_landscape.specs.Writes.{WritesOnly};
     ghost use Rattle.unit_landscape.specs.Appending.{at};
     ghost use Rattle.document_state.specs.declared.made.Made.TheVariants as made;
@@ -152,6 +152,7 @@ impl<V: Volumes> Landscape<V> {
     {
         match made {
             Made::Sent(added) => self.commit_added(system, next, added),
+            // A Commit and a Dispatch make documents that are sent.
             _ => unreachable!(),
         }
     }

@@ -18,6 +18,7 @@ impl<V: Volumes> Landscape<V> {
         let mut all = Counts::of_units(0);
         for number in 0..SystemNo::MAX {
             let Some(system) = SystemNo::of(number + 1) else {
+                // Each number from 1 to 16 is that of a system.
                 unreachable!()
             };
             all = all.with(self.counts_at(system));

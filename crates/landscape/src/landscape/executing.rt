@@ -108,8 +108,8 @@ impl<V: Volumes> Landscape<V> {
     ///
     /// `N6` comes where the landscape has no system of the id; `N2` else where the sender is down; `N6` else where it committed no such
     /// unit; `N7` else where the unit is not marked CPICERR since its last Retry, or is done; `N10` else where the receiver's journal is
-    /// full: the receiver stays up. Every refusal leaves all as it was, but that on `N10` of a run the number of its claim is used up.
-    /// After `OutOfMemory` nothing else has changed, or the record stands in its log and the receiver is down behind it.
+    /// full: the receiver stays up. Every refusal leaves all as it was. After `OutOfMemory` nothing has changed, or the record stands in
+    /// its log and the receiver is down behind it.
     pub fn late(&mut self, tid: Tid) -> Result<Late, Refusal>
         requires alone { is_claimed Direct tid self.old.world.claims ≡ false }
         ensures ends { CameOrRefused V.faults self.old self.new tid result }
@@ -119,7 +119,7 @@ impl<V: Volumes> Landscape<V> {
         late_refused(self.late_ended(tid))
     }
 
-    /// The same, with the reason why no request came.
+    /// A late request comes, or the reason is given why none may.
     fn late_ended(&mut self, tid: Tid) -> Result<Late, LateEnd>
         requires alone { is_claimed Direct tid self.old.world.claims ≡ false }
         ensures ends { LateAs (model_meaning self.old.world.rules.systems) V.faults self.old self.new tid result }

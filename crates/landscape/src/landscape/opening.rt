@@ -6,8 +6,8 @@ ghost use Rattle.said_models.specs.Said.{said};
 ghost use Rattle.unit_core.specs.declared.records.Record.TheVariants.{Genesis};
 ghost use Rattle.trfc_protocol.specs.Start.{first_state};
 ghost use Rattle.trfc_protocol.specs.Worlds.{with_record};
-ghost use Rattle.landscape_opening.specs.declared.beginning.TheConstants.{MOST_TEXT};
-ghost use Rattle.landscape_opening.specs.Opening.{begun_world};
+ghost use Rattle.unit_landscape.specs.declared.beginning.TheConstants.{MOST_TEXT};
+ghost use Rattle.unit_landscape.specs.Opening.{begun_world};
 ghost use Rattle.landscape.specs.steps.Opening.{AreBegunSoFar, AreOpened, BeginsAs, BeginsNext, OpensAs, begun_of, opened_of};
 
 use super::Landscape;
@@ -16,11 +16,10 @@ use ale_base::{Items, OutOfMemory, SystemNo};
 use ale_volumes::Volumes;
 use dist_model::Model;
 use document_state::{DocumentTables, Made, ModelRules};
-use kept_world::KeptWorld;
-use landscape_opening::{BeginEnd, NotOpened, Opening, begin, begun};
 use said_models::Readings;
 use std::alloc::Global;
 use std::sync::Arc;
+use unit_landscape::{BeginEnd, KeptWorld, NotOpened, Opening, begin, begun};
 
 /// The logs, claims and tables of a landscape, over its volumes.
 type Kept<V> = KeptWorld<ModelRules, DocumentTables, V>;
@@ -29,7 +28,7 @@ impl<V: Volumes> Landscape<V> {
     ghost use Rattle.std.specs.Prelude.{◌≡◌, ◌≤◌, Some, length, IfOk};
     ghost use Rattle.std.specs.Arc.{arc_value};
     ghost use Rattle.said_models.specs.Said.{said};
-    ghost use Rattle.landscape_opening.specs.declared.beginning.TheConstants.{MOST_TEXT};
+    ghost use Rattle.unit_landscape.specs.declared.beginning.TheConstants.{MOST_TEXT};
     ghost use Rattle.landscape.specs.Opened.{FaultsOpened, HasOpened, LeavesOpening, WhyOpened, vols_after};
 
     /// Opens the landscape of the systems of a model, over volumes that are empty: system i on volume i - 1. Each begins with a Genesis
@@ -217,6 +216,7 @@ fn begin_next<V: Volumes>(
         → BeginsNext V.told V.volume V.moment V.images_since V.faults many text.now set before (suc number) kept.new result }
 {
     let Some(system) = SystemNo::of(number + 1) else {
+        // There are 16 systems at most.
         unreachable!();
     };
     let Ok(text) = Items::from_slice(alloc, text) else {

@@ -18,7 +18,7 @@ impl<V: Volumes> Landscape<V> {
     ghost use Rattle.trfc_protocol.specs.Offered.{may_arrive, answer_to};
     ghost use Rattle.trfc_protocol.specs.RecordOf.{record_of};
     ghost use Rattle.trfc_protocol.specs.Worlds.{committed_unit, is_up, log_of, offers_now};
-    ghost use Rattle.kept_world.specs.Answers.{KeepsVolumes};
+    ghost use Rattle.unit_landscape.specs.LogAnswers.{KeepsDisk, KeepsVolumes};
     ghost use Rattle.unit_landscape.specs.declared.answers.Reply.TheVariants.{SysFail};
     ghost use Rattle.unit_landscape.specs.Calls.{Arrived, ClaimedIn, ClaimedOut, ClosedAs, ConfirmedAs, RepliedAs, is_forgotten, is_offered_function, reply_event};
     ghost use Rattle.unit_landscape.specs.Ends.{Happened, IsShort};
@@ -63,7 +63,7 @@ impl<V: Volumes> Landscape<V> {
         ensures up { result ≡ is_up self.old.world system }
         ensures event { result ≡ true → Happened (model_meaning self.old.world.rules.systems) V.faults self.old self.new (event.Fall system None) }
         ensures same { result ≡ false → self.new ≡ self.old }
-        ensures volumes { KeepsVolumes self.old self.new }
+        ensures volumes { KeepsDisk self.old self.new }
     {
         let _ = self.units.world();
         self.units.crash(system)

@@ -44,7 +44,7 @@ down_end_of size None None = None
 
 -- the ending behind a command that ended so, if it ends the run
 abbrev pub end_behind : {V : Type 0} → Stage V → TurnEnd → Option RunEnd
-end_behind stage turn.Done = down_end_of (length_at stage) (first_faulted stage.landscape.world) (first_down stage.landscape.world)
+end_behind stage turn.Done = down_end_of (length_at stage) (first_faulted stage) (first_down stage.landscape.world)
 end_behind stage turn.WriteFailed = Some end.WriteFailed
 end_behind stage turn.OutOfMemory = Some end.OutOfMemory
 

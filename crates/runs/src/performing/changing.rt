@@ -32,7 +32,7 @@ pub(super) fn put<V: Volumes>(
     }
 }
 
-/// The same at a system.
+/// `put` at a system that the model names.
 fn put_at<V: Volumes>(
     stage: &mut Stage<V>,
     inputs: &Inputs,
@@ -65,7 +65,7 @@ pub(super) fn app<V: Volumes>(
     }
 }
 
-/// The same at a system.
+/// `app` at a system that the model names.
 fn app_at<V: Volumes>(
     stage: &mut Stage<V>,
     inputs: &Inputs,
@@ -98,7 +98,7 @@ pub(super) fn repost<V: Volumes>(
     }
 }
 
-/// The same at a system.
+/// `repost` at a system that the model names.
 fn repost_at<V: Volumes>(
     stage: &mut Stage<V>,
     inputs: &Inputs,

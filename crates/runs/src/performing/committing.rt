@@ -34,7 +34,7 @@ pub(super) fn send<V: Volumes>(
     }
 }
 
-/// The same at a system.
+/// `send` at a system that the model names.
 fn send_at<V: Volumes>(
     stage: &mut Stage<V>,
     inputs: &Inputs,
@@ -77,7 +77,7 @@ pub(super) fn gather<V: Volumes>(
     }
 }
 
-/// The same at a system.
+/// `gather` at a system that the model names.
 fn gather_at<V: Volumes>(
     stage: &mut Stage<V>,
     inputs: &Inputs,
@@ -120,7 +120,7 @@ pub(super) fn dispatch<V: Volumes>(
     }
 }
 
-/// The same at a system.
+/// `dispatch` at a system that the model names.
 fn dispatch_at<V: Volumes>(
     stage: &mut Stage<V>,
     inputs: &Inputs,

@@ -40,7 +40,7 @@ pub(super) fn stop<V: Volumes>(
     }
 }
 
-/// The same at a system.
+/// `stop` at a system that the model names, of a queue to one or of an inbound one.
 fn stop_at<V: Volumes>(
     stage: &mut Stage<V>,
     inputs: &Inputs,
@@ -77,7 +77,7 @@ pub(super) fn start<V: Volumes>(
     }
 }
 
-/// The same at a system.
+/// `start` at a system that the model names, of a queue to one or of an inbound one.
 fn start_at<V: Volumes>(
     stage: &mut Stage<V>,
     inputs: &Inputs,
@@ -107,7 +107,7 @@ pub(super) fn retry<V: Volumes>(
     }
 }
 
-/// The same at a system.
+/// `retry` at a system that the model names.
 fn retry_at<V: Volumes>(
     stage: &mut Stage<V>,
     inputs: &Inputs,

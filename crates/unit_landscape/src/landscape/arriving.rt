@@ -19,7 +19,7 @@ impl<R: Rules, A: Application, V: Volumes> UnitLandscape<R, A, V> {
     ghost use Rattle.trfc_protocol.specs.Worlds.{committed_unit, is_up, offers_now};
     ghost use Rattle.trfc_protocol.specs.Offered.{may_arrive, answer_to};
     ghost use Rattle.trfc_protocol.specs.RecordOf.{record_of};
-    ghost use Rattle.kept_world.specs.Answers.{KeepsVolumes};
+    ghost use Rattle.unit_landscape.specs.LogAnswers.{KeepsVolumes};
     ghost use Rattle.unit_landscape.specs.Writes.{DiskAs};
     ghost use Rattle.unit_landscape.specs.Ends.{IsShort};
     ghost use Rattle.unit_landscape.specs.Calls.{Arrived};

@@ -1,13 +1,12 @@
 //! Claims that are made, looked up and given up, and a system that falls. Nothing here appends a record.
 
 use super::UnitLandscape;
-use crate::{InClaim, OutClaim};
+use crate::{Cause, ClaimEnd, InClaim, OutClaim};
 use ale_base::{OutOfMemory, SystemNo, Tid, Way};
 use ale_volumes::Volumes;
 use system_tables::Application;
 use trfc_protocol::{HeldKind, Rules};
 use unit_core::AleUnit;
-use world_tables::ClaimEnd;
 
 impl<R: Rules, A: Application, V: Volumes> UnitLandscape<R, A, V> {
     ghost use Rattle.std.specs.Prelude.{◌≡◌, true, false, None, IfOk, OnErr};
@@ -15,7 +14,7 @@ impl<R: Rules, A: Application, V: Volumes> UnitLandscape<R, A, V> {
     ghost use Rattle.trfc_protocol.specs.declared.event.Event.TheVariants as event;
     ghost use Rattle.trfc_protocol.specs.declared.event.Action.TheVariants.{Revoke};
     ghost use Rattle.trfc_protocol.specs.Worlds.{is_up};
-    ghost use Rattle.kept_world.specs.Answers.{KeepsVolumes};
+    ghost use Rattle.unit_landscape.specs.LogAnswers.{KeepsDisk, KeepsVolumes};
     ghost use Rattle.unit_landscape.specs.Ends.{Happened};
     ghost use Rattle.unit_landscape.specs.Calls.{stands_out, ClaimedOut, ClaimedIn};
     ghost use Rattle.unit_landscape.specs.Claiming.{IsNextOut, IsNextIn};
@@ -39,6 +38,7 @@ impl<R: Rules, A: Application, V: Volumes> UnitLandscape<R, A, V> {
                 receiver,
                 opening,
             })),
+            // What is claimed is the first unit that is offered.
             Err(ClaimEnd::NotOffered(_)) => unreachable!(),
             Err(ClaimEnd::OutOfMemory) => Err(OutOfMemory),
         }
@@ -62,6 +62,7 @@ impl<R: Rules, A: Application, V: Volumes> UnitLandscape<R, A, V> {
                 system,
                 opening,
             })),
+            // What is claimed is the first unit that is offered.
             Err(ClaimEnd::NotOffered(_)) => unreachable!(),
             Err(ClaimEnd::OutOfMemory) => Err(OutOfMemory),
         }
@@ -91,12 +92,12 @@ impl<R: Rules, A: Application, V: Volumes> UnitLandscape<R, A, V> {
         ensures up { result ≡ is_up self.old.world system }
         ensures event { result ≡ true → Happened (R.meaning self.old.world.rules) V.faults self.old self.new (event.Fall system None) }
         ensures same { result ≡ false → self.new ≡ self.old }
-        ensures volumes { KeepsVolumes self.old self.new }
+        ensures volumes { KeepsDisk self.old self.new }
     {
         if !self.kept.world().is_up(system) {
             return false;
         }
-        self.kept.fall(system, None);
+        self.kept.fall(system, Cause::Crashed);
         true
     }
 

@@ -38,6 +38,7 @@ impl<R: Rules, A: Application, V: Volumes> UnitLandscape<R, A, V> {
     {
         let _ = self.kept.world();
         let Some(receiver) = self.receiver_of(tid) else {
+            // A unit that is done was committed, so it has a receiver.
             unreachable!()
         };
         if !self.kept.world().is_up(receiver) {

@@ -105,12 +105,14 @@ impl<R: Rules, A: Application, V: Volumes> UnitLandscape<R, A, V> {
             HeldKind::In => Ok(Record::Execute { tid: held.tid }),
             HeldKind::Direct => {
                 let Some(unit) = self.unit(held.tid) else {
+                    // A claim is one on a unit that was committed.
                     unreachable!()
                 };
                 Ok(Record::Direct {
                     unit: unit.clone()?,
                 })
             }
+            // The claim is one to execute.
             HeldKind::Out => unreachable!(),
         }
     }

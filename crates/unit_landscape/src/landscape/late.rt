@@ -2,14 +2,15 @@
 
 ghost use Rattle.std.specs.Prelude.{◌≡◌};
 ghost use Rattle.unit_landscape.specs.Kept.{IsLandscape};
-ghost use Rattle.unit_landscape.specs.Late.{is_marked_lost, late_of, GivesUp};
+ghost use Rattle.unit_landscape.specs.KeptWorlds.{KeptOf};
+ghost use Rattle.unit_landscape.specs.LogAnswers.{KeepsVolumes};
+ghost use Rattle.unit_landscape.specs.Late.{is_marked_lost, is_undone, late_of, IsGivenBack, GivesBack};
 
 use super::UnitLandscape;
 use crate::appending::record;
-use crate::{Late, LateEnd};
+use crate::{AppendEnd, KeptWorld, Late, LateEnd};
 use ale_base::{Mark, Tid, Way};
 use ale_volumes::Volumes;
-use kept_world::{AppendEnd, KeptWorld};
 use plain_queues::NotOffered;
 use system_tables::Application;
 use trfc_protocol::{Answer, Rules};
@@ -31,8 +32,8 @@ impl<R: Rules, A: Application, V: Volumes> UnitLandscape<R, A, V> {
     /// to its sender. Whether a receiver that is up offers the unit's function is handed in, so that no log is read for it. What was made
     /// for the application goes with the record of a run.
     ///
-    /// Every refusal leaves all as it was, but that on `Full` of a run the number of its claim is used up. After `OutOfMemory` nothing
-    /// else has changed, or the record stands in its log and the receiver is down behind it.
+    /// Every refusal leaves all as it was. After `OutOfMemory` nothing has changed, or the record stands in its log and the receiver is
+    /// down behind it.
     pub fn late(&mut self, tid: Tid, offered: bool, extra: A::Extra) -> Result<Late, LateEnd>
         requires offered { (unit : AleUnit) → committed_unit (R.meaning self.old.world.rules) self.old.world tid ≡ Some unit
             → is_up self.old.world unit.receiver ≡ true
@@ -56,6 +57,7 @@ impl<R: Rules, A: Application, V: Volumes> UnitLandscape<R, A, V> {
             Answer::Known => Ok(Late::Known),
             Answer::SysFail => Ok(Late::SysFail),
             Answer::Down => Ok(Late::Down),
+            // No direct run of the unit is claimed.
             Answer::Busy => unreachable!(),
         }
     }
@@ -105,7 +107,7 @@ impl<R: Rules, A: Application, V: Volumes> UnitLandscape<R, A, V> {
         came_late(record(&mut self.kept, receiver, next, &[], None, A::nothing()))
     }
 
-    /// A unit that comes late is run. Its claim is made for its record, and given up where that is not appended.
+    /// A unit that comes late is run. Its claim is made for its record, and taken back where that is not appended.
     fn run_late(&mut self, unit: AleUnit, extra: A::Extra) -> Result<Late, LateEnd>
         requires comes { ComesLate (R.meaning self.old.world.rules) self.old.world unit answer.Run }
         requires goes { (its : TablesOf A) → slice_get self.old.tables (unit.receiver - 1) ≡ Some its → A.goes_with its.application (log_of self.old.world unit.receiver) (log.Direct unit) extra }
@@ -121,25 +123,32 @@ impl<R: Rules, A: Application, V: Volumes> UnitLandscape<R, A, V> {
         };
         let next = Record::Direct { unit };
         let appended = record(&mut self.kept, receiver, next, &[], Some(number), extra);
-        give_up(&mut self.kept, number, &appended);
+        give_back(&mut self.kept, &appended);
         came_late(appended)
     }
 }
 
-/// Gives up the claim of a run whose record was not appended, where no system fell.
-fn give_up<R: Rules, A: Application, V: Volumes>(
+/// Takes the claim of a run back whose record was not appended, where no system fell.
+fn give_back<R: Rules, A: Application, V: Volumes>(
     kept: &mut KeptWorld<R, A, V>,
-    number: u64,
     appended: &Result<(), AppendEnd>,
 )
-    requires { IsLandscape R.meaning kept.old.world }
+    requires landscape { IsLandscape R.meaning kept.old.world }
+    requires known { (before : KeptOf R A V) × IsGivenBack R.meaning A.stands before kept.old appended.now }
     ensures landscape { IsLandscape R.meaning kept.new.world }
-    ensures gives { GivesUp kept.old kept.new number appended.now }
+    ensures volumes { KeepsVolumes kept.old kept.new }
+    ensures gives { (before : KeptOf R A V) → IsGivenBack R.meaning A.stands before kept.old appended.now → GivesBack before kept.old kept.new appended.now }
 {
-    match appended {
-        Err(AppendEnd::Full(_) | AppendEnd::Before) => kept.release(number),
-        _ => {}
+    if is_undone(appended) {
+        kept.give_back();
     }
+}
+
+/// Whether a record was not appended, though no system fell.
+fn is_undone(appended: &Result<(), AppendEnd>) -> bool
+    ensures { result ≡ is_undone appended.now }
+{
+    matches!(appended, Err(AppendEnd::Full(_) | AppendEnd::Before))
 }
 
 /// What came of a late request, by how its record was appended.

@@ -5,11 +5,10 @@ ghost use Rattle.trfc_protocol.specs.Legal.{is_destination};
 ghost use Rattle.unit_landscape.specs.Appending.{operated_of};
 
 use super::UnitLandscape;
-use crate::OperatorEnd;
 use crate::appending::record;
+use crate::{AppendEnd, OperatorEnd};
 use ale_base::{QueueName, SystemNo, Tid, Way};
 use ale_volumes::Volumes;
-use kept_world::AppendEnd;
 use system_tables::Application;
 use trfc_protocol::Rules;
 use unit_core::{AleUnit, Record};

@@ -23,6 +23,7 @@ impl<R: Rules, A: Application, V: Volumes> UnitLandscape<R, A, V> {
         let systems = self.kept.world().rules.systems();
         for number in 0..systems {
             let Some(system) = SystemNo::of(number + 1) else {
+                // There are 16 systems at most.
                 unreachable!()
             };
             if !self.is_quiet_at(system) {

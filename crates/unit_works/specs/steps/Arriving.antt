@@ -9,7 +9,7 @@ use Rattle.trfc_protocol.specs.declared.world.World.{World}
 use Rattle.trfc_protocol.specs.Meaning.{Meaning}
 use Rattle.trfc_protocol.specs.Offered.{answer_to}
 use Rattle.trfc_protocol.specs.Worlds.{claim_of, committed_unit}
-use Rattle.kept_world.specs.Kept.{KeptOf}
+use Rattle.unit_landscape.specs.KeptWorlds.{KeptOf}
 use Rattle.unit_landscape.specs.declared.answers.Arrival.{Arrival}
 use Rattle.unit_landscape.specs.declared.answers.Arrival.TheVariants.{New, Run, Known, Busy, SysFail, Down}
 use Rattle.unit_landscape.specs.declared.claims.InClaim.{InClaim}

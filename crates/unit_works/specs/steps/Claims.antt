@@ -1,6 +1,6 @@
 -- Claims that go.
 use Rattle.std.specs.Prelude.{◌≡◌, false, List, []}
-use Rattle.kept_world.specs.Kept.{KeptOf}
+use Rattle.unit_landscape.specs.KeptWorlds.{KeptOf}
 use Rattle.trfc_protocol.specs.RecordOf.{Writing}
 use Rattle.unit_works.specs.Trips.{AppendedAs}
 

@@ -6,7 +6,7 @@ use Rattle.unit_core.specs.declared.records.Record.TheVariants.{Forget}
 use Rattle.trfc_protocol.specs.declared.world.World.{World}
 use Rattle.trfc_protocol.specs.RecordOf.{Writing}
 use Rattle.trfc_protocol.specs.Meaning.{Meaning}
-use Rattle.kept_world.specs.Kept.{KeptOf}
+use Rattle.unit_landscape.specs.KeptWorlds.{KeptOf}
 use Rattle.unit_landscape.specs.declared.answers.Confirmed.{Confirmed}
 use Rattle.unit_landscape.specs.declared.answers.Confirmed.TheVariants.{Forgotten, Already, Down}
 use Rattle.unit_landscape.specs.Calls.{is_forgotten}

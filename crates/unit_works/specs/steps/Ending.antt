@@ -7,7 +7,7 @@ use Rattle.trfc_protocol.specs.declared.held.Held.{Held}
 use Rattle.trfc_protocol.specs.declared.held.HeldKind.{HeldKind}
 use Rattle.trfc_protocol.specs.declared.held.HeldKind.TheVariants as kind
 use Rattle.trfc_protocol.specs.declared.world.World.{World}
-use Rattle.kept_world.specs.Kept.{KeptOf}
+use Rattle.unit_landscape.specs.KeptWorlds.{KeptOf}
 use Rattle.unit_landscape.specs.declared.claims.InClaim.{InClaim}
 use Rattle.unit_works.specs.Trips.{Wholly, worked_by}
 use Rattle.unit_works.specs.steps.Claims.{WasCut}

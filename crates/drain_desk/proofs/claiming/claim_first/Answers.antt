@@ -1,6 +1,6 @@
 use Rattle.std.specs.Prelude.{IsNone}
 use Rattle.std.proofs.Common.{true, refl, sym, subst, ◌∙◌}
-use Rattle.kept_world.specs.Kept.{KeptOf}
+use Rattle.unit_landscape.specs.KeptWorlds.{KeptOf}
 use Rattle.document_state.specs.declared.document_tables.DocumentTables.{DocumentTables}
 use Rattle.document_state.specs.declared.model_rules.ModelRules.{ModelRules}
 use Rattle.unit_works.specs.steps.Rounds.{NothingAt}

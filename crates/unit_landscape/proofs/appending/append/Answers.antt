@@ -46,4 +46,4 @@ returns-in-Err-Full-clause-ends g c = λ e does.
     inr (overflowed rules g.V.Volumes.faults c.args.kept.now c.record.new.kept c.fall.new.self c.args.system c.args.next c.in-Err-Full.size up
     (was-full rules g.V.Volumes.faults c.args.kept.now c.record.new.kept e (at c.args.system c.args.next) c.record.result
     c.in-Err-Full.field-0 c.in-Err-Full.size c.in-Err-Full.is c.in-Err-Full.field-0-is (c.record.ensures.ends e does))
-    c.fall.ensures.world c.fall.ensures.journals c.fall.ensures.vols c.fall.ensures.overruns c.world.ensures.kept.overruns (omega arith))
+    c.fall.ensures.world c.fall.ensures.journals c.fall.ensures.vols c.fall.ensures.causes c.world.ensures.kept.causes (omega arith))

@@ -26,7 +26,7 @@ pub returns-clause-ends : goal.returns-clause-ends
 returns-clause-ends g c = λ e does.
     ends-as g.R.Rules.meaning g.met.R.Rules.lawful g.A.Application.stands g.V.Volumes.told g.V.Volumes.volume g.V.Volumes.faults c.args.kept.now
     c.requires.landscape c.append.new.self c.args.system c.args.next c.args.claim e does c.append.result c.world.ensures.kept c.append.ensures.did
-    c.append.ensures.journals c.append.ensures.unchanged c.append.ensures.overruns c.append.ensures.full c.append.ensures.faults
+    c.append.ensures.journals c.append.ensures.unchanged c.append.ensures.causes c.append.ensures.full c.append.ensures.faults
 
 pub returns-clause-landscape : goal.returns-clause-landscape
 returns-clause-landscape g c =
@@ -36,4 +36,4 @@ returns-clause-landscape g c =
     (ends-as g.R.Rules.meaning g.met.R.Rules.lawful g.A.Application.stands g.V.Volumes.told g.V.Volumes.volume g.V.Volumes.faults c.args.kept.now
     c.requires.landscape c.append.new.self c.args.system c.args.next c.args.claim due.event due.appends c.append.result c.world.ensures.kept
     c.append.ensures.did
-    c.append.ensures.journals c.append.ensures.unchanged c.append.ensures.overruns c.append.ensures.full c.append.ensures.faults)
+    c.append.ensures.journals c.append.ensures.unchanged c.append.ensures.causes c.append.ensures.full c.append.ensures.faults)

@@ -6,7 +6,7 @@ use Rattle.outbound_build.specs.Committed.{committed_of}
 use Rattle.trfc_protocol.specs.declared.event.Event.TheVariants as event
 use Rattle.trfc_protocol.specs.Worlds.{log_of}
 use Rattle.unit_landscape.specs.Appending.{at}
-use Rattle.kept_world.specs.Kept.{KeptOf}
+use Rattle.unit_landscape.specs.KeptWorlds.{KeptOf}
 use Rattle.document_state.specs.declared.document_tables.DocumentTables.{DocumentTables}
 use Rattle.document_state.specs.declared.model_rules.ModelRules.{ModelRules}
 use Rattle.landscape.proofs.BegunLemmas.{begun-appends}

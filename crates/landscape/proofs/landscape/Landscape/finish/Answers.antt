@@ -9,7 +9,7 @@ use Rattle.unit_landscape.specs.Calls.{finish_event, is_offered_function}
 use Rattle.unit_landscape.specs.Kept.{IsLandscape}
 use Rattle.unit_landscape.proofs.HappenedLemmas.{disk-seen}
 use Rattle.document_state.specs.Made.{GoesWith}
-use Rattle.kept_world.specs.Kept.{KeptOf}
+use Rattle.unit_landscape.specs.KeptWorlds.{KeptOf}
 use Rattle.document_state.specs.declared.document_tables.DocumentTables.{DocumentTables}
 use Rattle.document_state.specs.declared.model_rules.ModelRules.{ModelRules}
 use Rattle.landscape.specs.Begun.{AreBegun}

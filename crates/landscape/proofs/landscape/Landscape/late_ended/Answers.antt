@@ -2,7 +2,7 @@ use Rattle.std.proofs.Common.{subst}
 use Rattle.unit_landscape.specs.Late.{late_record}
 use Rattle.unit_landscape.specs.Writes.{DiskAs}
 use Rattle.unit_landscape.proofs.LateEndsLemmas.{late-still}
-use Rattle.kept_world.specs.Kept.{KeptOf}
+use Rattle.unit_landscape.specs.KeptWorlds.{KeptOf}
 use Rattle.document_state.specs.declared.document_tables.DocumentTables.{DocumentTables}
 use Rattle.document_state.specs.declared.model_rules.ModelRules.{ModelRules}
 use Rattle.landscape.proofs.BegunLemmas.{meaning, begun-late}

@@ -1,6 +1,6 @@
 use Rattle.std.specs.Arc.{arc_value}
 use Rattle.std.proofs.Common.{◌≡◌, ℕ, List, length, refl, sym, subst, ◌∙◌}
-use Rattle.kept_world.specs.Kept.{KeptOf}
+use Rattle.unit_landscape.specs.KeptWorlds.{KeptOf}
 use Rattle.document_state.specs.declared.document_tables.DocumentTables.{DocumentTables}
 use Rattle.document_state.specs.declared.model_rules.ModelRules.{ModelRules}
 use Rattle.document_state.proofs.WritableLemmas.{commit-writable}
@@ -25,7 +25,7 @@ begun-requires-clause-begun g c =
     c.args.text c.args.moment c.args.vols c.in-Ok-begin_over.kept so_far
 
 pub begun-requires-clause-writable : goal.begun-requires-clause-writable
-begun-requires-clause-writable g c = commit-writable c.in-Ok-begin_over.kept.world.rules.systems
+begun-requires-clause-writable g c = record { each = commit-writable c.in-Ok-begin_over.kept.world.rules.systems }
 
 pub new-requires : goal.new-requires
 new-requires g c =

@@ -1,6 +1,6 @@
 use Rattle.std.specs.Prelude.{replicate}
 use Rattle.std.proofs.Common.{◌≡◌, ◌-◌, ℕ, Option}
-use Rattle.landscape_opening.specs.Opening.{begun_world}
+use Rattle.unit_landscape.specs.Opening.{begun_world}
 use Rattle.landscape.specs.steps.Opening.{AreBegunSoFar}
 use Rattle.landscape.proofs.landscape.opening.begin_all.Given as goal
 

@@ -1,5 +1,5 @@
 use Rattle.std.proofs.Common.{◌≡◌, ◌-◌, [], ap, arith, ◌∙◌}
-use Rattle.landscape_opening.specs.Opening.{begun_world}
+use Rattle.unit_landscape.specs.Opening.{begun_world}
 use Rattle.landscape.proofs.landscape.opening.begin_over.Goals as goal
 
 pub begin_all-requires-clause-begins : goal.begin_all-requires-clause-begins

@@ -38,7 +38,7 @@ pub returns-then-len-gt-MOST_SEGMENTS-clause-does : goal.returns-then-len-gt-MOS
 returns-then-len-gt-MOST_SEGMENTS-clause-does g c =
     record {
       result = Err OutOfMemory;
-      carried = inl (record { world = refl; tables = refl; journals = refl; no_faults = λ place. refl; overruns = refl });
+      carried = inl (record { world = refl; tables = refl; journals = refl; no_faults = λ place. refl; causes = refl });
       answer_is = refl;
       letters = refl;
     }

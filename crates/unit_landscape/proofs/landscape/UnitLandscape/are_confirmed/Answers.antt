@@ -2,7 +2,7 @@ use Rattle.std.specs.Prelude.{◌↔◌}
 use Rattle.std.proofs.Common.{◌≡◌, true, ap, sym, subst, ◌∙◌}
 use Rattle.trfc_protocol.specs.declared.world.World.{World}
 use Rattle.trfc_protocol.specs.Worlds.{is_up}
-use Rattle.kept_world.specs.Kept.{KeptOf}
+use Rattle.unit_landscape.specs.KeptWorlds.{KeptOf}
 use Rattle.unit_landscape.specs.Quiet.{AreConfirmed, none_up}
 use Rattle.unit_landscape.proofs.QuietLemmas.{confirmed-told}
 use Rattle.unit_landscape.proofs.landscape.UnitLandscape.are_confirmed.Goals as goal

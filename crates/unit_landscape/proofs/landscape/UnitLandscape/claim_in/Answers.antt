@@ -2,7 +2,7 @@ use Rattle.std.specs.Prelude.{IfOk, Result}
 use Rattle.std.proofs.Common.{Option, Some, Err, refl, ap, sym, subst, ◌∙◌}
 use Rattle.ale_base.specs.declared.out_of_memory.OutOfMemory.{OutOfMemory}
 use Rattle.trfc_protocol.specs.declared.world.World.{World}
-use Rattle.kept_world.specs.Kept.{KeptOf}
+use Rattle.unit_landscape.specs.KeptWorlds.{KeptOf}
 use Rattle.unit_landscape.specs.declared.claims.InClaim.{InClaim}
 use Rattle.unit_landscape.specs.Claiming.{IsFirstIn}
 use Rattle.unit_landscape.specs.Calls.{ClaimedIn}

@@ -1,5 +1,5 @@
 use Rattle.std.proofs.Common.{Err, ap, sym, subst, ◌∙◌}
-use Rattle.kept_world.specs.Kept.{KeptOf}
+use Rattle.unit_landscape.specs.KeptWorlds.{KeptOf}
 use Rattle.unit_landscape.specs.Claiming.{IsFirstOut}
 use Rattle.unit_landscape.proofs.ClaimingLemmas.{out_not_refused, landscape-claimed_out}
 use Rattle.unit_landscape.proofs.landscape.UnitLandscape.claim_out.Goals as goal

@@ -1,7 +1,7 @@
 use Rattle.std.specs.Prelude.{is_some}
 use Rattle.std.proofs.Common.{◌≡◌, true, ap, sym, subst, ◌∙◌}
 use Rattle.trfc_protocol.specs.Worlds.{committed_unit}
-use Rattle.kept_world.specs.Answers.{AreTablesNow}
+use Rattle.unit_landscape.specs.LogAnswers.{AreTablesNow}
 use Rattle.unit_landscape.specs.Late.{is_lost, is_marked_lost}
 use Rattle.unit_landscape.proofs.LateLemmas.{lost-table, some_there}
 use Rattle.unit_landscape.proofs.landscape.UnitLandscape.is_lost.Goals as goal

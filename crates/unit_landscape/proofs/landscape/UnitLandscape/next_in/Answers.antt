@@ -1,7 +1,7 @@
 use Rattle.std.proofs.Common.{◌≡◌, true, ap, sym, subst, ◌∙◌}
 use Rattle.trfc_protocol.specs.declared.world.World.{World}
 use Rattle.trfc_protocol.specs.Worlds.{is_up}
-use Rattle.kept_world.specs.Kept.{KeptOf}
+use Rattle.unit_landscape.specs.KeptWorlds.{KeptOf}
 use Rattle.unit_landscape.specs.Claiming.{IsNextIn}
 use Rattle.unit_landscape.proofs.ClaimingLemmas.{next_in-found}
 use Rattle.unit_landscape.proofs.landscape.UnitLandscape.next_in.Goals as goal

@@ -4,7 +4,7 @@ use Rattle.ale_base.specs.declared.way.Way.TheVariants.{Outgoing}
 use Rattle.trfc_protocol.specs.declared.world.World.{World}
 use Rattle.trfc_protocol.specs.Worlds.{is_up}
 use Rattle.trfc_protocol.proofs.SafeLemmas.{sound_now}
-use Rattle.kept_world.specs.Kept.{KeptOf}
+use Rattle.unit_landscape.specs.KeptWorlds.{KeptOf}
 use Rattle.unit_landscape.specs.Claiming.{IsNextOut}
 use Rattle.unit_landscape.proofs.OfferedLemmas.{one-sender}
 use Rattle.unit_landscape.proofs.ClaimingLemmas.{next_out-found, next_out-none}

@@ -2,7 +2,7 @@ use Rattle.std.proofs.Common.{◌≡◌, true, ap, sym, subst, ◌∙◌}
 use Rattle.trfc_protocol.specs.declared.world.World.{World}
 use Rattle.trfc_protocol.specs.Legal.{is_destination}
 use Rattle.trfc_protocol.specs.Worlds.{log_of, is_up}
-use Rattle.kept_world.specs.Kept.{KeptOf}
+use Rattle.unit_landscape.specs.KeptWorlds.{KeptOf}
 use Rattle.unit_landscape.specs.Kept.{IsLandscape}
 use Rattle.unit_landscape.proofs.OperatingLemmas.{up-others}
 use Rattle.unit_landscape.proofs.landscape.UnitLandscape.on_queue.Goals as goal

@@ -1,7 +1,7 @@
 use Rattle.std.proofs.Common.{◌≡◌, arith, ap, subst, ◌∙◌}
 use Rattle.trfc_protocol.specs.declared.world.World.{World}
 use Rattle.trfc_protocol.specs.Safe.{Safe}
-use Rattle.kept_world.specs.Kept.{KeptOf}
+use Rattle.unit_landscape.specs.KeptWorlds.{KeptOf}
 use Rattle.unit_landscape.proofs.QuietLemmas.{quiet-more, quiet-told}
 use Rattle.unit_landscape.proofs.landscape.UnitLandscape.quiet.Goals as goal
 

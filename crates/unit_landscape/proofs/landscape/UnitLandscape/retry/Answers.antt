@@ -5,7 +5,7 @@ use Rattle.trfc_protocol.specs.declared.event.Action.TheVariants.{Append}
 use Rattle.trfc_protocol.specs.declared.world.World.{World}
 use Rattle.trfc_protocol.specs.Legal.{may_follow}
 use Rattle.trfc_protocol.specs.Worlds.{log_of, is_up}
-use Rattle.kept_world.specs.Kept.{KeptOf}
+use Rattle.unit_landscape.specs.KeptWorlds.{KeptOf}
 use Rattle.unit_landscape.proofs.HappenedLemmas.{disk-seen}
 use Rattle.unit_landscape.proofs.OperatingLemmas.{retry-may}
 use Rattle.unit_landscape.proofs.landscape.UnitLandscape.retry.Goals as goal

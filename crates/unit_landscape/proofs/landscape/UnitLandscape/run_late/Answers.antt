@@ -8,11 +8,11 @@ use Rattle.unit_landscape.specs.Kept.{IsLandscape}
 use Rattle.unit_landscape.specs.Writes.{DiskAs}
 use Rattle.unit_landscape.specs.Appending.{at, IsDue, EndsAs}
 use Rattle.unit_landscape.specs.Ends.{AppendsAs}
-use Rattle.unit_landscape.specs.Late.{ComesLate, late_record, LateAs, GivesUp}
+use Rattle.unit_landscape.specs.Late.{ComesLate, late_record, LateAs}
 use Rattle.unit_landscape.proofs.EventLemmas.{event-none_more}
 use Rattle.unit_landscape.proofs.EndsLemmas.{landscape-step}
 use Rattle.unit_landscape.proofs.ArrivingLemmas.{arrival-after}
-use Rattle.unit_landscape.proofs.LateEndsLemmas.{late-still, comes-arrives, claimed_by, claimed-is, claimed-begun, run-appends, ran-as}
+use Rattle.unit_landscape.proofs.LateEndsLemmas.{late-still, comes-arrives, claimed_by, claimed-is, claimed-begun, run-appends, run-known, ran-as}
 use Rattle.unit_landscape.proofs.landscape.UnitLandscape.run_late.Goals as goal
 
 pub returns-in-Err-clause-disk : goal.returns-in-Err-clause-disk
@@ -70,6 +70,33 @@ record-appended-requires-clause-due g c =
           (c.requires.goes its (ap (λ k. slice_get k.tables (c.args.unit.receiver - 1)) (sym c.self.view_is) ∙ there));
     }))
 
+pub give_back-requires-clause-known : goal.give_back-requires-clause-known
+give_back-requires-clause-known g c =
+    let kept = c.self.inside.kept in
+    let world = c.self.inside.kept.world in
+    let rules = g.R.Rules.meaning c.self.inside.kept.world.rules in
+    let lawful = g.met.R.Rules.lawful c.self.inside.kept.world.rules in
+    let faults = g.V.Volumes.faults in
+    let unit = c.args.unit in
+    let number = c.self.inside.kept.world.next_number in
+    let last = c.record-appended.new.kept in
+    let result = c.record-appended.result in
+    let comes = subst (λ k. ComesLate (g.R.Rules.meaning k.world.rules) k.world c.args.unit answer.Run) (sym c.self.view_is) c.requires.comes in
+    let arrives = comes-arrives rules lawful world c.self.invariant.safe unit answer.Run comes in
+    let mid_is = claimed-is kept unit c.claim_direct.new.self c.in-Ok.ensures.world.1 c.in-Ok.ensures.tables c.in-Ok.ensures.volumes in
+    let is = subst (λ k. IsLandscape g.R.Rules.meaning k.world) mid_is
+    (landscape-step g.R.Rules.meaning g.met.R.Rules.lawful world c.claim_direct.new.self.world (event.Arrive c.args.unit.tid) c.self.invariant
+    (c.in-Ok.ensures.world.1 ∙ sym (arrival-after rules world unit answer.Run arrives))) in
+    let does = run-appends kept unit rules lawful is.safe comes in
+    let ends = subst (λ n. EndsAs rules faults (claimed_by kept unit) last c.args.unit.receiver (log.Direct c.args.unit)
+    (Some n) result) c.in-Ok.ensures.world.0
+    (subst (λ k. EndsAs (g.R.Rules.meaning k.world.rules) faults k last c.args.unit.receiver (log.Direct c.args.unit) (Some c.in-Ok.number) result) mid_is
+    c.record-appended.ensures.ends) in (
+      kept,
+      run-known g.R.Rules.meaning g.A.Application.stands rules faults kept last unit c.self.invariant c.world.ensures.kept.in_step (event.Finish number)
+          (at c.args.unit.receiver (log.Direct c.args.unit)) result (ends (event.Finish number) does),
+    )
+
 pub returns-clause-ends : goal.returns-clause-ends
 returns-clause-ends g c =
     let kept = c.self.inside.kept in
@@ -92,10 +119,12 @@ returns-clause-ends g c =
     (Some n) result) c.in-Ok.ensures.world.0
     (subst (λ k. EndsAs (g.R.Rules.meaning k.world.rules) faults k last c.args.unit.receiver (log.Direct c.args.unit) (Some c.in-Ok.number) result) mid_is
     c.record-appended.ensures.ends) in
-    subst (λ k. LateAs (g.R.Rules.meaning k.world.rules) faults k c.give_up.new.kept c.args.unit.tid c.came_late.result) c.self.view_is
-    (subst (LateAs rules faults kept c.give_up.new.kept c.args.unit.tid) (sym c.came_late.ensures)
-    (ran-as rules lawful faults kept last c.give_up.new.kept c.self.invariant.safe unit comes result
+    subst (λ k. LateAs (g.R.Rules.meaning k.world.rules) faults k c.give_back.new.kept c.args.unit.tid c.came_late.result) c.self.view_is
+    (subst (LateAs rules faults kept c.give_back.new.kept c.args.unit.tid) (sym c.came_late.ensures)
+    (ran-as rules lawful faults kept last c.give_back.new.kept c.self.invariant.safe unit comes result
     (subst (λ k. AppendsAs rules faults k last (event.Finish number) (at c.args.unit.receiver (log.Direct c.args.unit)) result)
     (claimed-begun kept unit rules arrives)
     (ends (event.Finish number) does))
-    (subst (λ n. GivesUp last c.give_up.new.kept n result) c.in-Ok.ensures.world.0 c.give_up.ensures.gives)))
+    (c.give_back.ensures.gives kept
+    (run-known g.R.Rules.meaning g.A.Application.stands rules faults kept last unit c.self.invariant c.world.ensures.kept.in_step (event.Finish number)
+    (at c.args.unit.receiver (log.Direct c.args.unit)) result (ends (event.Finish number) does)))))

@@ -1,0 +1,159 @@
+//! Volumes that are opened for a landscape that begins, one system after the other.
+
+mod fault;
+mod next;
+
+use crate::{KeptWorld, WorldTables};
+use ale_base::Items;
+use ale_volumes::Volumes;
+pub use fault::{NotOpened, OpenFault};
+use next::open_next;
+use std::alloc::Global;
+use std::marker::Model;
+use system_tables::Application;
+use trfc_protocol::{Rules, World};
+use unit_journal::SystemJournals;
+
+/// The systems of a landscape whose volumes are opened so far: each is up, and its log is empty.
+#[derive(Drop)]
+pub struct Opening<R: Rules, A: Application, V: Volumes> {
+    alloc: Global,
+    both: WorldTables<R, A>,
+    journals: SystemJournals,
+    vols: V,
+}
+
+impl<R: Rules, A: Application, V: Volumes> Model for Opening<R, A, V> {
+    ghost use Rattle.unit_landscape.specs.KeptWorlds.{KeptOf};
+    ghost use Rattle.unit_landscape.specs.Causes.{no_causes};
+    ghost use Rattle.unit_landscape.specs.Opening.{IsOpening};
+
+    ghost Value = { KeptOf R A V };
+
+    ghost view = { λ opening. record {
+      world = opening.both.world;
+      tables = opening.both.tables;
+      journals = opening.journals;
+      vols = opening.vols;
+      causes = no_causes;
+    } };
+
+    ghost invariant = { λ opening. IsOpening R.meaning A.stands V.told V.volume (record {
+      world = opening.both.world;
+      tables = opening.both.tables;
+      journals = opening.journals;
+      vols = opening.vols;
+      causes = no_causes;
+    }) };
+}
+
+impl<R: Rules, A: Application, V: Volumes> Opening<R, A, V> {
+    ghost use Rattle.std.specs.Prelude.{◌≡◌, ◌<◌, [], length, IfOk};
+    ghost use Rattle.ale_volumes.specs.Clock.{LeavesOnly, KeepsOthers};
+    ghost use Rattle.ale_volumes.specs.Faults.{CountsFault};
+    ghost use Rattle.byte_journal.specs.Settled.{IsLeftByOpening, LeavesOnlyFromSync};
+    ghost use Rattle.trfc_protocol.specs.Start.{first_world};
+    ghost use Rattle.unit_journal.specs.OnDisk.{count_of, moment_of};
+    ghost use Rattle.unit_landscape.specs.Causes.{no_causes};
+    ghost use Rattle.unit_landscape.specs.Opening.{begun_world, IsOpened, OpenedAs, LeavesAs, LeftAs, HasFailed, vols_of};
+
+    /// No system is opened yet. The records of the landscape are written with this moment, until another one is set.
+    pub fn new(alloc: Global, rules: R, moment: Option<u64>, vols: V) -> Opening<R, A, V>
+        ensures world { result.world ≡ first_world rules [] }
+        ensures tables { result.tables ≡ [] }
+        ensures count { count_of result.journals ≡ 0 }
+        ensures moment { moment_of result.journals ≡ moment }
+        ensures vols { result.vols ≡ vols }
+    {
+        let world = World {
+            rules,
+            systems: Items::new(alloc),
+            claims: Items::new(alloc),
+            falls: 0,
+            next_number: 1,
+        };
+        let both = WorldTables {
+            world,
+            tables: Items::new(alloc),
+        };
+        let mut journals = SystemJournals::new(alloc);
+        journals.set_moment(moment);
+        Opening {
+            alloc,
+            both,
+            journals,
+            vols,
+        }
+    }
+
+    /// How many systems are opened.
+    pub fn count(&self) -> usize
+        ensures { result ≡ length self.now.world.systems }
+    {
+        self.both.world.systems.len()
+    }
+
+    /// Opens the volume of the next system, whose log is to be empty, with the application's tables of that system.
+    ///
+    /// An `Err` gives the volumes back: the one that was opened is damaged, unread or not empty, exactly as it says, or a call on
+    /// it failed, or memory was refused.
+    pub fn system(self, application: A) -> Result<Opening<R, A, V>, NotOpened<V>>
+        requires next { length self.world.systems < (R.meaning self.world.rules).systems }
+        requires stands { A.stands application [] }
+
+        // The system is up with an empty log, behind all that were opened, which are as before.
+        ensures opened { IfOk result (IsOpened application self) }
+        ensures why { V.told → OpenedAs (V.volume self.vols (length self.world.systems)).contents result }
+
+        // What a read gives is as before, but for a gate that is the last byte.
+        ensures leaves { V.told → LeavesAs (V.volume self.vols (length self.world.systems)) (V.volume (vols_of result) (length self.world.systems)) result }
+
+        // A crash at any moment of the call leaves what was handed in, or what reads as it; from some moment on what stands for the
+        // empty log, or after an `Err` what reads as what was handed in.
+        ensures any_moment { V.told → LeavesOnly V.moment V.images_since self.vols (vols_of result) (length self.world.systems)
+            (IsLeftByOpening (V.volume self.vols (length self.world.systems))) }
+        ensures from_sync { V.told → LeavesOnlyFromSync V.volume V.moment V.images_since self.vols (vols_of result) (length self.world.systems)
+            (HasFailed result) (LeftAs (V.volume self.vols (length self.world.systems)).contents result) }
+        ensures others { V.told → KeepsOthers V.volume V.moment V.images_since self.vols (vols_of result) (length self.world.systems) }
+        ensures faults { CountsFault (HasFailed result) (V.faults self.vols) (V.faults (vols_of result)) (length self.world.systems) }
+    {
+        let Opening {
+            alloc,
+            mut both,
+            mut journals,
+            mut vols,
+        } = self;
+        match open_next(alloc, &mut both, &mut journals, &mut vols, application) {
+            Ok(()) => Ok(Opening {
+                alloc,
+                both,
+                journals,
+                vols,
+            }),
+            Err(why) => Err(NotOpened { why, vols }),
+        }
+    }
+
+    /// The world of the systems that are opened, which is kept. None of them has fallen.
+    pub fn into_kept(self) -> KeptWorld<R, A, V>
+        ensures kept { result ≡ self }
+        ensures world { self.world ≡ begun_world self.world.rules [] (length self.world.systems) }
+        ensures causes { self.causes ≡ no_causes }
+    {
+        let Opening {
+            alloc,
+            both,
+            journals,
+            vols,
+        } = self;
+        KeptWorld::new(alloc, both, journals, vols)
+    }
+
+    /// The volumes.
+    pub fn into_volumes(self) -> V
+        ensures { result ≡ self.vols }
+    {
+        let Opening { vols, .. } = self;
+        vols
+    }
+}
