@@ -2,10 +2,12 @@
 
 use Rattle.std.specs.Prelude.{slice_get}
 use Rattle.std.specs.List.{range_with_len}
-use Rattle.std.proofs.Common.{◌≡◌, ◌⊎◌, ℕ, zero, suc, false, Option, None, Some, Ok, List, [], ◌∷◌, ◌++◌, length, map, inl, inr, refl, sym, ap, subst, ◌∙◌}
+use Rattle.std.proofs.Common.{◌≡◌, ◌≤◌, ◌⊎◌, ℕ, zero, suc, false, Option, None, Some, Ok, List, [], ◌∷◌, ◌++◌, length, map, inl, inr, refl, sym, ap, subst, ◌∙◌}
+use Rattle.std.proofs.lemmas.Bool.{leb-true}
 use Rattle.std.specs.Arc.{arc_value}
 use Rattle.said_models.specs.Said.{said, of_answer}
 use Rattle.model_text.specs.Text.{answer_to}
+use Rattle.model_text.specs.declared.reading.TheConstants.{MAX_BYTES}
 use Rattle.dist_model.specs.declared.lists.Lists.{Lists}
 use Rattle.unit_core.specs.declared.records.Record.{Record}
 use Rattle.unit_core.specs.declared.raw_unit_doc.RawUnitDoc.{RawUnitDoc}
@@ -31,6 +33,7 @@ use Rattle.idoc_file.specs.declared.raw_doc.RawDoc.{RawDoc}
 use Rattle.ale_io.specs.Told.{Told}
 use Rattle.ale_host.specs.declared.running.Report.{Report}
 use Rattle.ale_host.specs.declared.running.Report.TheVariants.{Commands, Counts}
+use Rattle.ale_host.specs.LoadModel.{load_model}
 use Rattle.ale_host.specs.Running.{AskFor, Disk, Opened, RanFrom, RunsTo}
 
 -- a text that is answered by a model says it
@@ -75,6 +78,17 @@ pub asks-said : (words : List (List ℕ)) (told : List ℕ → Told) (report : R
     (commands : List Command) → AskFor words told report text model documents commands → answer_to text ≡ Ok model
 asks-said words told Commands text model documents commands asks = asks.1.says_model
 asks-said words told Counts text model documents commands asks = ap answer_to asks.2 ∙ asks.3.says_model
+
+-- the text of a load's model is short
+load-short : length load_model ≤ MAX_BYTES
+unfolding load_model
+load-short = leb-true (length load_model) MAX_BYTES refl
+
+-- what is carried out has a text within the limit of a model's
+pub asks-short : (words : List (List ℕ)) (told : List ℕ → Told) (report : Report) (text : List ℕ) (model : Lists) (documents : List RawDoc)
+    (commands : List Command) → AskFor words told report text model documents commands → length text ≤ MAX_BYTES
+asks-short words told Commands text model documents commands asks = asks.1.in_file.1
+asks-short words told Counts text model documents commands asks = subst (λ (its : List ℕ). length its ≤ MAX_BYTES) (sym asks.2) load-short
 
 -- ---- nothing holds units up at first
 

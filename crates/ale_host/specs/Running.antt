@@ -19,6 +19,7 @@ use Rattle.document_state.specs.declared.model_rules.ModelRules.{ModelRules}
 use Rattle.document_state.specs.Meaning.{model_meaning}
 use Rattle.unit_landscape.specs.KeptWorlds.{KeptOf}
 use Rattle.unit_landscape.specs.OnVolumes.{AreOnVolumes}
+use Rattle.unit_landscape.specs.Causes.{AreCausesOf}
 use Rattle.unit_landscape.specs.Kept.{IsLandscape}
 use Rattle.landscape.specs.declared.open_end.OpenWhy.{OpenWhy}
 use Rattle.landscape.specs.declared.open_end.OpenWhy.TheVariants as open_why
@@ -148,7 +149,7 @@ pub record Disk (V : Type 0) : Type 1 where
   pub images_since : V → ℕ → ℕ → List ℕ → Type 0
 
 -- Commands were carried out from systems that had begun. The report is that of the turns, or of a load that of the logs that it leaves;
--- the volumes hold the logs that the last turn left, and these are safe.
+-- the volumes hold the logs that the last turn left, these are safe, and a system is down exactly where its cause says so.
 pub record RanFrom {V : Type 0} (disk : Disk V) (report : Report) (model : Lists) (inputs : Inputs) (commands : List Command)
     (begun : KeptOf ModelRules DocumentTables V) (after : V)
     (clock : Type 0) (given given_after : List ℕ) (status : ℕ) (printed sure : List ℕ) : Type 0 where
@@ -166,6 +167,7 @@ pub record RanFrom {V : Type 0} (disk : Disk V) (report : Report) (model : Lists
   pub volumes : after ≡ left.landscape.vols
   pub safe : IsLandscape (λ (rules : ModelRules). model_meaning rules.systems) left.landscape.world
   pub on_volumes : AreOnVolumes disk.told disk.volume left.landscape.vols left.landscape.world.systems left.landscape.journals
+  pub causes : AreCausesOf left.landscape.world.systems left.landscape.causes
   pub asked : AreAsked clock given given_after turns run.halted
 
 module _ {V : Type 0} (disk : Disk V) (text : List ℕ) (model : Lists) (masters : List RawUnitDoc) (commands : List Command) (before after : V) where

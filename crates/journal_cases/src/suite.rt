@@ -28,7 +28,7 @@ impl Suite for Journals {
     ghost use Rattle.case_form.specs.Answered.{IsAnswered};
     ghost use Rattle.journal_cases.specs.Bench.{sets_up};
 
-    ghost comes_out = { λ _ _ file bytes outcome. IsAnswered sets_up file bytes outcome };
+    ghost comes_out = { λ _ _ file bytes outcome. IsAnswered sets_up (λ _ _. Unit {0}) file bytes outcome };
 
     fn outcome(
         &self,

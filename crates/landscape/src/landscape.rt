@@ -59,7 +59,7 @@ impl<V: Volumes> Landscape<V> {
     ghost use Rattle.landscape.specs.Begun.{AreBegun};
     ghost use Rattle.landscape.specs.Standing.{StandIfUp, WorksBy};
 
-    /// The landscape of systems whose logs begin with models of so many systems.
+    /// The landscape of systems whose logs begin with one text, of a model of so many systems.
     pub fn new(alloc: Global, units: UnitLandscape<ModelRules, DocumentTables, V>) -> Landscape<V>
         requires { AreBegun units.world }
         ensures { result ≡ units }
@@ -67,8 +67,8 @@ impl<V: Volumes> Landscape<V> {
         Landscape { alloc, units }
     }
 
-    /// The world: the logs and the claims. It is safe; the tables are in step with it, the volumes hold its logs, and each log begins
-    /// with a model of the systems.
+    /// The world: the logs and the claims. It is safe; the tables are in step with it, the volumes hold its logs, and all logs begin
+    /// with one text, of a model of the systems.
     pub fn world(&self) -> &World<ModelRules>
         ensures world { result.now ≡ self.now.world }
         ensures safe { IsLandscape (λ rules. model_meaning rules.systems) self.now.world }

@@ -12,7 +12,7 @@ impl Suite for ModelCases {
     ghost use Rattle.case_form.specs.Answered.{IsAnswered};
     ghost use Rattle.model_cases.specs.Bench.{sets_up};
 
-    ghost comes_out = { λ _ _ file bytes outcome. IsAnswered sets_up file bytes outcome };
+    ghost comes_out = { λ _ _ file bytes outcome. IsAnswered sets_up (λ _ _. Unit {0}) file bytes outcome };
 
     fn outcome(
         &self,

@@ -13,7 +13,7 @@ impl Suite for QueueCases {
     ghost use Rattle.case_form.specs.Answered.{IsAnswered};
     ghost use Rattle.std.specs.Prelude.{false};
 
-    ghost comes_out = { λ _ _ file bytes outcome. IsAnswered (λ _. false) file bytes outcome };
+    ghost comes_out = { λ _ _ file bytes outcome. IsAnswered (λ _. false) (λ _ _. Unit {0}) file bytes outcome };
 
     fn outcome(
         &self,

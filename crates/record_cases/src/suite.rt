@@ -26,7 +26,7 @@ impl Suite for Records {
     ghost use Rattle.case_form.specs.Answered.{IsAnswered};
     ghost use Rattle.record_cases.specs.Bench.{sets_up};
 
-    ghost comes_out = { λ _ _ file bytes outcome. IsAnswered sets_up file bytes outcome };
+    ghost comes_out = { λ _ _ file bytes outcome. IsAnswered sets_up (λ _ _. Unit {0}) file bytes outcome };
 
     fn outcome(
         &self,

@@ -1,5 +1,5 @@
 -- The turns of a run: each command with the moment at which it began, how it was answered, and what it left. This project's own.
-use Rattle.std.specs.Prelude.{ℕ, suc, Bool, true, false, List, [], ◌∷◌, ◌++◌, Option, Some, None, if◌then◌else◌}
+use Rattle.std.specs.Prelude.{ℕ, suc, Bool, true, false, ◌&&◌, not, List, [], ◌∷◌, ◌++◌, Option, Some, None, if◌then◌else◌}
 use Rattle.unit_landscape.specs.declared.cause.Cause.{Cause}
 use Rattle.unit_landscape.specs.declared.cause.Cause.TheVariants.{Faulted, Overran}
 use Rattle.unit_landscape.specs.KeptWorlds.{cause_at}
@@ -56,10 +56,11 @@ abbrev pub down_from : ℕ → List SystemState → Option ℕ
 down_from number [] = None
 down_from number (state ∷ states) = if state.up then down_from (suc number) states else Some number
 
--- the first of these systems, of which the first has this number, whose volume failed
+-- the first of these systems, of which the first has this number, that is down since its volume failed
 abbrev pub faulted_from : (ℕ → Cause) → ℕ → List SystemState → Option ℕ
 faulted_from cause number [] = None
-faulted_from cause number (state ∷ states) = if is_faulted (cause number) then Some number else faulted_from cause (suc number) states
+faulted_from cause number (state ∷ states) =
+    if not state.up && is_faulted (cause number) then Some number else faulted_from cause (suc number) states
 
 abbrev pub first_down : World ModelRules → Option ℕ
 first_down world = down_from 1 world.systems

@@ -44,9 +44,9 @@ pub(crate) fn first_faulted<V: Volumes>(
     requires { length systems.now ≤ 16 }
     ensures { result ≡ faulted_from (cause_at landscape.now) 1 systems.now }
 {
-    for (place, _state) in systems.iter().enumerate() {
+    for (place, state) in systems.iter().enumerate() {
         let system = numbered(place);
-        if is_faulted(landscape.cause(system)) {
+        if !state.up && is_faulted(landscape.cause(system)) {
             return Some(system);
         }
     }

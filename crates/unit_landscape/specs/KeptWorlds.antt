@@ -27,7 +27,7 @@ pub record IsStored {R A V : Type 0} (meaning : R → Meaning) (stands : A → L
   pub in_step : AreInStepWith stands meaning kept.world kept.tables
   pub on_volumes : AreOnVolumes told volume kept.vols kept.world.systems kept.journals
 
--- the same, and it is told of each system why it is down, if it is
+-- the same, and a cause is kept for each system, which says up exactly where the system is up
 pub record IsKept {R A V : Type 0} (meaning : R → Meaning) (stands : A → List Record → Type 0) (told : Type 0) (volume : V → ℕ → Volume)
     (kept : KeptOf R A V) : Type 0 where
   pub in_step : AreInStepWith stands meaning kept.world kept.tables

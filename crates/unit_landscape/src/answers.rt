@@ -104,7 +104,8 @@ pub enum OperatorEnd {
     /// A call on the volume failed. The system is down; at its opening the record may be found.
     #[error("volume fault")]
     Volume,
-    /// A request for memory was refused: nothing has changed, or the record was appended and the system is down.
+    /// A request for memory was refused: nothing has changed, but perhaps what lies behind the log on the volume, or the record was
+    /// appended and the system is down.
     #[error("out of memory")]
     OutOfMemory,
 }
@@ -141,7 +142,8 @@ pub enum LateEnd {
     /// nothing has changed.
     #[error("volume full at {0}")]
     Full(u64),
-    /// A request for memory was refused: nothing has changed, or the record was appended and the receiver is down.
+    /// A request for memory was refused: nothing has changed, but perhaps what lies behind the log on the volume, or the record was
+    /// appended and the receiver is down.
     #[error("out of memory")]
     OutOfMemory,
 }

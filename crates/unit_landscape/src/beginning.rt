@@ -28,7 +28,8 @@ pub enum BeginEnd {
     /// A call on the volume failed. The system is down; at its opening the Genesis may be found.
     #[error("volume fault")]
     Volume,
-    /// A request for memory was refused: nothing has changed, or the Genesis was appended and the system is down.
+    /// A request for memory was refused: nothing has changed, but perhaps what lies behind the log on the volume, or the Genesis was
+    /// appended and the system is down.
     #[error("out of memory")]
     OutOfMemory,
 }

@@ -10,8 +10,8 @@
 //! The definitions are in `specs/`: `Kept` (what a landscape keeps), `KeptWorlds`, `InStep`, `OnVolumes` and `Causes` (a world with its
 //! tables, its volumes, and why systems are down), `Tables` (the tables of a system that is up), `Writes` (the record of an event), `Ends`
 //! (how a call ends), `Calls`, `Late` and `Quiet` (what each call answers), `Opening` and `Beginning` (a landscape that begins). The others
-//! serve private functions: `Claims`, `Joining`, `Entered`, `Noting` and `Changed` (a record that joins a log, before and after it is
-//! written), `AppendEnds`, `ClaimAnswers`, `LogAnswers`, `Claiming`, `Appending`.
+//! say the steps in between: `Claims`, `Joining`, `Entered`, `Noting` and `Changed` (a record that joins a log, before and after it is
+//! written), `AppendEnds` and `Appending` (how an append ends), `LogAnswers`, `ClaimAnswers` and `Claiming` (which unit may be claimed).
 #![tactic(auto)]
 
 mod adding;

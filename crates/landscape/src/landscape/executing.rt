@@ -35,8 +35,8 @@ impl<V: Volumes> Landscape<V> {
     /// The work of a claim ends: the unit is executed where its receiver offers its function, with what was prepared of its documents,
     /// and fails otherwise.
     ///
-    /// `Stale` comes exactly where the claim does not stand, and then nothing has changed. After `OutOfMemory` nothing has changed, or
-    /// the record stands in its log and the system is down behind it.
+    /// `Stale` comes exactly where the claim does not stand, and then nothing has changed. After `OutOfMemory` nothing has changed,
+    /// but perhaps what lies behind the log on the volume, or the record stands in its log and the system is down behind it.
     pub fn finish(&mut self, claim: InClaim, prepared: Prepared) -> Result<Finished, WorkEnd>
         requires prepared { IsPreparedFor self.old.world claim.tid prepared.postings }
         ensures ends { FinishedAs (model_meaning self.old.world.rules.systems) V.faults self.old self.new claim result }
@@ -108,8 +108,8 @@ impl<V: Volumes> Landscape<V> {
     ///
     /// `N6` comes where the landscape has no system of the id; `N2` else where the sender is down; `N6` else where it committed no such
     /// unit; `N7` else where the unit is not marked CPICERR since its last Retry, or is done; `N10` else where the receiver's journal is
-    /// full: the receiver stays up. Every refusal leaves all as it was. After `OutOfMemory` nothing has changed, or the record stands in
-    /// its log and the receiver is down behind it.
+    /// full: the receiver stays up. Every refusal leaves all as it was. After `OutOfMemory` nothing has changed, but perhaps what lies
+    /// behind the log on the volume, or the record stands in its log and the receiver is down behind it.
     pub fn late(&mut self, tid: Tid) -> Result<Late, Refusal>
         requires alone { is_claimed Direct tid self.old.world.claims ≡ false }
         ensures ends { CameOrRefused V.faults self.old self.new tid result }

@@ -97,8 +97,8 @@ impl<V: Volumes> Landscape<V> {
     /// The reply to a shipment comes to its claim. The sender records that its unit is done, or marks it, and the claim is gone; on
     /// `Busy` it gives up the claim and records nothing. A refusal of a receiver that is down reads the log of that.
     ///
-    /// `Stale` comes exactly where the claim does not stand, and then nothing has changed. After `OutOfMemory` nothing has changed, or
-    /// the record stands in its log and the system is down behind it.
+    /// `Stale` comes exactly where the claim does not stand, and then nothing has changed. After `OutOfMemory` nothing has changed,
+    /// but perhaps what lies behind the log on the volume, or the record stands in its log and the system is down behind it.
     pub fn reply(&mut self, claim: OutClaim, given: Reply) -> Result<Replied, WorkEnd>
         ensures ends { RepliedAs (model_meaning self.old.world.rules.systems) V.faults self.old self.new claim given result }
         ensures disk { DiskAs V.told V.volume V.moment V.images_since self.old self.new
@@ -152,7 +152,8 @@ impl<V: Volumes> Landscape<V> {
     }
 
     /// The reply to the confirmation of a unit comes to its sender, which records that the transaction id is forgotten, unless it has.
-    /// After an `Err` nothing has changed, or the record stands in its log and the sender is down behind it.
+    /// After an `Err` nothing has changed, but perhaps what lies behind the log on the volume, or the record stands in its log and the
+    /// sender is down behind it.
     pub fn ended(&mut self, tid: Tid) -> Result<Closed, OutOfMemory>
         requires forgotten { is_forgotten (model_meaning self.old.world.rules.systems) self.old.world tid ≡ true }
         ensures event { IfOk result (ClosedAs (model_meaning self.old.world.rules.systems) V.faults self.old self.new tid) }

@@ -78,7 +78,8 @@ impl<R: Rules, A: Application, V: Volumes> UnitLandscape<R, A, V> {
     }
 
     /// The reply to the confirmation of a unit comes to its sender, which records that the transaction id is forgotten, unless it has.
-    /// After an `Err` nothing has changed, or the record stands in its log and the sender is down behind it.
+    /// After an `Err` nothing has changed, but perhaps what lies behind the log on the volume, or the record stands in its log and the
+    /// sender is down behind it.
     pub fn ended(&mut self, tid: Tid) -> Result<Closed, OutOfMemory>
         requires forgotten { is_forgotten (R.meaning self.old.world.rules) self.old.world tid ≡ true }
         ensures event { IfOk result (ClosedAs (R.meaning self.old.world.rules) V.faults self.old self.new tid) }

@@ -27,8 +27,8 @@ impl<R: Rules, A: Application, V: Volumes> UnitLandscape<R, A, V> {
     /// The work of a claim ends: the unit is executed where its receiver offers its function, as is handed in, and fails otherwise. What
     /// was made for the application goes with the record of the execution.
     ///
-    /// `Stale` comes exactly where the claim does not stand, and then nothing has changed. After `OutOfMemory` nothing has changed, or
-    /// the record stands in its log and the system is down behind it.
+    /// `Stale` comes exactly where the claim does not stand, and then nothing has changed. After `OutOfMemory` nothing has changed,
+    /// but perhaps what lies behind the log on the volume, or the record stands in its log and the system is down behind it.
     pub fn finish(
         &mut self,
         claim: InClaim,

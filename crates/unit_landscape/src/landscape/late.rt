@@ -32,8 +32,8 @@ impl<R: Rules, A: Application, V: Volumes> UnitLandscape<R, A, V> {
     /// to its sender. Whether a receiver that is up offers the unit's function is handed in, so that no log is read for it. What was made
     /// for the application goes with the record of a run.
     ///
-    /// Every refusal leaves all as it was. After `OutOfMemory` nothing has changed, or the record stands in its log and the receiver is
-    /// down behind it.
+    /// Every refusal leaves all as it was. After `OutOfMemory` nothing has changed, but perhaps what lies behind the log on the volume,
+    /// or the record stands in its log and the receiver is down behind it.
     pub fn late(&mut self, tid: Tid, offered: bool, extra: A::Extra) -> Result<Late, LateEnd>
         requires offered { (unit : AleUnit) → committed_unit (R.meaning self.old.world.rules) self.old.world tid ≡ Some unit
             → is_up self.old.world unit.receiver ≡ true

@@ -29,8 +29,8 @@ impl<R: Rules, A: Application, V: Volumes> UnitLandscape<R, A, V> {
     /// `Busy` it gives up the claim and records nothing. Whether the receiver of the unit offers its function is handed in, so that no
     /// log is read for it; it counts for `SysFail` alone.
     ///
-    /// `Stale` comes exactly where the claim does not stand, and then nothing has changed. After `OutOfMemory` nothing has changed, or
-    /// the record stands in its log and the system is down behind it.
+    /// `Stale` comes exactly where the claim does not stand, and then nothing has changed. After `OutOfMemory` nothing has changed,
+    /// but perhaps what lies behind the log on the volume, or the record stands in its log and the system is down behind it.
     pub fn reply(
         &mut self,
         claim: OutClaim,

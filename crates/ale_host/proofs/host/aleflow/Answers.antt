@@ -1,5 +1,5 @@
 use Rattle.std.specs.Arc.{arc_value}
-use Rattle.std.proofs.Common.{[], map, string_bytes, zero-le, Some, inl, inr, refl, sym, ap, ◌∙◌}
+use Rattle.std.proofs.Common.{ℕ, List, [], map, length, ◌≤◌, string_bytes, zero-le, Some, inl, inr, refl, sym, ap, subst, ◌∙◌}
 use Rattle.dist_model.specs.declared.lists.Lists.{Lists}
 use Rattle.said_models.specs.Said.{said}
 use Rattle.ale_base.specs.Faults.{Rose}
@@ -7,7 +7,7 @@ use Rattle.ale_host.specs.Ending.{status_of, text_of}
 use Rattle.ale_host.specs.Running.{masters_of}
 use Rattle.ale_host.proofs.EndingLemmas.{ends-as, quiet-as, quiet-early}
 use Rattle.ale_host.proofs.OneEnding.{one_ending}
-use Rattle.ale_host.proofs.RunningLemmas.{asks-said, runs-said, said-of}
+use Rattle.ale_host.proofs.RunningLemmas.{asks-said, asks-short, runs-said, said-of}
 use Rattle.ale_host.proofs.host.aleflow.Goals as goal
 
 pub run-requires-clause-said : goal.run-requires-clause-said
@@ -18,6 +18,13 @@ run-requires-clause-said g c = λ lives outlive.
     (asks-said (map string_bytes c.args.words.now) (g.F.Files.told c.args.files.now) c.in-Ok.field-0.report order.0 order.1.0 order.1.1.0 order.1.1.1.0
     order.1.1.1.1)
     ∙ ap (λ (model : Lists). Some model) (sym order.1.1.1.2.model_is)
+
+pub run-requires-clause-short : goal.run-requires-clause-short
+run-requires-clause-short g c = λ lives outlive.
+    let order = c.in-Ok.ensures.runs in
+    subst (λ (text : List ℕ). length text ≤ 1048576) (sym order.1.1.1.2.text_is)
+    (asks-short (map string_bytes c.args.words.now) (g.F.Files.told c.args.files.now) c.in-Ok.field-0.report order.0 order.1.0 order.1.1.0 order.1.1.1.0
+    order.1.1.1.1)
 
 pub returns-in-Err-clause-ended : goal.returns-in-Err-clause-ended
 returns-in-Err-clause-ended g c = λ not_6.

@@ -37,6 +37,7 @@ returns-clause-ended g c = λ not_6.
           volumes = c.into_volumes.ensures;
           safe = c.world.ensures.safe;
           on_volumes = c.world.ensures.kept.on_volumes;
+          causes = c.world.ensures.kept.causes;
           asked = ran.3;
         },
         last.2,
@@ -69,6 +70,7 @@ returns-clause-write_fault g c = λ is_6.
             volumes = c.into_volumes.ensures;
             safe = c.world.ensures.safe;
             on_volumes = c.world.ensures.kept.on_volumes;
+            causes = c.world.ensures.kept.causes;
             asked = ran.3;
           },
           record { count = last.1.2.appends.0; least = zero-le; appends = last.1.2.appends.1; rose = last.1.2.rose },

@@ -35,6 +35,7 @@ returns-clause-ended g c = λ not_6.
           volumes = c.into_volumes.ensures;
           safe = c.world.ensures.safe;
           on_volumes = c.world.ensures.kept.on_volumes;
+          causes = c.world.ensures.kept.causes;
           asked = ran.3;
         },
         last.3,
@@ -72,6 +73,7 @@ returns-clause-write_fault g c = λ is_6.
             volumes = c.into_volumes.ensures;
             safe = c.world.ensures.safe;
             on_volumes = c.world.ensures.kept.on_volumes;
+            causes = c.world.ensures.kept.causes;
             asked = ran.3;
           },
           last.1.1.3,

@@ -5,6 +5,6 @@ use Rattle.case_form.proofs.answering.outcome_on.Goals as goal
 
 pub returns-in-Ok : goal.returns-in-Ok
 returns-in-Ok g c =
-    IsAnswered-of g.B.Bench.sets_up c.args.file.now c.args.bytes.now c.as_slice.result.now c.steps_on.result c.of.result
+    IsAnswered-of g.B.Bench.sets_up g.B.Bench.finds c.args.file.now c.args.bytes.now c.as_slice.result.now c.steps_on.result c.of.result
     (subst (λ items. file_read c.args.file.now c.args.bytes.now ≡ Ok (map seen items)) (sym c.as_slice.ensures.value) c.in-Ok.ensures.items)
     c.steps_on.ensures.steps c.steps_on.ensures.fault c.of.ensures

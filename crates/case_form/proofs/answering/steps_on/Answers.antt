@@ -8,7 +8,7 @@ pub loop-item-preserved : goal.loop-item-preserved
 loop-item-preserved g c =
     let more = take_more c.args.items.now c.loop-item.item-index c.item-item.result c.loop-item-test.true in
     rw (more, ← c.item-item.is)
-    (AreAnswered-more g.B.Bench.sets_up (take c.loop-item.item-index c.args.items.now) c.loop-item.steps _ c.item-item.result c.loop-item.invariant
+    (AreAnswered-more g.B.Bench.sets_up g.B.Bench.finds (take c.loop-item.item-index c.args.items.now) c.loop-item.steps _ c.item-item.result c.loop-item.invariant
     c.in_ok-put_step.ensures.step)
 
 pub returns-in_err-put_step-clause-fault : goal.returns-in_err-put_step-clause-fault
