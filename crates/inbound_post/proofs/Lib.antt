@@ -8,3 +8,5 @@ pub mod ApplicationLemmas
 pub mod TablesLemmas
 -- one more record of its log, and what it makes of them
 pub mod RecordLemmas
+-- what becomes of a document, by its profile
+pub mod PreparedLemmas

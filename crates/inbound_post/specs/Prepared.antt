@@ -1,11 +1,12 @@
 -- What a receiver makes of the documents of a unit, by the unit and the model alone. SAP Library, ALE: an inbound partner profile
 -- says whether a document is posted at once or in the background.
-use Rattle.std.specs.Prelude.{ℕ, ◌-◌, Bool, List, [], map, find, slice_get}
+use Rattle.std.specs.Prelude.{◌≡◌, ℕ, ◌-◌, ⊤, Bool, List, [], map, find, slice_get, Contains}
 use Rattle.std.specs.List.{list_any}
 use Rattle.std.specs.Option.{option_map_or}
 use Rattle.ale_base.specs.Text.{is_text}
 use Rattle.idoc_record.specs.declared.control_field.ControlField.TheVariants.{Mestyp}
 use Rattle.idoc_record.specs.Control.{field_of}
+use Rattle.dist_model.specs.declared.inbound.Inbound.{Inbound}
 use Rattle.dist_model.specs.declared.inbound.InboundMode.{InboundMode}
 use Rattle.dist_model.specs.declared.inbound.InboundMode.TheVariants.{Immediate, Background}
 use Rattle.dist_model.specs.declared.lists.Lists.{Lists}
@@ -45,3 +46,18 @@ prepared model receiver unit =
       offered = offers model receiver unit.function;
       postings = map (posting_from model receiver unit.sender) unit.docs;
     }
+
+-- a model has a profile of exactly this receiver, this sender and the MESTYP of a document, with this mode
+pub record HasProfile (model : Lists) (receiver sender : ℕ) (doc : RawUnitDoc) (mode : InboundMode) : Type 0 where
+  pub profile : Inbound
+  pub among : Contains model.inbound profile
+  pub receives : profile.receiver ≡ receiver
+  pub sends : profile.sender ≡ sender
+  pub named : profile.message ≡ field_of doc.control Mestyp
+  pub as_said : profile.mode ≡ mode
+
+-- a document is posted, or waits, by a profile for it, that says so
+abbrev pub IsByProfile : Lists → ℕ → ℕ → RawUnitDoc → DocPosting → Type 0
+IsByProfile model receiver sender doc (Post posting) = HasProfile model receiver sender doc Immediate
+IsByProfile model receiver sender doc Waits = HasProfile model receiver sender doc Background
+IsByProfile model receiver sender doc Errors = ⊤

@@ -1,7 +1,8 @@
 //! What a receiver makes of a unit.
 
-ghost use Rattle.std.specs.Prelude.{◌≡◌, ◌≤◌, IfOk, length};
-ghost use Rattle.inbound_post.specs.Prepared.{functions_of, offers, posting_from, prepared};
+ghost use Rattle.std.specs.Prelude.{◌≡◌, ◌≤◌, IfOk, length, map};
+ghost use Rattle.std.specs.List.{AllZip};
+ghost use Rattle.inbound_post.specs.Prepared.{IsByProfile, functions_of, offers, posting_from, prepared};
 
 use crate::{DocPosting, Prepared, posting};
 use ale_base::{Fixed, Items, OutOfMemory, SystemNo};
@@ -19,16 +20,31 @@ pub fn prepare(
     receiver: SystemNo,
     unit: &AleUnit,
 ) -> Result<Prepared, OutOfMemory>
-    ensures { IfOk result (λ made. made ≡ prepared model.now receiver unit.now) }
+    ensures made { IfOk result (λ made. made ≡ prepared model.now receiver unit.now) }
+    ensures profiles { IfOk result (λ made. AllZip (IsByProfile model.now receiver unit.now.sender) unit.now.docs made.postings) }
 {
-    let mut postings = Items::new(alloc);
-    for doc in unit.docs.as_slice() {
-        postings.push(posting_from(alloc, model, receiver, unit.sender, doc)?)?;
-    }
+    let postings = postings_from(alloc, model, receiver, unit.sender, unit.docs.as_slice())?;
     Ok(Prepared {
         offered: offers(model.as_lists(), receiver, &unit.function),
         postings,
     })
+}
+
+/// What becomes of each document that a receiver gets from a sender.
+fn postings_from(
+    alloc: Global,
+    model: &Model,
+    receiver: SystemNo,
+    sender: SystemNo,
+    docs: &[RawUnitDoc],
+) -> Result<Items<DocPosting>, OutOfMemory>
+    ensures { IfOk result (λ postings. postings ≡ map (posting_from model.now receiver sender) docs.now) }
+{
+    let mut postings = Items::new(alloc);
+    for doc in docs {
+        postings.push(posting_from(alloc, model, receiver, sender, doc)?)?;
+    }
+    Ok(postings)
 }
 
 /// What becomes of a document that a receiver gets from a sender.

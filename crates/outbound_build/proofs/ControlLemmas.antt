@@ -1,5 +1,5 @@
 -- The texts of the control record have room in their fields, and are allowed there.
-use Rattle.std.specs.Prelude.{slice_get, option_and_then, IsTrue, nat_le, ◌&&◌, ◌==◌, ◌/◌, ◌%◌, ◌+◌, ◌<◌, Contains, fold}
+use Rattle.std.specs.Prelude.{slice_get, option_and_then, IsTrue, nat_le, ◌&&◌, ◌==◌, ◌/◌, ◌%◌, ◌+◌, ◌<◌, Contains, All, fold}
 use Rattle.std.specs.Char.{is_ascii_digit}
 use Rattle.std.specs.List.{AllByRecursion, list_all}
 use Rattle.std.specs.Option.{option_map_or}
@@ -8,6 +8,7 @@ use Rattle.std.proofs.Common.{◌∙◌, arith}
 use Rattle.std.proofs.lemmas.Bool.{leb-true, and_parts, cases_Bool, cond-true, cond-false}
 use Rattle.std.proofs.lemmas.Bool.Decides.{nat_tests}
 use Rattle.std.proofs.lemmas.List.{take_more}
+use Rattle.std.proofs.lemmas.List.Elements.{All-from_recursion}
 use Rattle.std.proofs.lemmas.List.Folds.{list_all-append}
 use Rattle.std.proofs.lemmas.List.Sums.{fold_push}
 use Rattle.ale_base.specs.Blanks.{trimmed, before_trimmed}
@@ -18,8 +19,8 @@ use Rattle.idoc_record.specs.declared.control_field.TheConstants.ControlField.{A
 use Rattle.idoc_record.specs.ControlField.{span_of, all_fields}
 use Rattle.idoc_record.specs.Parts.{with_text}
 use Rattle.idoc_record.specs.Digits.{decimal_digits}
-use Rattle.idoc_record.specs.Control.{HasRoom, IsAllowed, blank_text, control_with, written_at}
-use Rattle.idoc_record.proofs.FieldsLemmas.{HasRoom-written, control_with-written, control_with-same}
+use Rattle.idoc_record.specs.Control.{HasRoom, IsAllowed, blank_text, control_with, field_of, written_at}
+use Rattle.idoc_record.proofs.FieldsLemmas.{HasRoom-written, control_with-written, control_with-same, field_of-control_with}
 use Rattle.outbound_build.specs.steps.Texts.{written_all}
 use Rattle.idoc_record.proofs.PartLemmas.{length-text_at}
 use Rattle.idoc_record.proofs.WrittenLemmas.{length-decimal_digits}
@@ -29,7 +30,7 @@ use Rattle.dist_model.specs.declared.outbound.Outbound.{Outbound}
 use Rattle.dist_model.specs.Model.{IsModel}
 use Rattle.segment_defs.specs.Name.{is_name_within}
 use Rattle.version_reduce.proofs.ProfileLemmas.{is_outbound}
-use Rattle.outbound_build.specs.ControlRecord.{control_text, message_name, reduced_name}
+use Rattle.outbound_build.specs.ControlRecord.{HasBlanks, blank_fields, control_text, message_name, reduced_name}
 
 -- a text of the element at a place is no longer than those of all
 option-fits : {A : Type 0} (P : A → Type 0) (f : A → List ℕ) (most : ℕ) (xs : List A) → AllByRecursion P xs → ((x : A) → P x → length (f x) ≤ most) → (k : ℕ)
@@ -147,3 +148,19 @@ all_is = refl
 -- one more element is taken
 pub one_more_taken : {A : Type 0} (xs : List A) (at : ℕ) (d : A) → at < length xs → take (at + 1) xs ≡ take at xs ++ get_or xs at d ∷ []
 one_more_taken xs at d within = take_more xs at d within
+
+-- the fields that must be blank are, whatever the master has there
+pub texts-blank : (model : Lists) (profile : Outbound) (number : ℕ) (master : List ℕ) → IsModel model → Contains model.outbound profile
+    → HasBlanks (control_with (control_text model profile number master))
+texts-blank model profile number master kept among =
+    All-from_recursion (λ field. field_of (control_with texts) field ≡ []) blank_fields
+    (each blank_fields (refl, (refl, (refl, (refl, (refl, (refl, (refl, (refl, (refl, (refl, (refl, (refl, (refl, (refl, tt)))))))))))))))
+  where
+    texts : ControlField → List ℕ
+    texts = control_text model profile number master
+
+    each : (fields : List ControlField) → AllByRecursion (λ field. texts field ≡ []) fields
+        → AllByRecursion (λ field. field_of (control_with texts) field ≡ []) fields
+    each [] bare = tt
+    each (field ∷ fields) bare =
+        (field_of-control_with texts field (texts-room model profile number master kept among) ∙ ap trimmed bare.0, each fields bare.1)

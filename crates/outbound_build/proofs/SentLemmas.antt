@@ -1,5 +1,5 @@
 -- What is sent, by the steps that make it.
-use Rattle.std.specs.Prelude.{◌↔◌, option_and_then}
+use Rattle.std.specs.Prelude.{◌↔◌, IfSome, option_and_then}
 use Rattle.std.specs.Option.{option_map}
 use Rattle.std.proofs.Common.{◌≡◌, ◌⊎◌, inl, inr, ℕ, Option, Some, None, List, [], ◌∷◌, length, refl, ap, sym, ◌∙◌, subst, ◌≢◌, arith}
 use Rattle.idoc_record.specs.Control.{control_with}
@@ -23,7 +23,7 @@ use Rattle.filter_objects.proofs.KeptLemmas.{law-kept, law-valid, law-hangs, law
 use Rattle.filter_objects.proofs.OneLemmas.{one_part}
 use Rattle.outbound_build.specs.ControlRecord.{control_text}
 use Rattle.outbound_build.specs.Document.{Document, document_of}
-use Rattle.outbound_build.specs.Sent.{adapted, kept_by, made_of, message_of, sent, sent_by}
+use Rattle.outbound_build.specs.Sent.{IsAdaptedPart, adapted, kept_by, made_of, message_of, sent, sent_by}
 use Rattle.outbound_build.proofs.RowLemmas.{profile-message}
 
 -- what is sent by a row is sent by its profile
@@ -126,3 +126,38 @@ none-kept model row number master profile made found is = (forth, back)
         let entries = message_entries model.types model.messages (message_of model row) in
         let one = one_part model entries (groups_of model row) master.forest (part (message_of model row)) no_trees law nothing in
         map-none document_of made (made_is ∙ ap (made_of model profile number master.control) (same ∙ one))
+
+some-same : (one other : Document) → Some one ≡ Some other → (other.control ≡ one.control) × (other.forest ≡ one.forest)
+some-same one other same =
+    let is : one ≡ other = cc in
+    (ap (λ (its : Document). its.control) (sym is), ap (λ (its : Document). its.forest) (sym is))
+
+made-forest : (model : Lists) (profile : Outbound) (number : ℕ) (control : List ℕ) (kept : Forest) (document : Document)
+    → Some document ≡ made_of model profile number control kept → document.forest ≡ adapted model profile kept
+made-forest model profile number control no_trees document made = cc
+made-forest model profile number control (tree root below after) document made =
+    (some-same (record { control = control_with (control_text model profile number control); forest = adapted model profile (tree root below after) })
+    document (sym made)).1
+
+-- what is sent is what the row's profile makes of a part that the row's groups keep
+pub adapted-part : (model : Lists) (row number : ℕ) (master : Document) (profile : Outbound) (made : Option Doc) → outbound_of model row ≡ Some profile
+    → option_map document_of made ≡ sent model row number master
+    → IfSome made (λ doc. IsAdaptedPart model row master.forest (forest_of doc.forest.items))
+adapted-part model row number master profile None found is = tt
+adapted-part model row number master profile (Some doc) found is = record {
+  kept = part profile.message;
+  profile = profile;
+  part = subst (IsKeptPart model (message_entries model.types model.messages (message_of model row)) (groups_of model row) master.forest) (sym same) law;
+  of_row = found;
+  makes = made-forest model profile number master.control (part profile.message) (document_of doc)
+      (is ∙ sent-by model row number master profile found);
+}
+  where
+    part : ℕ → Forest
+    part message = kept_part model (message_entries model.types model.messages message) (groups_of model row) master.forest
+
+    same : part profile.message ≡ part (message_of model row)
+    same = ap part (profile-message model row profile found)
+
+    law : IsKeptPart model (message_entries model.types model.messages (message_of model row)) (groups_of model row) master.forest (part (message_of model row))
+    law = law-kept model (message_entries model.types model.messages (message_of model row)) (groups_of model row) master.forest

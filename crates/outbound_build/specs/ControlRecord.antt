@@ -1,11 +1,12 @@
 -- The control record of what is sent. The layout is SAP's (SAP Library, IDoc interface, control record); which fields are
 -- set, and to what, is this project's own.
-use Rattle.std.specs.Prelude.{ℕ, ◌+◌, ◌-◌, List, [], ◌∷◌, Option, option_and_then, slice_get, codes}
+use Rattle.std.specs.Prelude.{◌≡◌, ℕ, ◌+◌, ◌-◌, List, [], ◌∷◌, All, Option, option_and_then, slice_get, codes}
 use Rattle.std.specs.Option.{option_map_or}
 use Rattle.idoc_record.specs.declared.control_field.ControlField.{ControlField}
 use Rattle.idoc_record.specs.declared.control_field.ControlField.TheVariants.{Tabnam, Mandt, Docnum, Status, Direct, Outmod, Idoctyp, Mestyp, Mescod, Mesfct}
 use Rattle.idoc_record.specs.declared.control_field.ControlField.TheVariants.{Sndprt, Sndprn, Rcvpor, Rcvprt, Rcvprn, Credat, Cretim, Refint, Refgrp, Refmes}
-use Rattle.idoc_record.specs.declared.control_field.ControlField.TheVariants.{Arckey, Serial}
+use Rattle.idoc_record.specs.declared.control_field.ControlField.TheVariants.{Arckey, Serial, Docrel, Exprss, Test, Cimtyp, Std, Stdvrs}
+use Rattle.idoc_record.specs.declared.control_field.ControlField.TheVariants.{Stdmes, Sndpor, Sndpfc, Sndsad, Sndlad, Rcvpfc, Rcvsad, Rcvlad}
 use Rattle.idoc_record.specs.Control.{field_of}
 use Rattle.idoc_record.specs.Digits.{decimal_digits}
 use Rattle.dist_model.specs.declared.lists.Lists.{Lists}
@@ -66,3 +67,12 @@ control_text model profile number master Refmes = field_of master Refmes
 control_text model profile number master Arckey = field_of master Arckey
 control_text model profile number master Serial = field_of master Serial
 control_text model profile number master _ = []
+
+-- the fields of a control record that are blank in what is sent, whatever the master has there
+abbrev pub blank_fields : List ControlField
+blank_fields =
+    Docrel ∷ Exprss ∷ Test ∷ Cimtyp ∷ Std ∷ Stdvrs ∷ Stdmes ∷ Sndpor ∷ Sndpfc ∷ Sndsad ∷ Sndlad ∷ Rcvpfc ∷ Rcvsad ∷ Rcvlad ∷ []
+
+-- the fields of a control record that must be blank are
+abbrev pub HasBlanks : List ℕ → Type 0
+HasBlanks control = All (λ field. field_of control field ≡ []) blank_fields

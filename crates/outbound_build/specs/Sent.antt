@@ -1,6 +1,6 @@
 -- What is sent of a master to one receiver. SAP Library, ALE: outbound processing filters segments, reduces and converts
 -- fields and adapts the version; the meaning of each step is this project's own.
-use Rattle.std.specs.Prelude.{ℕ, List, Option, Some, None, option_and_then, slice_get}
+use Rattle.std.specs.Prelude.{◌≡◌, ℕ, List, Option, Some, None, option_and_then, slice_get}
 use Rattle.std.specs.Option.{option_map_or}
 use Rattle.idoc_record.specs.Control.{control_with}
 use Rattle.dist_model.specs.declared.lists.Lists.{Lists}
@@ -9,6 +9,7 @@ use Rattle.dist_model.specs.Message.{message_entries}
 use Rattle.dist_model.specs.Model.{outbound_of}
 use Rattle.idoc_tree.specs.Forest.{Forest, no_trees, tree}
 use Rattle.filter_objects.specs.Passing.{groups_of}
+use Rattle.filter_objects.specs.Kept.{IsKeptPart}
 use Rattle.filter_objects.specs.FromLeaves.{kept_part}
 use Rattle.version_reduce.specs.Removed.{removed}
 use Rattle.version_reduce.specs.Reduced.{reduced}
@@ -47,3 +48,11 @@ sent model row number master = option_and_then (sent_by model row number master)
 -- the message type of a row of the model
 abbrev pub message_of : Lists → ℕ → ℕ
 message_of model row = option_map_or (λ is. is.message) (slice_get model.rows row) 0
+
+-- a forest is what the profile of a row makes of a part of a master that the groups of the row keep
+pub record IsAdaptedPart (model : Lists) (row : ℕ) (master forest : Forest) : Type 0 where
+  pub kept : Forest
+  pub profile : Outbound
+  pub part : IsKeptPart model (message_entries model.types model.messages (message_of model row)) (groups_of model row) master kept
+  pub of_row : outbound_of model row ≡ Some profile
+  pub makes : forest ≡ adapted model profile kept

@@ -5,7 +5,7 @@ ghost use Rattle.idoc_record.specs.Control.{control_with};
 ghost use Rattle.idoc_record.specs.Digits.{decimal_digits};
 ghost use Rattle.dist_model.specs.Model.{IsModel};
 ghost use Rattle.outbound_build.specs.steps.Texts.{written_all};
-ghost use Rattle.outbound_build.specs.ControlRecord.{control_text, reduced_name, message_name, sent_name, system_at};
+ghost use Rattle.outbound_build.specs.ControlRecord.{HasBlanks, control_text, reduced_name, message_name, sent_name, system_at};
 
 use crate::types::type_of;
 use ale_base::{DocNum, SystemNo};
@@ -21,7 +21,8 @@ pub(crate) fn control_of(
 ) -> Control
     requires model { IsModel lists.now }
     requires profile { Contains lists.now.outbound profile.now }
-    ensures { result ≡ control_with (control_text lists.now profile.now number.0 master.now) }
+    ensures texts { result ≡ control_with (control_text lists.now profile.now number.0 master.now) }
+    ensures blank { HasBlanks result }
 {
     let digits = last_digits(number.0);
     let mode = [b'0' + profile.outmod];

@@ -10,8 +10,9 @@ ghost use Rattle.idoc_tree.specs.Nodes.{forest_of};
 ghost use Rattle.filter_objects.specs.Kept.{IsKeptPart};
 ghost use Rattle.filter_objects.specs.Passing.{groups_of};
 ghost use Rattle.version_reduce.specs.Document.{IsOfMessage};
+ghost use Rattle.outbound_build.specs.ControlRecord.{HasBlanks};
 ghost use Rattle.outbound_build.specs.Document.{document_of};
-ghost use Rattle.outbound_build.specs.Sent.{adapted, kept_by, made_of, message_of, sent};
+ghost use Rattle.outbound_build.specs.Sent.{IsAdaptedPart, adapted, kept_by, made_of, message_of, sent};
 
 use crate::control_record::control_of;
 use crate::types::type_of;
@@ -24,8 +25,9 @@ use std::alloc::Global;
 use version_reduce::{convert_fields, reduce_message, remove_segments, to_release};
 
 /// What is sent of a master by a row of the model, as the document of this number: what the row's groups keep of it, with
-/// the segments, fields, values and definitions that the row's profile says, and a control record of its own. None exactly
-/// where the largest part that the groups keep is nothing.
+/// the segments, fields, values and definitions that the row's profile says, and a control record of its own, in which
+/// DOCREL, EXPRSS, TEST, CIMTYP, STD, STDVRS, STDMES, SNDPOR, SNDPFC, SNDSAD, SNDLAD, RCVPFC, RCVSAD and RCVLAD are blank,
+/// whatever the master has there. None exactly where the largest part that the groups keep is nothing.
 ///
 /// It takes a time that grows with the segments of the master.
 pub fn sent(
@@ -44,6 +46,8 @@ pub fn sent(
     ensures kept { IfOk result (λ made. (made ≡ None)
         ↔ IsKeptPart model.now (message_entries model.now.types model.now.messages (message_of model.now row))
         (groups_of model.now row) (forest_of master.now.forest.items) no_trees) }
+    ensures part { IfOk result (λ made. IfSome made (λ doc. IsAdaptedPart model.now row (forest_of master.now.forest.items) (forest_of doc.forest.items))) }
+    ensures blank { IfOk result (λ made. IfSome made (λ doc. HasBlanks doc.control)) }
 {
     let profile = model.outbound(row);
     let kept = kept_by(alloc, model, row, profile, master.forest.as_slice())?;
@@ -85,6 +89,7 @@ fn made_of(
         ≡ made_of model.now profile.now number.0 control.now (forest_of kept.items)) }
     ensures of_message { (forest_of kept.items ≡ no_trees) ⊎ IsOfMessage model.now profile.now.message (forest_of kept.items)
         → IfOk result (λ made. IfSome made (λ doc. IsOfMessage model.now profile.now.message (forest_of doc.forest.items))) }
+    ensures blank { IfOk result (λ made. IfSome made (λ doc. HasBlanks doc.control)) }
 {
     if kept.is_empty() {
         return Ok(None);

@@ -17,7 +17,7 @@ returns-clause-document c =
     let nodes = c.args.kept.items in
     let some = eqb-false (length nodes) 0 (sym (ap (λ (n : ℕ). n == 0) c.args.kept.ok.0) ∙ sym c.is_empty.ensures ∙ c.if-is_empty.false) in
     let written : c.control_of-control.result ≡ control_with (control_text model profile number master)
-    = c.control_of-control.ensures ∙ ap (λ (lists : Lists). control_with (control_text lists profile number master)) c.as_lists.ensures.same in
+    = c.control_of-control.ensures.texts ∙ ap (λ (lists : Lists). control_with (control_text lists profile number master)) c.as_lists.ensures.same in
     one-written model profile number master nodes some c.control_of-control.result (forest_of c.in_ok-forest.forest.items) written c.in_ok-forest.ensures.map
 
 pub returns-clause-of_message : goal.returns-clause-of_message

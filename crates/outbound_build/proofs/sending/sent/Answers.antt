@@ -7,7 +7,7 @@ use Rattle.version_reduce.proofs.ProfileLemmas.{outbound_of-Contains}
 use Rattle.outbound_build.specs.Document.{document_of}
 use Rattle.outbound_build.specs.Sent.{kept_by, sent}
 use Rattle.outbound_build.proofs.RowLemmas.{profile-message}
-use Rattle.outbound_build.proofs.SentLemmas.{none-kept, sent-kept}
+use Rattle.outbound_build.proofs.SentLemmas.{adapted-part, none-kept, sent-kept}
 use Rattle.outbound_build.proofs.sending.sent.Goals as goal
 
 pub made_of-requires : goal.made_of-requires
@@ -37,3 +37,16 @@ returns-clause-kept c =
     = sent-kept model c.args.row c.args.number.0 master profile made
     (forest_of c.in_ok-kept.kept.items) c.outbound-profile.ensures part c.in_ok-made.ensures.document in
     none-kept model c.args.row c.args.number.0 master profile made c.outbound-profile.ensures is
+
+pub returns-clause-part : goal.returns-clause-part
+returns-clause-part c =
+    let model = c.args.model.now in
+    let profile = c.outbound-profile.result.now in
+    let master = document_of c.args.master.now in
+    let made = c.in_ok-made.made in
+    let part : forest_of c.in_ok-kept.kept.items ≡ kept_by model c.args.row profile.message master.forest
+    = c.in_ok-kept.ensures.part ∙ ap (λ (nodes : List Node). kept_by model c.args.row profile.message (forest_of nodes)) c.as_slice.ensures.value in
+    let is : option_map document_of made ≡ sent model c.args.row c.args.number.0 master
+    = sent-kept model c.args.row c.args.number.0 master profile made
+    (forest_of c.in_ok-kept.kept.items) c.outbound-profile.ensures part c.in_ok-made.ensures.document in
+    adapted-part model c.args.row c.args.number.0 master profile made c.outbound-profile.ensures is

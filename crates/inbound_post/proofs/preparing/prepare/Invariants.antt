@@ -1,7 +1,0 @@
-use Rattle.std.proofs.Common.{◌≡◌, ◌++◌, map, drop}
-use Rattle.inbound_post.specs.Prepared.{posting_from}
-use Rattle.inbound_post.proofs.preparing.prepare.Given as goal
-
-abbrev pub invariant-loop-doc : goal.invariant-loop-doc
-invariant-loop-doc l = l.postings ++ map (posting_from l.model l.receiver l.unit.sender) (drop l.doc-index l.unit.docs)
-    ≡ map (posting_from l.model l.receiver l.unit.sender) l.unit.docs
