@@ -2,8 +2,9 @@
 //!
 //! Contract: each section is read exactly as its definition says, or its first finding with the path to it. The
 //! definitions are in `specs/`: `Rows`, `Outbound` with `Changes` and `QueueRules`, and `Inbound`; `Ways` and `Values`,
-//! what they share; `Basis`, what profiles of what is sent refer to; `Says`, what a text says, and no order of checks. That
-//! what was read keeps the rules of a model is proved in `proofs/`, section by section.
+//! what they share; `Basis`, what profiles of what is sent refer to; `Referred`, what rows and the rules of a profile refer to;
+//! `Says`, what a text says, and no order of checks. That what was read keeps the rules of a model is proved in `proofs/`,
+//! section by section.
 #![tactic(auto)]
 
 mod basis;
@@ -12,7 +13,9 @@ mod inbound;
 mod keys;
 mod outbound;
 mod queue_rules;
+mod row_basis;
 mod rows;
+mod segments;
 mod sending;
 mod target;
 mod values;

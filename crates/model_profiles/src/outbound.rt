@@ -1,8 +1,7 @@
 //! The section of the profiles of what is sent.
 
-ghost use Rattle.std.specs.Prelude.{◌≡◌, ◌<◌, ◌≤◌, ◌-◌, ◌∷◌, ◌++◌, [], IfOk, length};
+ghost use Rattle.std.specs.Prelude.{◌≡◌, ◌∷◌, ◌++◌, [], IfOk};
 ghost use Rattle.toml.specs.View.{view, table_view, items_view};
-ghost use Rattle.segment_defs.specs.Definitions.{AreDefinitions};
 ghost use Rattle.dist_model.specs.Way.{outbound_way};
 ghost use Rattle.model_keys.specs.Finding.{Gives};
 ghost use Rattle.model_profiles.specs.Basis.{IsBasis};
@@ -12,13 +11,14 @@ use crate::basis::Basis;
 use crate::changes::{converts_at, removes_at};
 use crate::keys::{INQ, OUTBOUND, OUTBOUND_KEYS, OUTQ};
 use crate::queue_rules::rules_at;
+use crate::segments::NamedSegments;
 use crate::sending::sending_at;
 use crate::target::target_at;
 use crate::ways::new_way_at;
 use ale_base::Items;
-use dist_model::{Convert, MOST_OUTBOUND, Names, Outbound, QueueRule, Triples, message_entries};
+use dist_model::{Convert, MOST_OUTBOUND, Outbound, QueueRule, Triples, message_entries};
 use model_keys::{ReadError, entry_of, list_or_none_at, within};
-use segment_defs::{Definitions, TypeNo, TypePlace};
+use segment_defs::{TypeNo, TypePlace};
 use std::alloc::Global;
 use toml::{Table, Value};
 
@@ -87,17 +87,14 @@ fn outbound_of(
         table,
     )?;
     let (outmod, packet, release, reduced) = sending_at(alloc, basis, message, table)?;
-    let (remove, convert) = changes_at(alloc, basis.types, basis.definitions, table)?;
+    let segments = NamedSegments {
+        types: basis.types,
+        definitions: basis.definitions,
+    };
+    let (remove, convert) = changes_at(alloc, &segments, table)?;
     let (port, function) = target_at(alloc, table)?;
     let entries = message_entries(basis.idoc_types, basis.messages, message);
-    let (outq, inq) = queues_at(
-        alloc,
-        basis.types,
-        basis.definitions,
-        entries,
-        outmod,
-        table,
-    )?;
+    let (outq, inq) = queues_at(alloc, &segments, entries, outmod, table)?;
     Ok(Outbound {
         sender,
         receiver,
@@ -119,16 +116,13 @@ fn outbound_of(
 #[tactic(auto, unfolding(crate::specs::Outbound::changes_at))]
 fn changes_at(
     alloc: Global,
-    types: &Names,
-    definitions: &Definitions,
+    on: &NamedSegments<'_>,
     table: &Table,
 ) -> Result<(Items<TypeNo>, Items<Convert>), ReadError>
-    requires definitions { AreDefinitions definitions.now }
-    requires types { length types.now ≡ length definitions.now.types }
-    ensures { Gives (λ changes. changes) result (changes_at types.now definitions.now (table_view table.now)) }
+    ensures { Gives (λ changes. changes) result (changes_at on.now.types on.now.definitions (table_view table.now)) }
 {
-    let remove = removes_at(alloc, types, table)?;
-    let convert = converts_at(alloc, types, definitions, table)?;
+    let remove = removes_at(alloc, on, table)?;
+    let convert = converts_at(alloc, on, table)?;
     Ok((remove, convert))
 }
 
@@ -136,18 +130,15 @@ fn changes_at(
 #[tactic(auto, unfolding(crate::specs::Outbound::queues_at))]
 fn queues_at(
     alloc: Global,
-    types: &Names,
-    definitions: &Definitions,
+    on: &NamedSegments<'_>,
     entries: &[TypePlace],
     outmod: u8,
     table: &Table,
 ) -> Result<(Items<QueueRule>, Items<QueueRule>), ReadError>
-    requires definitions { AreDefinitions definitions.now }
-    requires types { length types.now ≡ length definitions.now.types }
     ensures { Gives (λ queues. queues) result
-        (queues_at types.now definitions.now entries.now outmod (table_view table.now)) }
+        (queues_at on.now.types on.now.definitions entries.now outmod (table_view table.now)) }
 {
-    let outq = rules_at(alloc, types, definitions, entries, outmod, OUTQ, table)?;
-    let inq = rules_at(alloc, types, definitions, entries, outmod, INQ, table)?;
+    let outq = rules_at(alloc, on, entries, outmod, OUTQ, table)?;
+    let inq = rules_at(alloc, on, entries, outmod, INQ, table)?;
     Ok((outq, inq))
 }

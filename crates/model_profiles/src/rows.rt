@@ -10,6 +10,7 @@ ghost use Rattle.model_keys.specs.Finding.{Gives};
 ghost use Rattle.model_profiles.specs.Rows.{choice_of, choices_of, filter_named, filter_width, group_of, groups_at, groups_of, row_of, rows_at, rows_of, values_of};
 
 use crate::keys::{GROUP, ROW, ROW_KEYS};
+use crate::row_basis::RowBasis;
 use crate::values::{field_length, field_value_of};
 use crate::ways::new_way_at;
 use ale_base::Items;
@@ -46,36 +47,23 @@ pub fn rows_at(
         (rows_at systems.now definitions.now messages.now filters.now (table_view table.now)) }
 {
     let values = list_or_none_at(alloc, MOST_ROWS, ROW, table)?;
-    rows_of(alloc, systems, definitions, messages, filters, values)
+    let basis = RowBasis {
+        systems,
+        definitions,
+        messages,
+        filters,
+    };
+    rows_of(alloc, &basis, values)
 }
 
-fn rows_of(
-    alloc: Global,
-    systems: &Names,
-    definitions: &Definitions,
-    messages: &Names,
-    filters: &[Filter],
-    values: &[Value],
-) -> Result<Items<Row>, ReadError>
-    requires systems { length systems.now ≤ MOST_SYSTEMS }
-    requires definitions { AreDefinitions definitions.now }
-    requires messages { length messages.now ≤ MOST_MESSAGES }
-    requires filters { length filters.now ≤ MOST_FILTERS }
+fn rows_of(alloc: Global, on: &RowBasis<'_>, values: &[Value]) -> Result<Items<Row>, ReadError>
     ensures { Gives (λ rows. rows) result
-        (rows_of systems.now definitions.now messages.now filters.now (items_view values.now)) }
+        (rows_of on.now.systems on.now.definitions on.now.messages on.now.filters (items_view values.now)) }
 {
     let mut rows = Items::new(alloc);
     let mut ways = Triples::new(alloc);
     for (place, value) in values.iter().enumerate() {
-        match row_of(
-            alloc,
-            systems,
-            definitions,
-            messages,
-            filters,
-            &mut ways,
-            value,
-        ) {
+        match row_of(alloc, on, &mut ways, value) {
             Err(error) => return Err(within(alloc, ROW, place, error)),
             Ok(row) => rows.push(row)?,
         }
@@ -87,24 +75,17 @@ fn rows_of(
 #[tactic(auto, unfolding(crate::specs::Rows::row_of))]
 fn row_of(
     alloc: Global,
-    systems: &Names,
-    definitions: &Definitions,
-    messages: &Names,
-    filters: &[Filter],
+    on: &RowBasis<'_>,
     ways: &mut Triples,
     value: &Value,
 ) -> Result<Row, ReadError>
-    requires systems { length systems.now ≤ MOST_SYSTEMS }
-    requires definitions { AreDefinitions definitions.now }
-    requires messages { length messages.now ≤ MOST_MESSAGES }
-    requires filters { length filters.now ≤ MOST_FILTERS }
     ensures given { Gives (λ row. row) result
-        (row_of systems.now definitions.now messages.now filters.now ways.old (view value.now)) }
+        (row_of on.now.systems on.now.definitions on.now.messages on.now.filters ways.old (view value.now)) }
     ensures added { IfOk result (λ row. ways.new ≡ ways.old ++ row_way row ∷ []) }
 {
     let table = entry_of(alloc, value, &ROW_KEYS)?;
-    let (sender, receiver, message) = new_way_at(alloc, systems, messages, ways, table)?;
-    let group = groups_at(alloc, definitions, filters, message, table)?;
+    let (sender, receiver, message) = new_way_at(alloc, on.systems, on.messages, ways, table)?;
+    let group = groups_at(alloc, on, message, table)?;
     Ok(Row {
         sender,
         receiver,
@@ -117,35 +98,29 @@ fn row_of(
 #[tactic(auto, unfolding(crate::specs::Rows::groups_at))]
 fn groups_at(
     alloc: Global,
-    definitions: &Definitions,
-    filters: &[Filter],
+    on: &RowBasis<'_>,
     message: MessageNo,
     table: &Table,
 ) -> Result<Items<Group>, ReadError>
-    requires definitions { AreDefinitions definitions.now }
-    requires filters { length filters.now ≤ MOST_FILTERS }
     ensures { Gives (λ groups. groups) result
-        (groups_at definitions.now filters.now message (table_view table.now)) }
+        (groups_at on.now.definitions on.now.filters message (table_view table.now)) }
 {
     let values = list_or_none_at(alloc, MOST_GROUPS, GROUP, table)?;
-    groups_of(alloc, definitions, filters, message, values)
+    groups_of(alloc, on, message, values)
 }
 
 fn groups_of(
     alloc: Global,
-    definitions: &Definitions,
-    filters: &[Filter],
+    on: &RowBasis<'_>,
     message: MessageNo,
     values: &[Value],
 ) -> Result<Items<Group>, ReadError>
-    requires definitions { AreDefinitions definitions.now }
-    requires filters { length filters.now ≤ MOST_FILTERS }
     ensures { Gives (λ groups. groups) result
-        (groups_of definitions.now filters.now message (items_view values.now)) }
+        (groups_of on.now.definitions on.now.filters message (items_view values.now)) }
 {
     let mut groups = Items::new(alloc);
     for (place, value) in values.iter().enumerate() {
-        match group_of(alloc, definitions, filters, message, value) {
+        match group_of(alloc, on, message, value) {
             Err(error) => return Err(within(alloc, GROUP, place, error)),
             Ok(group) => groups.push(group)?,
         }
@@ -156,17 +131,14 @@ fn groups_of(
 #[tactic(auto, unfolding(crate::specs::Rows::group_of))]
 fn group_of(
     alloc: Global,
-    definitions: &Definitions,
-    filters: &[Filter],
+    on: &RowBasis<'_>,
     message: MessageNo,
     value: &Value,
 ) -> Result<Group, ReadError>
-    requires definitions { AreDefinitions definitions.now }
-    requires filters { length filters.now ≤ MOST_FILTERS }
-    ensures { Gives (λ group. group) result (group_of definitions.now filters.now message (view value.now)) }
+    ensures { Gives (λ group. group) result (group_of on.now.definitions on.now.filters message (view value.now)) }
 {
     let table = table_of(alloc, value)?;
-    let choices = choices_of(alloc, definitions, filters, message, table)?;
+    let choices = choices_of(alloc, on, message, table)?;
     Ok(Group { choices })
 }
 
@@ -174,19 +146,16 @@ fn group_of(
 #[tactic(auto, unfolding(crate::specs::Rows::choices_of))]
 fn choices_of(
     alloc: Global,
-    definitions: &Definitions,
-    filters: &[Filter],
+    on: &RowBasis<'_>,
     message: MessageNo,
     table: &Table,
 ) -> Result<Items<Choice>, ReadError>
-    requires definitions { AreDefinitions definitions.now }
-    requires filters { length filters.now ≤ MOST_FILTERS }
     ensures { Gives (λ choices. choices) result
-        (choices_of definitions.now filters.now message [] (table_view table.now)) }
+        (choices_of on.now.definitions on.now.filters message [] (table_view table.now)) }
 {
     let mut choices = Items::new(alloc);
     for (key, value) in table.iter() {
-        let choice = choice_of(alloc, definitions, filters, message, key.as_str(), value)?;
+        let choice = choice_of(alloc, on, message, key.as_str(), value)?;
         choices.push(choice)?;
     }
     Ok(choices)
@@ -196,20 +165,17 @@ fn choices_of(
 #[tactic(auto, unfolding(crate::specs::Rows::choice_of))]
 fn choice_of(
     alloc: Global,
-    definitions: &Definitions,
-    filters: &[Filter],
+    on: &RowBasis<'_>,
     message: MessageNo,
     key: &str,
     value: &Value,
 ) -> Result<Choice, ReadError>
-    requires definitions { AreDefinitions definitions.now }
-    requires filters { length filters.now ≤ MOST_FILTERS }
     ensures { Gives (λ choice. choice) result
-        (choice_of definitions.now filters.now message key.now (view value.now)) }
+        (choice_of on.now.definitions on.now.filters message key.now (view value.now)) }
 {
-    let place = filter_named(alloc, filters, message, key)?;
+    let place = filter_named(alloc, on, message, key)?;
     let values = list_of(alloc, MOST_VALUES, key, value)?;
-    let width = filter_width(definitions, filters, place);
+    let width = filter_width(on, place);
     let values = values_of(alloc, width, key, values)?;
     Ok(Choice {
         filter: place,
@@ -221,14 +187,13 @@ fn choice_of(
 #[tactic(auto, unfolding(crate::specs::Rows::filter_named))]
 fn filter_named(
     alloc: Global,
-    filters: &[Filter],
+    on: &RowBasis<'_>,
     message: MessageNo,
     key: &str,
 ) -> Result<u16, ReadError>
-    requires { length filters.now ≤ MOST_FILTERS }
-    ensures { Gives (λ place. place) result (filter_named filters.now message key.now) }
+    ensures { Gives (λ place. place) result (filter_named on.now.filters message key.now) }
 {
-    match filter_place(filters, message, key.as_bytes()) {
+    match filter_place(on.filters, message, key.as_bytes()) {
         // the dot keeps a key apart that is empty or has dots
         None => Err(ReadError::Found(unknown(alloc, ".", key)?)),
         Some(place) => Ok(place as u16),
@@ -252,14 +217,13 @@ fn is_filter(message: MessageNo, name: &[u8], filter: &Filter) -> bool
 }
 
 /// How many bytes the field of the filter at a place has.
-fn filter_width(definitions: &Definitions, filters: &[Filter], place: u16) -> usize
-    requires { AreDefinitions definitions.now }
-    ensures { result ≡ filter_width definitions.now filters.now place }
+fn filter_width(on: &RowBasis<'_>, place: u16) -> usize
+    ensures { result ≡ filter_width on.now.definitions on.now.filters place }
 {
-    match filters.get(usize::from(place)) {
+    match on.filters.get(usize::from(place)) {
         None => 0,
         Some(filter) => field_length(
-            definitions,
+            on.definitions,
             FieldPlace {
                 segment: filter.segment,
                 field: filter.field,

@@ -7,6 +7,7 @@ ghost use Rattle.model_keys.specs.Finding.{Gives};
 ghost use Rattle.model_profiles.specs.Values.{field_at, field_length, field_place, field_value_at, field_value_of};
 
 use crate::keys::FIELD;
+use crate::segments::NamedSegments;
 use ale_base::{Items, trimmed};
 use dist_model::{FieldPlace, all_fields, field_named};
 use model_keys::{Cause, ReadError, at, get, name_at};
@@ -30,12 +31,11 @@ pub(crate) fn field_length(definitions: &Definitions, place: FieldPlace) -> usiz
 }
 
 /// The place of the field of a segment type that has a name. None exactly where none has it.
-pub(crate) fn field_place(definitions: &Definitions, segment: TypeNo, name: &[u8]) -> Option<u16>
-    requires definitions { AreDefinitions definitions.now }
-    requires known { segment < length definitions.now.types }
-    ensures { result ≡ field_place definitions.now segment name.now }
+pub(crate) fn field_place(on: &NamedSegments<'_>, segment: TypeNo, name: &[u8]) -> Option<u16>
+    requires { segment < length on.now.definitions.types }
+    ensures { result ≡ field_place on.now.definitions segment name.now }
 {
-    field_named(all_fields(definitions, segment), name)
+    field_named(all_fields(on.definitions, segment), name)
 }
 
 /// A value of a field of so many bytes, without the blanks at its end: Wrong, at the path, where there is no text or one
@@ -77,16 +77,15 @@ pub(crate) fn field_value_at(
 #[tactic(auto, unfolding(crate::specs::Values::field_at))]
 pub(crate) fn field_at(
     alloc: Global,
-    definitions: &Definitions,
+    on: &NamedSegments<'_>,
     segment: TypeNo,
     table: &Table,
 ) -> Result<u16, ReadError>
-    requires definitions { AreDefinitions definitions.now }
-    requires known { segment < length definitions.now.types }
-    ensures { Gives (λ place. place) result (field_at definitions.now segment (table_view table.now)) }
+    requires { segment < length on.now.definitions.types }
+    ensures { Gives (λ place. place) result (field_at on.now.definitions segment (table_view table.now)) }
 {
     let name = name_at(alloc, LONGEST_NAME, FIELD, table)?;
-    match field_place(definitions, segment, name.as_bytes()) {
+    match field_place(on, segment, name.as_bytes()) {
         None => Err(ReadError::Found(at(alloc, Cause::Unknown, FIELD)?)),
         Some(place) => Ok(place),
     }

@@ -2,7 +2,7 @@
 use Rattle.std.specs.Prelude.{filter, slice_get, slice_set, not}
 use Rattle.std.specs.List.{filter_map, cons_option}
 use Rattle.std.specs.Option.{option_map, is_none}
-use Rattle.std.proofs.Common.{◌≡◌, ◌<◌, ◌≤◌, ◌+◌, ◌*◌, ◌^◌, ℕ, zero, suc, nat_eq, Bool, true, false, ◌||◌, ◌&&◌, cond, Option, Some, None, List, [], ◌∷◌, ◌++◌}
+use Rattle.std.proofs.Common.{◌≡◌, ◌<◌, ◌≤◌, ◌+◌, ◌^◌, ℕ, zero, suc, nat_eq, Bool, true, false, ◌||◌, ◌&&◌, cond, Option, Some, None, List, [], ◌∷◌, ◌++◌}
 use Rattle.std.proofs.Common.{length, map, inl, inr, refl, sym, ap, subst, ◌∙◌, arith, length-append}
 use Rattle.std.specs.Cmp.Lexicographic.{slice_cmp, lists_ties, bytes_decides, pointwise}
 use Rattle.std.specs.Ordering.{nat_cmp, is_eq, eq_by_cmp, ordering_then}
@@ -17,10 +17,13 @@ use Rattle.plain_queues.specs.declared.queue_key.QueueKey.{QueueKey}
 use Rattle.plain_queues.specs.Keys.{keys_differ}
 use Rattle.plain_queues.specs.Queues.{unit_of}
 use Rattle.plain_queues.specs.Changes.{added, new_unit}
+use Rattle.multi_queue.specs.declared.board.Board.{Board}
+use Rattle.multi_queue.specs.declared.counting.Counting.{Counting}
 use Rattle.multi_queue.specs.declared.entry.Entry.{Entry}
 use Rattle.multi_queue.specs.declared.entry.Lane.{Lane}
-use Rattle.multi_queue.specs.Counted.{has, differ, standing, is_live, is_ready, count_but, HeadsAll, IsCounted, IsBoardBut, KeepsLanes, Grows, AreNewQueues}
-use Rattle.multi_queue.specs.Counted.{IsLastDead, IsBehind, IsEntered, left_at, left_of, new_entry}
+use Rattle.multi_queue.specs.Counted.{has, differ, standing, is_live, is_ready, count_but, HeadsAll, IsCounted, IsBoardBut, AreKept, IsKept, KeepsLanes, Grows}
+use Rattle.multi_queue.specs.Counted.{AreNewQueues}
+use Rattle.multi_queue.specs.Counted.{IsEntered, behind, new_entry}
 use Rattle.multi_queue.specs.Seen.{key_at, seen_unit, seen, number_of, numbers_cmp, IsPlaced, IsNamed, IsQueues, IsNew, AreKnown, AreNumbersOf}
 use Rattle.ale_base.proofs.ListLemmas.{slice_get-within}
 use Rattle.multi_queue.proofs.CountedLemmas.{set-here, set-there, standing-same, standing-joined, has-snoc}
@@ -106,14 +109,14 @@ ready-behind tid (u ∷ us) (h ∷ hs) zero same = refl
 ready-behind tid (u ∷ us) (h ∷ hs) (suc p) same = ready-behind tid us hs p (omega arith)
 
 -- the tree serves for it where it has a leaf
-pub board-behind : (tid : TidOf) (height : ℕ) (units : List Entry) (counts : List ℕ) (nodes : List Bool) → length units < 2 ^ height →
-    IsBoardBut None height units counts nodes
-    → IsBoardBut None height (units ++ new_entry tid ∷ []) (counts ++ 0 ∷ []) nodes
-board-behind tid height units counts nodes room it = record {
+pub board-behind : (tid : TidOf) (units : List Entry) (board : Board) → length units < 2 ^ board.height → IsBoardBut None units board
+    → IsBoardBut None (units ++ new_entry tid ∷ []) (record board { heads = board.heads ++ 0 ∷ [] })
+board-behind tid units board room it = record {
   tree = it.tree;
+  fits = it.fits;
   room = omega (arith, room, length-append units (new_entry tid ∷ []));
-  all = omega (arith, it.all, length-append units (new_entry tid ∷ []), length-append counts (0 ∷ []));
-  ready = λ p other small. it.ready p other small ∙ sym (ready-behind tid units counts p it.all);
+  all = omega (arith, it.all, length-append units (new_entry tid ∷ []), length-append board.heads (0 ∷ []));
+  ready = λ p other small. it.ready p other small ∙ sym (ready-behind tid units board.heads p it.all);
 }
 
 counted-behind : (tid : TidOf) (units : List Entry) (lanes : List Lane) (counts : List ℕ) → IsCounted None units lanes counts →
@@ -146,6 +149,22 @@ counted-behind tid units lanes counts it = record {
   ];
 }
 
+-- where a tree grew that serves the same counts, all belongs together
+pub kept-grown : (counting : Counting) (board : Board) → board.heads ≡ counting.board.heads → (0 < length counting.units → IsBoardBut None counting.units board)
+    → IsKept None counting → IsKept None (record counting { board = board })
+kept-grown counting board heads leaves it = record {
+  counted = subst (λ (l : List ℕ). IsCounted None counting.units counting.lanes l) (sym heads) it.counted;
+  leaves = leaves;
+}
+
+-- a unit may come behind all others where the tree has a leaf for it
+pub kept-behind : (tid : TidOf) (counting : Counting) → length counting.units < 2 ^ counting.board.height → IsBoardBut None counting.units counting.board
+    → IsCounted None counting.units counting.lanes counting.board.heads → IsKept None (behind tid counting)
+kept-behind tid counting room board counted = record {
+  counted = counted-behind tid counting.units counting.lanes counting.board.heads counted;
+  leaves = λ _. board-behind tid counting.units counting.board room board;
+}
+
 heads-behind : (tid : TidOf) (r : ℕ) (units : List Entry) → r < length units → HeadsAll r units → HeadsAll r (units ++ new_entry tid ∷ [])
 heads-behind tid r units within all = record {
   first = λ u q at_r h. elim (get-split units (new_entry tid ∷ []) r u at_r) [
@@ -153,16 +172,6 @@ heads-behind tid r units within all = record {
     | inr (j, e, back) ↦ absurd (omega (arith, within, e))
   ];
 }
-
--- the new unit is the last one, not live and in no queue
-pub last-behind : (tid : TidOf) (units : List Entry) → IsLastDead (length units) (units ++ new_entry tid ∷ [])
-last-behind tid units = record {
-  last = length-append units (new_entry tid ∷ []);
-  dead = λ u at. let same : new_entry tid ≡ u = cc (get-end units (new_entry tid), at) in ap (λ (x : Entry). x.live) (sym same);
-}
-
-pub left-behind : (tid : TidOf) (units : List Entry) → left_at (length units) (units ++ new_entry tid ∷ []) ≡ 0
-left-behind tid units = ap (λ o. left_of o) (get-end units (new_entry tid))
 
 -- ---- the new unit is in its queues, and live
 
@@ -184,32 +193,28 @@ first-front : (xs : List ℕ) (p r : ℕ) → slice_get xs 0 ≡ Some r → slic
 first-front [] p r at = absurd (cc)
 first-front (x ∷ xs) p r at = at
 
-module _ {units : List Entry} {lanes : List Lane} {counts : List ℕ} {nodes : List Bool} {height : ℕ} {places : ℕ × ℕ → Option ℕ} {names : ℕ × List ℕ → Option ℕ}
-    (it : IsQueues units lanes counts nodes height places names) where
+module _ {units : List Entry} {lanes : List Lane} {board : Board} {places : ℕ × ℕ → Option ℕ} {names : ℕ × List ℕ → Option ℕ}
+    (it : IsQueues units lanes board places names) where
   -- what the lists keep where there is another tree
-  pub board-keeps : (nodes2 : List Bool) (height2 : ℕ) (places2 : ℕ × ℕ → Option ℕ) → (0 < length units → IsBoardBut None height2 units counts nodes2) →
-      2 * 2 ^ height2 < 2 ^ 64 → IsPlaced units places2
-      → IsQueues units lanes counts nodes2 height2 places2 names
-  board-keeps nodes2 height2 places2 board fits placed = record {
-    counted = it.counted;
-    board = board;
-    fits = fits;
+  pub board-keeps : (units2 : List Entry) (lanes2 : List Lane) (board2 : Board) (places2 : ℕ × ℕ → Option ℕ) → units2 ≡ units → lanes2 ≡ lanes →
+      AreKept None units2 lanes2 board2 → IsPlaced units2 places2 → IsQueues units2 lanes2 board2 places2 names
+  board-keeps units2 lanes2 board2 places2 same_units same_lanes kept placed = record {
+    kept = kept;
     placed = placed;
-    named = it.named;
-    gone = it.gone;
-    claims = it.claims;
+    named = subst (λ (l : List Lane). IsNamed l names) (sym same_lanes) it.named;
+    gone = subst (λ (l : List Entry). (p : ℕ) (u : Entry) → slice_get l p ≡ Some u → u.live ≡ false → u.queues ≡ []) (sym same_units) it.gone;
+    claims = subst (λ (l : List Entry). (p : ℕ) (u : Entry) → slice_get l p ≡ Some u → is_none u.claim ≡ false → (u.live ≡ true) × HeadsAll p l)
+        (sym same_units) it.claims;
   }
 
   -- what they keep where a unit comes behind all others, in no queue and not live
-  pub behind-keeps : (tid : TidOf) (nodes2 : List Bool) (height2 : ℕ) (places2 : ℕ × ℕ → Option ℕ) →
-      IsBoardBut None height2 (units ++ new_entry tid ∷ []) (counts ++ 0 ∷ []) nodes2 → 2 * 2 ^ height2 < 2 ^ 64
-      → IsPlaced (units ++ new_entry tid ∷ []) places2 → IsQueues (units ++ new_entry tid ∷ []) lanes (counts ++ 0 ∷ []) nodes2 height2 places2 names
-  behind-keeps tid nodes2 height2 places2 board fits placed = record {
-    counted = counted-behind tid units lanes counts it.counted;
-    board = λ some. board;
-    fits = fits;
+  pub behind-keeps : (tid : TidOf) (lanes2 : List Lane) (board2 : Board) (places2 : ℕ × ℕ → Option ℕ) → lanes2 ≡ lanes →
+      AreKept None (units ++ new_entry tid ∷ []) lanes2 board2
+      → IsPlaced (units ++ new_entry tid ∷ []) places2 → IsQueues (units ++ new_entry tid ∷ []) lanes2 board2 places2 names
+  behind-keeps tid lanes2 board2 places2 same kept placed = record {
+    kept = kept;
     placed = placed;
-    named = it.named;
+    named = subst (λ (l : List Lane). IsNamed l names) (sym same) it.named;
     gone = λ p u at_p dead. elim (get-split units (new_entry tid ∷ []) p u at_p) [
       | inl front ↦ it.gone p u front dead
       | inr (j, e, back) ↦ ap (λ (x : Entry). x.queues) (sym (get-end_only (new_entry tid) u j back))
@@ -222,40 +227,27 @@ module _ {units : List Entry} {lanes : List Lane} {counts : List ℕ} {nodes : L
   }
 
   -- what they keep where entries of queues change, and the counts follow
-  pub lanes-keep : (after : List Lane) (counts2 : List ℕ) (nodes2 : List Bool) → KeepsLanes lanes after → IsCounted None units after counts2 →
-      IsBoardBut None height units counts2 nodes2
-      → IsQueues units after counts2 nodes2 height places names
-  lanes-keep after counts2 nodes2 keeps counted board = record {
-    counted = counted;
-    board = λ some. board;
-    fits = it.fits;
+  pub lanes-keep : (after : List Lane) (board2 : Board) → KeepsLanes lanes after → AreKept None units after board2 → IsQueues units after board2 places names
+  lanes-keep after board2 keeps kept = record {
+    kept = kept;
     placed = it.placed;
     named = named-kept lanes after names (lanes-keys lanes after keeps) it.named;
     gone = it.gone;
     claims = it.claims;
   }
 
-  pub seen-lanes : (after : List Lane) → KeepsLanes lanes after → seen units after ≡ seen units lanes
-  seen-lanes after keeps =
-      let us = units-kept lanes after (lanes-keys lanes after keeps) (filter is_live units) in
-      let stops = stops-kept lanes after keeps in
-      λ i. record { units = us i; stops = stops i }
-
   -- what they keep where the last unit, which is in no queue and not live, is in queues and live
-  pub enter-keeps : (p : ℕ) (u : Entry) (qs : List ℕ) (after : List Lane) (counts2 : List ℕ) (nodes2 : List Bool) → slice_get units p ≡ Some u →
+  pub enter-keeps : (p : ℕ) (u : Entry) (qs : List ℕ) (after : List Lane) (board2 : Board) → slice_get units p ≡ Some u →
       length units ≡ p + 1 → u.queues ≡ [] → is_none u.claim ≡ true
-      → places (number_of u.tid) ≡ Some p → KeepsLanes lanes after → IsCounted None (slice_set units p (record u { queues = qs; live = true })) after counts2
-      → IsBoardBut None height (slice_set units p (record u { queues = qs; live = true })) counts2 nodes2
-      → IsQueues (slice_set units p (record u { queues = qs; live = true })) after counts2 nodes2 height places names
-  enter-keeps p u qs after counts2 nodes2 at_p last empty free placed keeps counted board =
+      → places (number_of u.tid) ≡ Some p → KeepsLanes lanes after → AreKept None (slice_set units p (record u { queues = qs; live = true })) after board2
+      → IsQueues (slice_set units p (record u { queues = qs; live = true })) after board2 places names
+  enter-keeps p u qs after board2 at_p last empty free placed keeps kept =
       let v : Entry = record u { queues = qs; live = true } in
       let z : 0 + p ≡ p = omega arith in
       let stands : (q r : ℕ) → slice_get (standing q 0 units) 0 ≡ Some r → slice_get (standing q 0 (slice_set units p v)) 0 ≡ Some r =
       λ q r first. by_has q r first (has q qs) refl in
       record {
-        counted = counted;
-        board = λ some. board;
-        fits = it.fits;
+        kept = kept;
         placed = record {
           there = λ number r h.
               let old = it.placed.there number r h in
@@ -381,71 +373,58 @@ new-id tid units lanes places it none p u at_p live same =
 
 -- ---- an addition, step by step
 
-pub at-behind : (tid : TidOf) (units after : List Entry) (heads counts : List ℕ) → IsBehind tid units after heads counts →
-    slice_get after (length units) ≡ Some (new_entry tid)
-at-behind tid units after heads counts it = ap (λ (l : List Entry). slice_get l (length units)) it.units_are ∙ get-end units (new_entry tid)
+pub at-behind : (tid : TidOf) (units after : List Entry) → after ≡ units ++ new_entry tid ∷ [] → slice_get after (length units) ≡ Some (new_entry tid)
+at-behind tid units after it = ap (λ (l : List Entry). slice_get l (length units)) it ∙ get-end units (new_entry tid)
 
-pub length-behind : (tid : TidOf) (units after : List Entry) (heads counts : List ℕ) → IsBehind tid units after heads counts → length after ≡ length units + 1
-length-behind tid units after heads counts it = ap (λ (l : List Entry). length l) it.units_are ∙ length-append units (new_entry tid ∷ [])
+pub length-behind : (tid : TidOf) (units after : List Entry) → after ≡ units ++ new_entry tid ∷ [] → length after ≡ length units + 1
+length-behind tid units after it = ap (λ (l : List Entry). length l) it ∙ length-append units (new_entry tid ∷ [])
 
 -- what the lists keep once there is a place
-pub room-keeps : {units : List Entry} {lanes : List Lane} {counts : List ℕ} {nodes : List Bool} {height : ℕ} {places : ℕ × ℕ → Option ℕ}
-    {names : ℕ × List ℕ → Option ℕ}
-    → IsQueues units lanes counts nodes height places names → (tid : TidOf) (units1 : List Entry) (counts1 : List ℕ) (nodes1 : List Bool) (height1 : ℕ)
-    (places1 : ℕ × ℕ → Option ℕ)
-    → IsBehind tid units units1 counts counts1 → IsBoardBut None height1 units1 counts1 nodes1 → 2 * 2 ^ height1 < 2 ^ 64 → IsPlaced units1 places1 →
-    IsQueues units1 lanes counts1 nodes1 height1 places1 names
-room-keeps {units} {lanes} {counts} {names = names} it tid units1 counts1 nodes1 height1 places1 behind board fits placed =
-    subst (λ (l : List Entry). IsQueues l lanes counts1 nodes1 height1 places1 names) (sym behind.units_are)
-    (subst (λ (l : List ℕ). IsQueues (units ++ new_entry tid ∷ []) lanes l nodes1 height1 places1 names) (sym behind.heads_are)
-    (behind-keeps it tid nodes1 height1 places1
-    (subst (λ (l : List ℕ). IsBoardBut None height1 (units ++ new_entry tid ∷ []) l nodes1) behind.heads_are
-    (subst (λ (l : List Entry). IsBoardBut None height1 l counts1 nodes1) behind.units_are board))
-    fits (subst (λ (l : List Entry). IsPlaced l places1) behind.units_are placed)))
+pub room-keeps : {units : List Entry} {lanes : List Lane} {board : Board} {places : ℕ × ℕ → Option ℕ} {names : ℕ × List ℕ → Option ℕ}
+    → IsQueues units lanes board places names → (tid : TidOf) (units1 : List Entry) (lanes1 : List Lane) (board1 : Board) (places1 : ℕ × ℕ → Option ℕ)
+    → lanes1 ≡ lanes → units1 ≡ units ++ new_entry tid ∷ [] → AreKept None units1 lanes1 board1 → IsPlaced units1 places1 →
+    IsQueues units1 lanes1 board1 places1 names
+room-keeps {units} {names = names} it tid units1 lanes1 board1 places1 same behind kept placed =
+    subst (λ (l : List Entry). IsQueues l lanes1 board1 places1 names) (sym behind)
+    (behind-keeps it tid lanes1 board1 places1 same (subst (λ (l : List Entry). AreKept None l lanes1 board1) behind kept)
+    (subst (λ (l : List Entry). IsPlaced l places1) behind placed))
 
 -- what they keep at the end
-pub end-keeps : {units : List Entry} {lanes : List Lane} {counts : List ℕ} {nodes : List Bool} {height : ℕ} {places : ℕ × ℕ → Option ℕ}
-    {names : ℕ × List ℕ → Option ℕ}
-    → IsQueues units lanes counts nodes height places names → (tid : TidOf) (p : ℕ) (qs : List ℕ) (units2 : List Entry) (after : List Lane) (counts2 : List ℕ)
-    (nodes2 : List Bool)
+pub end-keeps : {units : List Entry} {lanes : List Lane} {board : Board} {places : ℕ × ℕ → Option ℕ} {names : ℕ × List ℕ → Option ℕ}
+    → IsQueues units lanes board places names → (tid : TidOf) (p : ℕ) (qs : List ℕ) (units2 : List Entry) (after : List Lane) (board2 : Board)
     → slice_get units p ≡ Some (new_entry tid) → length units ≡ p + 1 → places (number_of tid) ≡ Some p → KeepsLanes lanes after → IsEntered p qs units units2 →
-    IsCounted None units2 after counts2
-    → IsBoardBut None height units2 counts2 nodes2 → IsQueues units2 after counts2 nodes2 height places names
-end-keeps {height = height} {places = places} {names = names} it tid p qs units2 after counts2 nodes2 at_p last placed keeps enters counted board =
+    AreKept None units2 after board2 → IsQueues units2 after board2 places names
+end-keeps {places = places} {names = names} it tid p qs units2 after board2 at_p last placed keeps enters kept =
     let e = enters.entered (new_entry tid) at_p in
-    subst (λ (l : List Entry). IsQueues l after counts2 nodes2 height places names) (sym e)
-    (enter-keeps it p (new_entry tid) qs after counts2 nodes2 at_p last refl refl placed keeps
-    (subst (λ (l : List Entry). IsCounted None l after counts2) e counted) (subst (λ (l : List Entry). IsBoardBut None height l counts2 nodes2) e board))
+    subst (λ (l : List Entry). IsQueues l after board2 places names) (sym e)
+    (enter-keeps it p (new_entry tid) qs after board2 at_p last refl refl placed keeps (subst (λ (l : List Entry). AreKept None l after board2) e kept))
 
 -- what they keep where the unit could not be in its queues
-pub end-fails : {units : List Entry} {lanes : List Lane} {counts : List ℕ} {nodes : List Bool} {height : ℕ} {places : ℕ × ℕ → Option ℕ}
-    {names : ℕ × List ℕ → Option ℕ}
-    → IsQueues units lanes counts nodes height places names → (units2 : List Entry) (after : List Lane) (counts2 : List ℕ) (nodes2 : List Bool) →
-    KeepsLanes lanes after → units2 ≡ units
-    → IsCounted None units2 after counts2 → IsBoardBut None height units2 counts2 nodes2 → IsQueues units2 after counts2 nodes2 height places names
-end-fails {height = height} {places = places} {names = names} it units2 after counts2 nodes2 keeps e counted board =
-    subst (λ (l : List Entry). IsQueues l after counts2 nodes2 height places names) (sym e)
-    (lanes-keep it after counts2 nodes2 keeps (subst (λ (l : List Entry). IsCounted None l after counts2) e counted)
-    (subst (λ (l : List Entry). IsBoardBut None height l counts2 nodes2) e board))
+pub end-fails : {units : List Entry} {lanes : List Lane} {board : Board} {places : ℕ × ℕ → Option ℕ} {names : ℕ × List ℕ → Option ℕ}
+    → IsQueues units lanes board places names → (units2 : List Entry) (after : List Lane) (board2 : Board) →
+    KeepsLanes lanes after → units2 ≡ units → AreKept None units2 after board2 → IsQueues units2 after board2 places names
+end-fails {places = places} {names = names} it units2 after board2 keeps e kept =
+    subst (λ (l : List Entry). IsQueues l after board2 places names) (sym e)
+    (lanes-keep it after board2 keeps (subst (λ (l : List Entry). AreKept None l after board2) e kept))
 
 -- what is seen at the end
-pub seen-end : (tid : TidOf) (units units1 units2 : List Entry) (heads counts : List ℕ) (lanes after : List Lane) (keys : List QueueKey) (qs : List ℕ) (p : ℕ) →
+pub seen-end : (tid : TidOf) (units units1 units2 : List Entry) (lanes after : List Lane) (keys : List QueueKey) (qs : List ℕ) (p : ℕ) →
     p ≡ length units
-    → IsBehind tid units units1 heads counts → KeepsLanes lanes after → AreNumbersOf keys lanes qs → IsEntered p qs units1 units2 →
+    → units1 ≡ units ++ new_entry tid ∷ [] → KeepsLanes lanes after → AreNumbersOf keys lanes qs → IsEntered p qs units1 units2 →
     seen units2 after ≡ added tid keys (seen units lanes)
-seen-end tid units units1 units2 heads counts lanes after keys qs p place behind keeps numbers enters =
+seen-end tid units units1 units2 lanes after keys qs p place behind keeps numbers enters =
     let v : Entry = record (new_entry tid) { queues = qs; live = true } in
-    let at_p : slice_get units1 p ≡ Some (new_entry tid) = ap (λ i. slice_get units1 i) place ∙ at-behind tid units units1 heads counts behind in
+    let at_p : slice_get units1 p ≡ Some (new_entry tid) = ap (λ i. slice_get units1 i) place ∙ at-behind tid units units1 behind in
     ap (λ (l : List Entry). seen l after) (enters.entered (new_entry tid) at_p)
-    ∙ ap (λ (l : List Entry). seen (slice_set l p v) after) behind.units_are
+    ∙ ap (λ (l : List Entry). seen (slice_set l p v) after) behind
     ∙ ap (λ i. seen (slice_set (units ++ new_entry tid ∷ []) i v) after) place
     ∙ seen-enter tid units lanes after keys qs keeps numbers
 
-pub seen-fails : (tid : TidOf) (units units1 units2 : List Entry) (heads counts : List ℕ) (lanes after : List Lane) → IsBehind tid units units1 heads counts →
+pub seen-fails : (tid : TidOf) (units units1 units2 : List Entry) (lanes after : List Lane) → units1 ≡ units ++ new_entry tid ∷ [] →
     KeepsLanes lanes after → units2 ≡ units1
     → seen units2 after ≡ seen units lanes
-seen-fails tid units units1 units2 heads counts lanes after behind keeps e =
+seen-fails tid units units1 units2 lanes after behind keeps e =
     let us = units-kept lanes after (lanes-keys lanes after keeps) (filter is_live units2) in
     let stops = stops-kept lanes after keeps in
     let same : seen units2 after ≡ seen units2 lanes = λ i. record { units = us i; stops = stops i } in
-    same ∙ ap (λ (l : List Entry). seen l lanes) (e ∙ behind.units_are) ∙ seen-behind tid units lanes
+    same ∙ ap (λ (l : List Entry). seen l lanes) (e ∙ behind) ∙ seen-behind tid units lanes

@@ -10,6 +10,7 @@ use Rattle.std.proofs.lemmas.Bool.{eq-eqb}
 use Rattle.std.proofs.lemmas.Bool.Decides.{eqb_tells}
 use Rattle.std.proofs.lemmas.Grind.{common_steps}
 use Rattle.ale_base.proofs.ListLemmas.{slice_get-within}
+use Rattle.multi_queue.specs.declared.board.Board.{Board}
 use Rattle.multi_queue.specs.declared.entry.Entry.{Entry}
 use Rattle.multi_queue.specs.declared.entry.Lane.{Lane}
 use Rattle.multi_queue.specs.Counted.{has, differ, standing, is_first, tells, is_but, count_but, IsCounted, cut, HeadsAll, cost, cost_at, cost_of, looks}
@@ -525,22 +526,23 @@ first-seen q n (x ∷ xs) p live h =
 pub apart-of : (p r : ℕ) → not (eqb p r) ≡ true → p ≢ r
 apart-of p r h e = absurd (let t = eq-eqb p r e in cc (h, ap (λ b. not b) t))
 
-pub board-heads : (height p k : ℕ) (units : List Entry) (heads : List ℕ) (nodes : List Bool) → IsBoardBut None height units heads nodes →
-    IsBoardBut (Some p) height units (slice_set heads p k) nodes
-board-heads height p k units heads nodes it = record {
+pub board-heads : (p k : ℕ) (units : List Entry) (board : Board) → IsBoardBut None units board →
+    IsBoardBut (Some p) units (record board { heads = slice_set board.heads p k })
+board-heads p k units board it = record {
   tree = it.tree;
+  fits = it.fits;
   room = it.room;
-  all = length-set heads p k ∙ it.all;
-  ready = λ r other small. it.ready r refl small ∙ sym (ap (λ o. is_ready (slice_get units r) o) (set-there heads p r k (apart-of p r other)));
+  all = length-set board.heads p k ∙ it.all;
+  ready = λ r other small. it.ready r refl small ∙ sym (ap (λ o. is_ready (slice_get units r) o) (set-there board.heads p r k (apart-of p r other)));
 }
 
-pub board-units : (height p : ℕ) (u : Entry) (units : List Entry) (heads : List ℕ) (nodes : List Bool) → IsBoardBut None height units heads nodes →
-    IsBoardBut (Some p) height (slice_set units p u) heads nodes
-board-units height p u units heads nodes it = record {
+pub board-units : (p : ℕ) (u : Entry) (units : List Entry) (board : Board) → IsBoardBut None units board → IsBoardBut (Some p) (slice_set units p u) board
+board-units p u units board it = record {
   tree = it.tree;
+  fits = it.fits;
   room = omega (arith, it.room, length-set units p u);
   all = it.all ∙ sym (length-set units p u);
-  ready = λ r other small. it.ready r refl small ∙ sym (ap (λ o. is_ready o (slice_get heads r)) (set-there units p r u (apart-of p r other)));
+  ready = λ r other small. it.ready r refl small ∙ sym (ap (λ o. is_ready o (slice_get board.heads r)) (set-there units p r u (apart-of p r other)));
 }
 
 -- a claimed unit, or one that is not live, is not offered, whatever its count is
@@ -553,20 +555,21 @@ dead-idle u None dead = refl
 dead-idle u (Some h) dead = grind (arith, common_steps)
 
 -- a unit that is not offered before or after may be changed
-pub board-idle : (height p : ℕ) (u v : Entry) (units : List Entry) (heads : List ℕ) (nodes : List Bool) → slice_get units p ≡ Some u
+pub board-idle : (p : ℕ) (u v : Entry) (units : List Entry) (board : Board) → slice_get units p ≡ Some u
     → ((o : Option ℕ) → is_ready (Some u) o ≡ false) → ((o : Option ℕ) → is_ready (Some v) o ≡ false)
-    → IsBoardBut None height units heads nodes → IsBoardBut None height (slice_set units p v) heads nodes
-board-idle height p u v units heads nodes got before after it = record {
+    → IsBoardBut None units board → IsBoardBut None (slice_set units p v) board
+board-idle p u v units board got before after it = record {
   tree = it.tree;
+  fits = it.fits;
   room = omega (arith, it.room, length-set units p v);
   all = it.all ∙ sym (length-set units p v);
   ready = λ r other small. elim (eqb_tells p r) [
     | inl e ↦
         let at_r : slice_get units r ≡ Some u = subst (λ i. slice_get units i ≡ Some u) e.1 got in
         let now_r : slice_get (slice_set units p v) r ≡ Some v = subst (λ i. slice_get (slice_set units p v) i ≡ Some v) e.1 (set-here units p u v got) in
-        it.ready r refl small ∙ ap (λ o. is_ready o (slice_get heads r)) at_r ∙ before (slice_get heads r)
-        ∙ sym (after (slice_get heads r)) ∙ sym (ap (λ o. is_ready o (slice_get heads r)) now_r)
-    | inr e ↦ it.ready r refl small ∙ sym (ap (λ o. is_ready o (slice_get heads r)) (set-there units p r v e.1))
+        it.ready r refl small ∙ ap (λ o. is_ready o (slice_get board.heads r)) at_r ∙ before (slice_get board.heads r)
+        ∙ sym (after (slice_get board.heads r)) ∙ sym (ap (λ o. is_ready o (slice_get board.heads r)) now_r)
+    | inr e ↦ it.ready r refl small ∙ sym (ap (λ o. is_ready o (slice_get board.heads r)) (set-there units p r v e.1))
   ];
 }
 
@@ -634,21 +637,6 @@ parting q p units lanes heads u old w got at_p last ends line it =
       known = λ r h. it.known p u r at_p (ap (λ l. has r l) ends ∙ has-snoc r q rest ∙ rw h refl);
       line = line ∙ ap (λ (l : List ℕ). take (length l - 1) l) (it.lines q old got ∙ back) ∙ take-snoc (standing q 0 after) (0 + p);
     }
-
--- the queues of a unit that is not live may change
-pub board-leaves : (height p : ℕ) (u : Entry) (units after : List Entry) (heads : List ℕ) (nodes : List Bool) → slice_get units p ≡ Some u → u.live ≡ false
-    → Leaves p units after → IsBoardBut None height units heads nodes → IsBoardBut None height after heads nodes
-board-leaves height p u units after heads nodes got dead leaves it =
-    let one = leaves.leaves u got in
-    let v : Entry = record u { queues = one.0 } in
-    subst (λ (l : List Entry). IsBoardBut None height l heads nodes) (sym one.1)
-    (board-idle height p u v units heads nodes got (λ o. dead-idle u o dead) (λ o. dead-idle v o dead) it)
-
-pub board-cut : (height p : ℕ) (u : Entry) (units after : List Entry) (heads : List ℕ) (nodes : List Bool) → slice_get units p ≡ Some u → u.live ≡ false
-    → IsCut p units after → IsBoardBut None height units heads nodes → IsBoardBut None height after heads nodes
-board-cut height p u units after heads nodes got dead cuts it =
-    subst (λ (l : List Entry). IsBoardBut None height l heads nodes) (sym (cuts.cuts u got))
-    (board-idle height p u (cut u) units heads nodes got (λ o. dead-idle u o dead) (λ o. dead-idle (cut u) o dead) it)
 
 -- the last unit stays the last, and not live, whatever its queues are
 pub leaves-last : (p : ℕ) (units after : List Entry) (u : Entry) → slice_get units p ≡ Some u → Leaves p units after → IsLastDead p units → IsLastDead p after

@@ -14,9 +14,10 @@ use Rattle.plain_queues.specs.declared.queue_key.QueueKey.{QueueKey}
 use Rattle.plain_queues.specs.declared.queued_unit.QueuedUnit.{QueuedUnit}
 use Rattle.plain_queues.specs.Queues.{QueuesOf, head_of, claim_of}
 use Rattle.plain_queues.specs.Changes.{finished, is_new_head, new_heads, most_looks}
+use Rattle.multi_queue.specs.declared.board.Board.{Board}
 use Rattle.multi_queue.specs.declared.entry.Entry.{Entry}
 use Rattle.multi_queue.specs.declared.entry.Lane.{Lane}
-use Rattle.multi_queue.specs.Counted.{has, standing, is_live, HeadsAll, IsCounted, IsBoardBut, KeepsLanes, cost, cost_at, cost_of, gone}
+use Rattle.multi_queue.specs.Counted.{has, standing, is_live, HeadsAll, AreKept, KeepsLanes, cost, cost_at, cost_of, gone}
 use Rattle.multi_queue.specs.Seen.{key_at, seen_unit, seen, number_of, IsQueues, AreKnown}
 use Rattle.ale_base.proofs.ListLemmas.{slice_get-within}
 use Rattle.multi_queue.proofs.CountedLemmas.{set-here, set-there, first-stands, standing-same, standing-gone, get-drop_one}
@@ -123,8 +124,8 @@ looks-most units lanes test (q ∷ qs) known heads =
     by false true h = omega arith
     by false false h = omega arith
 
-module _ {units : List Entry} {lanes : List Lane} {counts : List ℕ} {nodes : List Bool} {height : ℕ} {places : ℕ × ℕ → Option ℕ} {names : ℕ × List ℕ → Option ℕ}
-    (it : IsQueues units lanes counts nodes height places names) where
+module _ {units : List Entry} {lanes : List Lane} {board : Board} {places : ℕ × ℕ → Option ℕ} {names : ℕ × List ℕ → Option ℕ}
+    (it : IsQueues units lanes board places names) where
   -- the unit of a claim that is held is claimed
   pub held-claimed : (tid : TidOf) (number p : ℕ) (u : Entry) → claim_of tid (seen units lanes) ≡ Some number → places (number_of tid) ≡ Some p →
       slice_get units p ≡ Some u → u.live ≡ true
@@ -167,13 +168,10 @@ module _ {units : List Entry} {lanes : List Lane} {counts : List ℕ} {nodes : L
     }
 
     -- what the lists keep
-    pub finish-keeps : (counts2 : List ℕ) (nodes2 : List Bool) → IsCounted None (slice_set units p (gone u)) after counts2 →
-        IsBoardBut None height (slice_set units p (gone u)) counts2 nodes2
-        → IsQueues (slice_set units p (gone u)) after counts2 nodes2 height places names
-    finish-keeps counts2 nodes2 counted board = record {
-      counted = counted;
-      board = λ some. board;
-      fits = it.fits;
+    pub finish-keeps : (board2 : Board) → AreKept None (slice_set units p (gone u)) after board2 →
+        IsQueues (slice_set units p (gone u)) after board2 places names
+    finish-keeps board2 kept = record {
+      kept = kept;
       placed = record {
         there = λ number r h.
             let old = it.placed.there number r h in
@@ -208,7 +206,7 @@ module _ {units : List Entry} {lanes : List Lane} {counts : List ℕ} {nodes : L
           ];
     }
 
-    module _ (counts2 : List ℕ) (nodes2 : List Bool) (now : IsQueues (slice_set units p (gone u)) after counts2 nodes2 height places names) where
+    module _ (board2 : Board) (now : IsQueues (slice_set units p (gone u)) after board2 places names) where
       -- a queue of the unit in which another one is behind it has a new head
       new-head : (q : ℕ) (w : Lane) → has q u.queues ≡ true → slice_get lanes q ≡ Some w → is_some (slice_get (standing q 0 units) 1) ≡ true
           → is_new_head (head_of w.key (seen units lanes)) (head_of w.key (finished u.tid (seen units lanes))) ≡ true
@@ -218,7 +216,7 @@ module _ {units : List Entry} {lanes : List Lane} {counts : List ℕ} {nodes : L
           let first_q = first.first u q at_p h in
           let before : head_of w.key (seen units lanes) ≡ Some (seen_unit lanes u) =
           head-line it q w at_q ∙ ap (λ o. option_map (seen_unit lanes) (option_and_then (λ i. slice_get units i) o))
-          (ap (λ l. slice_get l 0) (it.counted.lines q w at_q) ∙ first_q)
+          (ap (λ l. slice_get l 0) (it.kept.counted.lines q w at_q) ∙ first_q)
           ∙ ap (λ (o : Option Entry). option_map (seen_unit lanes) o) at_p in
           let shorter : slice_get (standing q 0 (slice_set units p (gone u))) 0 ≡ slice_get (standing q 0 units) 1 =
           ap (λ l. slice_get l 0) (standing-gone q 0 units p u (gone u) at_p refl (first_q ∙ ap (λ i. Some i) (zero-in p)))
@@ -228,7 +226,7 @@ module _ {units : List Entry} {lanes : List Lane} {counts : List ℕ} {nodes : L
           ap (λ (queues : QueuesOf). head_of w.key queues) (sym seen-finished)
           ∙ ap (λ (k : QueueKey). head_of k (seen (slice_set units p (gone u)) after)) (sym key)
           ∙ head-line now q x.0 x.1 ∙ ap (λ o. option_map (seen_unit after) (option_and_then (λ i. slice_get (slice_set units p (gone u)) i) o))
-          (ap (λ l. slice_get l 0) (now.counted.lines q x.0 x.1) ∙ shorter) in
+          (ap (λ l. slice_get l 0) (now.kept.counted.lines q x.0 x.1) ∙ shorter) in
           ap (λ (o : Option QueuedUnit). is_new_head o (head_of w.key (finished u.tid (seen units lanes)))) before
           ∙ ap (λ (o : Option QueuedUnit). is_new_head (Some (seen_unit lanes u)) o) later
           ∙ by (slice_get (standing q 0 units) 1) more shorter
@@ -253,7 +251,7 @@ module _ {units : List Entry} {lanes : List Lane} {counts : List ℕ} {nodes : L
       -- a finish looks at no more entries than it may
       pub finish-looks : cost_at p units ≤ most_looks u.tid (seen units lanes)
       finish-looks =
-          let known : AreKnown u.queues lanes = λ q h. it.counted.known p u q at_p h in
+          let known : AreKnown u.queues lanes = λ q h. it.kept.counted.known p u q at_p h in
           let test : QueueKey → Bool = λ key. is_new_head (head_of key (seen units lanes)) (head_of key (finished u.tid (seen units lanes))) in
           let most = looks-most units lanes test u.queues known (λ q w h at_q more. new-head q w h at_q more) in
           let cost_is : cost_at p units ≡ cost units u.queues = ap (λ (o : Option Entry). cost_of units o) at_p in

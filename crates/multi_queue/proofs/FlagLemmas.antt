@@ -1,12 +1,13 @@
 -- What the lists keep where a unit is written and stays in its queues.
 use Rattle.std.specs.Prelude.{slice_get, slice_set}
 use Rattle.std.specs.Option.{is_none}
-use Rattle.std.proofs.Common.{◌≡◌, ◌≤◌, ℕ, Bool, true, false, Option, Some, None, List, length, inl, inr, refl, sym, ap, subst, ◌∙◌}
+use Rattle.std.proofs.Common.{◌≡◌, ◌≤◌, ℕ, true, false, Option, Some, None, List, length, inl, inr, refl, sym, ap, subst, ◌∙◌}
 use Rattle.std.proofs.lemmas.Bool.Decides.{eqb_tells}
 use Rattle.std.proofs.lemmas.List.{length-set}
+use Rattle.multi_queue.specs.declared.board.Board.{Board}
 use Rattle.multi_queue.specs.declared.entry.Entry.{Entry}
 use Rattle.multi_queue.specs.declared.entry.Lane.{Lane}
-use Rattle.multi_queue.specs.Counted.{IsCounted, IsBoardBut, HeadsAll, count_but, differ, has}
+use Rattle.multi_queue.specs.Counted.{IsCounted, AreKept, HeadsAll, count_but, differ, has}
 use Rattle.multi_queue.specs.Seen.{number_of, IsPlaced, IsQueues}
 use Rattle.multi_queue.proofs.CountedLemmas.{set-here, set-there, standing-same}
 use Rattle.multi_queue.proofs.SeenLemmas.{IsFlag}
@@ -79,26 +80,30 @@ flag-placed units places p u v got flag it = record {
       ap (λ t. places (number_of t)) y.flag.tid ∙ it.placed r y.unit y.stood (sym y.flag.live ∙ l);
 }
 
--- a claim or a mark may be written where the tree follows, and where a unit that is claimed then is live and heads its queues
-pub flag-keeps : (units : List Entry) (lanes : List Lane) (heads : List ℕ) (nodes after : List Bool) (height : ℕ) (places : ℕ × ℕ → Option ℕ)
-    (names : ℕ × List ℕ → Option ℕ) (p : ℕ) (u v : Entry) → slice_get units p ≡ Some u → IsFlag u v
+-- a claim or a mark may be written where the board follows, and where a unit that is claimed then is live and heads its queues
+pub flag-keeps : (units : List Entry) (lanes : List Lane) (board : Board) (units2 : List Entry) (lanes2 : List Lane) (board2 : Board)
+    (places : ℕ × ℕ → Option ℕ) (names : ℕ × List ℕ → Option ℕ) (p : ℕ) (u v : Entry) → slice_get units p ≡ Some u → IsFlag u v
     → (is_none v.claim ≡ false → (u.live ≡ true) × HeadsAll p units)
-    → IsQueues units lanes heads nodes height places names → IsBoardBut None height (slice_set units p v) heads after
-    → IsQueues (slice_set units p v) lanes heads after height places names
-flag-keeps units lanes heads nodes after height places names p u v got flag claims it board = record {
-  counted = same-counted units lanes heads p u v got flag.queues it.counted;
-  board = λ some. board;
-  fits = it.fits;
-  placed = flag-placed units places p u v got flag it.placed;
-  named = it.named;
-  gone = λ r x a l. let y = flag-back units p r u v x got flag a in y.flag.queues ∙ it.gone r y.unit y.stood (sym y.flag.live ∙ l);
-  claims = λ r x a f. elim (eqb_tells p r) [
-    | inl e ↦
-        let same : v ≡ x = cc (set-here units p u v got, a, e.1) in
-        let its = claims (subst (λ (y : Entry). is_none y.claim ≡ false) (sym same) f) in
-        (ap (λ (y : Entry). y.live) (sym same) ∙ flag.live ∙ its.0, subst (λ i. HeadsAll i (slice_set units p v)) e.1 (flag-heads units p p u v got flag its.1))
-    | inr e ↦
-        let old = it.claims r x (sym (set-there units p r v e.1) ∙ a) f in
-        (old.0, flag-heads units p r u v got flag old.1)
-  ];
-}
+    → IsQueues units lanes board places names → units2 ≡ slice_set units p v → lanes2 ≡ lanes → AreKept None units2 lanes2 board2
+    → IsQueues units2 lanes2 board2 places names
+flag-keeps units lanes board units2 lanes2 board2 places names p u v got flag claims it written same kept =
+    subst (λ (l : List Entry). IsQueues l lanes2 board2 places names) (sym written)
+    (subst (λ (l : List Lane). IsQueues (slice_set units p v) l board2 places names) (sym same) (record {
+      kept = subst (λ (l : List Lane). AreKept None (slice_set units p v) l board2) same
+          (subst (λ (l : List Entry). AreKept None l lanes2 board2) written kept);
+      placed = flag-placed units places p u v got flag it.placed;
+      named = it.named;
+      gone = λ r x a l. let y = flag-back units p r u v x got flag a in y.flag.queues ∙ it.gone r y.unit y.stood (sym y.flag.live ∙ l);
+      claims = λ r x a f. elim (eqb_tells p r) [
+        | inl e ↦
+            let same : v ≡ x = cc (set-here units p u v got, a, e.1) in
+            let its = claims (subst (λ (y : Entry). is_none y.claim ≡ false) (sym same) f) in (
+              ap (λ (y : Entry). y.live) (sym same) ∙ flag.live
+                  ∙ its.0,
+              subst (λ i. HeadsAll i (slice_set units p v)) e.1 (flag-heads units p p u v got flag its.1),
+            )
+        | inr e ↦
+            let old = it.claims r x (sym (set-there units p r v e.1) ∙ a) f in
+            (old.0, flag-heads units p r u v got flag old.1)
+      ];
+    }))

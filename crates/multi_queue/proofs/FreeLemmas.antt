@@ -2,12 +2,13 @@
 use Rattle.std.specs.Prelude.{slice_get, ◌&&◌}
 use Rattle.std.specs.List.{filter_map, list_all, cons_option}
 use Rattle.std.specs.Option.{option_map, option_map_or, is_none}
-use Rattle.std.proofs.Common.{◌≡◌, ◌<◌, ℕ, length, Bool, true, false, ◌||◌, Option, Some, List, [], ◌∷◌, inl, inr, refl, sym, ap, ◌∙◌}
+use Rattle.std.proofs.Common.{◌≡◌, ◌<◌, ℕ, length, true, false, ◌||◌, Option, Some, List, [], ◌∷◌, inl, inr, refl, sym, ap, ◌∙◌}
 use Rattle.std.proofs.lemmas.Bool.{and_parts, eqb-true}
 use Rattle.std.proofs.lemmas.Bool.Decides.{eqb_tells}
 use Rattle.ale_base.specs.Tid.{TidOf}
 use Rattle.plain_queues.specs.declared.queued_unit.QueuedUnit.{QueuedUnit}
 use Rattle.plain_queues.specs.Offered.{heads, is_free_unit, is_free}
+use Rattle.multi_queue.specs.declared.board.Board.{Board}
 use Rattle.multi_queue.specs.declared.entry.Entry.{Entry}
 use Rattle.multi_queue.specs.declared.entry.Lane.{Lane}
 use Rattle.multi_queue.specs.Counted.{has, is_first, standing, HeadsAll}
@@ -31,8 +32,8 @@ head-among lanes p q (x ∷ xs) all h =
       | inr other ↦ head-among lanes p q xs parts.1 (sym (ap (λ b. b || has q xs) other.0) ∙ h)
     ]
 
-module _ {units : List Entry} {lanes : List Lane} {counts : List ℕ} {nodes : List Bool} {height : ℕ} {places : ℕ × ℕ → Option ℕ} {names : ℕ × List ℕ → Option ℕ}
-    (it : IsQueues units lanes counts nodes height places names) where
+module _ {units : List Entry} {lanes : List Lane} {board : Board} {places : ℕ × ℕ → Option ℕ} {names : ℕ × List ℕ → Option ℕ}
+    (it : IsQueues units lanes board places names) where
   heads-all : (p : ℕ) (u : Entry) (qs : List ℕ) → slice_get units p ≡ Some u → u.live ≡ true → AreKnown qs lanes
       → list_all (heads u.tid (seen units lanes)) (filter_map (key_at lanes) qs) ≡ heads_all_of lanes p qs
   heads-all p u [] at_p live known = refl
@@ -49,8 +50,9 @@ module _ {units : List Entry} {lanes : List Lane} {counts : List ℕ} {nodes : L
   pub free-at : (tid : TidOf) (p : ℕ) (u : Entry) → places (number_of tid) ≡ Some p → slice_get units p ≡ Some u → u.live ≡ true
       → is_free tid (seen units lanes) ≡ is_free_of lanes p u
   free-at tid p u names at_p live =
-      ap (λ (o : Option QueuedUnit). option_map_or (is_free_unit (seen units lanes)) o false) (unit_of-here tid units lanes places p u it.placed names at_p live)
-      ∙ ap (λ b. is_none u.claim && is_none u.mark && b) (heads-all p u u.queues at_p live (known-of it p u at_p))
+      ap (λ (o : Option QueuedUnit). option_map_or (is_free_unit (seen units lanes)) o false)
+      (unit_of-here tid units lanes places p u it.placed names at_p live)
+      ∙ ap (λ b. is_none u.claim && is_none u.mark && b) (heads-all p u u.queues at_p live (known-of it.kept p u at_p))
 
   pub free-nowhere : (tid : TidOf) → IsNowhere tid units places → is_free tid (seen units lanes) ≡ false
   free-nowhere tid none =
@@ -60,7 +62,7 @@ module _ {units : List Entry} {lanes : List Lane} {counts : List ℕ} {nodes : L
   heads-told p q known told = by (slice_get-within lanes q known)
     where
       by : (w : Lane) × (slice_get lanes q ≡ Some w) → slice_get (standing q 0 units) 0 ≡ Some p
-      by (w, at_q) = ap (λ (l : List ℕ). slice_get l 0) (sym (it.counted.lines q w at_q))
+      by (w, at_q) = ap (λ (l : List ℕ). slice_get l 0) (sym (it.kept.counted.lines q w at_q))
           ∙ first_at w.line p (ap (λ (o : Option Lane). heads_lane p o) (sym at_q) ∙ told)
 
   -- a unit that is free heads all its queues
@@ -71,5 +73,5 @@ module _ {units : List Entry} {lanes : List Lane} {counts : List ℕ} {nodes : L
         first = λ v q at_v has_q.
             let same : v ≡ u = cc (at_p, at_v) in
             let has_u : has q u.queues ≡ true = ap (λ (x : Entry). has q x.queues) (sym same) ∙ has_q in
-            heads-told p q (it.counted.known p u q at_p has_u) (head-among lanes p q u.queues all has_u);
+            heads-told p q (it.kept.counted.known p u q at_p has_u) (head-among lanes p q u.queues all has_u);
       }

@@ -16,9 +16,10 @@ use Rattle.plain_queues.specs.declared.queued_unit.QueuedUnit.{QueuedUnit}
 use Rattle.plain_queues.specs.Keys.{is_key, has_key}
 use Rattle.plain_queues.specs.Changes.{Stops, Starts}
 use Rattle.plain_queues.proofs.OfferedLemmas.{is_key-same, is_key-true}
+use Rattle.multi_queue.specs.declared.board.Board.{Board}
 use Rattle.multi_queue.specs.declared.entry.Entry.{Entry}
 use Rattle.multi_queue.specs.declared.entry.Lane.{Lane}
-use Rattle.multi_queue.specs.Counted.{has, standing, is_live, count_but, tells, IsCounted, IsBoardBut, KeepsLanes, KeepsKeys, Grows, SetsStop}
+use Rattle.multi_queue.specs.Counted.{has, standing, is_live, count_but, tells, AreKept, KeepsLanes, KeepsKeys, Grows, SetsStop}
 use Rattle.multi_queue.specs.Seen.{key_at, seen_unit, seen, name_of, names_cmp, IsNamed, IsQueues, AreKnown}
 use Rattle.ale_base.proofs.ListLemmas.{slice_get-within}
 use Rattle.multi_queue.proofs.CountedLemmas.{set-here, set-there}
@@ -174,30 +175,6 @@ start-nothing key units lanes none = record {
   ];
 }
 
--- where there is no unit, nothing is counted
-pub none-counted : (q : ℕ) (b : Bool) (units : List Entry) (lanes after : List Lane) (counts : List ℕ) (w : Lane) → units ≡ [] → slice_get lanes q ≡ Some w
-    → SetsStop q b lanes after → IsCounted None units lanes counts → IsCounted None units after counts
-none-counted q b units lanes after counts w empty at_q sets it =
-    let v : Lane = record w { stopped = b } in
-    let e = sets.sets w at_q in
-    let nobody : (p : ℕ) (u : Entry) → slice_get units p ≡ Some u → ⊥ = λ p u at_p.
-    let no : slice_get [] p ≡ Some u = ap (λ (l : List Entry). slice_get l p) (sym empty) ∙ at_p in cc in
-    record {
-      all = it.all;
-      lines = λ r x at_r.
-          let now : slice_get (slice_set lanes q v) r ≡ Some x = ap (λ (l : List Lane). slice_get l r) (sym e) ∙ at_r in
-          elim (eqb_tells q r) [
-            | inl same ↦
-                let vx : v ≡ x = cc (set-here lanes q w v at_q, now, same.1) in
-                ap (λ (l : Lane). l.line) (sym vx) ∙ it.lines q w at_q ∙ ap (λ i. standing i 0 units) same.1
-            | inr other ↦ it.lines r x (sym (set-there lanes q r v other.1) ∙ now)
-          ];
-      counts = λ p u h at_p at_h. absurd (nobody p u at_p);
-      differ = λ p u at_p. absurd (nobody p u at_p);
-      few = λ p u at_p. absurd (nobody p u at_p);
-      known = λ p u r at_p h. absurd (nobody p u at_p);
-    }
-
 -- ---- queues that are used for the first time
 
 pub get-front : {X : Type 0} (xs ys : List X) (i : ℕ) (x : X) → slice_get xs i ≡ Some x → slice_get (xs ++ ys) i ≡ Some x
@@ -218,13 +195,6 @@ get-split (y ∷ xs) ys (suc i) x got = elim (get-split xs ys i x got) [ inl fro
 
 pub grows-none : (lanes : List Lane) → Grows lanes lanes
 grows-none lanes = record { more = []; all = sym (append-nil lanes); fresh = λ i w at. cc }
-
-pub grows-one : (lanes : List Lane) (w : Lane) → w.stopped ≡ false → w.line ≡ [] → Grows lanes (lanes ++ w ∷ [])
-grows-one lanes w moves empty = record { more = w ∷ []; all = refl; fresh = fresh }
-  where
-    fresh : (i : ℕ) (v : Lane) → slice_get (w ∷ []) i ≡ Some v → (v.stopped ≡ false) × (v.line ≡ [])
-    fresh zero v at = let e : w ≡ v = cc in (ap (λ (l : Lane). l.stopped) (sym e) ∙ moves, ap (λ (l : Lane). l.line) (sym e) ∙ empty)
-    fresh (suc i) v at = absurd (cc)
 
 pub grows-both : (a b c : List Lane) → Grows a b → Grows b c → Grows a c
 grows-both a b c one two = record {
@@ -348,43 +318,40 @@ stops-front (x ∷ xs) more fresh =
       | false ↦ rest
     ]
 
-module _ {units : List Entry} {lanes : List Lane} {counts : List ℕ} {nodes : List Bool} {height : ℕ} {places : ℕ × ℕ → Option ℕ} {names : ℕ × List ℕ → Option ℕ}
-    (it : IsQueues units lanes counts nodes height places names) where
+module _ {units : List Entry} {lanes : List Lane} {board : Board} {places : ℕ × ℕ → Option ℕ} {names : ℕ × List ℕ → Option ℕ}
+    (it : IsQueues units lanes board places names) where
   -- what the lists keep where a queue is stopped or started
-  pub stop-keeps : (q : ℕ) (b : Bool) (w : Lane) (after : List Lane) (counts2 : List ℕ) (nodes2 : List Bool) → slice_get lanes q ≡ Some w →
-      SetsStop q b lanes after
-      → IsCounted None units after counts2 → (0 < length units → IsBoardBut None height units counts2 nodes2) →
-      IsQueues units after counts2 nodes2 height places names
-  stop-keeps q b w after counts2 nodes2 at_q sets counted board = record {
-    counted = counted;
-    board = board;
-    fits = it.fits;
+  pub stop-keeps : (q : ℕ) (b : Bool) (w : Lane) (units2 : List Entry) (after : List Lane) (board2 : Board) → slice_get lanes q ≡ Some w →
+      units2 ≡ units → SetsStop q b lanes after → AreKept None units2 after board2 → IsQueues units2 after board2 places names
+  stop-keeps q b w units2 after board2 at_q same sets kept = subst (λ (l : List Entry). IsQueues l after board2 places names) (sym same) (record {
+    kept = subst (λ (l : List Entry). AreKept None l after board2) same kept;
     placed = it.placed;
     named = named-kept lanes after names (stop-keys q b lanes after w at_q sets) it.named;
     gone = it.gone;
     claims = it.claims;
-  }
+  })
 
   -- what the lists keep where queues get numbers
   pub grow-keeps : (after : List Lane) (names2 : ℕ × List ℕ → Option ℕ) → Grows lanes after → IsNamed after names2 →
-      IsQueues units after counts nodes height places names2
+      IsQueues units after board places names2
   grow-keeps after names2 grows named = record {
-    counted = record {
-      all = it.counted.all;
-      lines = λ q w at_q. elim (get-split lanes grows.more q w (ap (λ (l : List Lane). slice_get l q) (sym grows.all) ∙ at_q)) [
-        | inl front ↦ it.counted.lines q w front
-        | inr (j, e, back) ↦ (grows.fresh j w back).1 ∙ sym (standing-nobody q 0 units (λ p u at_p. false_from_ne_true (has q u.queues) (λ h.
-            let within : q < length lanes = it.counted.known p u q at_p h in absurd (omega (arith, within, e)))))
-      ];
-      counts = λ p u h at_p at_h. it.counted.counts p u h at_p at_h
-          ∙ sym (ap (λ (l : List Lane). count_but None l p u.queues) grows.all
-          ∙ count-front lanes grows.more p u.queues (λ q k. it.counted.known p u q at_p k));
-      differ = it.counted.differ;
-      few = it.counted.few;
-      known = λ p u q at_p h. omega (arith, it.counted.known p u q at_p h, grows-length lanes after grows);
+    kept = record {
+      counted = record {
+        all = it.kept.counted.all;
+        lines = λ q w at_q. elim (get-split lanes grows.more q w (ap (λ (l : List Lane). slice_get l q) (sym grows.all) ∙ at_q)) [
+          | inl front ↦ it.kept.counted.lines q w front
+          | inr (j, e, back) ↦ (grows.fresh j w back).1 ∙ sym (standing-nobody q 0 units (λ p u at_p. false_from_ne_true (has q u.queues) (λ h.
+              let within : q < length lanes = it.kept.counted.known p u q at_p h in absurd (omega (arith, within, e)))))
+        ];
+        counts = λ p u h at_p at_h. it.kept.counted.counts p u h at_p at_h
+            ∙ sym (ap (λ (l : List Lane). count_but None l p u.queues) grows.all
+            ∙ count-front lanes grows.more p u.queues (λ q k. it.kept.counted.known p u q at_p k));
+        differ = it.kept.counted.differ;
+        few = it.kept.counted.few;
+        known = λ p u q at_p h. omega (arith, it.kept.counted.known p u q at_p h, grows-length lanes after grows);
+      };
+      leaves = it.kept.leaves;
     };
-    board = it.board;
-    fits = it.fits;
     placed = it.placed;
     named = named;
     gone = it.gone;
@@ -393,6 +360,6 @@ module _ {units : List Entry} {lanes : List Lane} {counts : List ℕ} {nodes : L
 
   pub seen-grow : (after : List Lane) → Grows lanes after → seen units after ≡ seen units lanes
   seen-grow after grows =
-      let us = units-front lanes grows.more units (λ p u at_p q h. it.counted.known p u q at_p h) in
+      let us = units-front lanes grows.more units (λ p u at_p q h. it.kept.counted.known p u q at_p h) in
       let stops = stops-front lanes grows.more grows.fresh in
       ap (λ (l : List Lane). seen units l) grows.all ∙ (λ i. record { units = us i; stops = stops i })

@@ -32,6 +32,7 @@ use Rattle.plain_queues.specs.Queues.{in_queue}
 use Rattle.plain_queues.specs.Status.{status_of, status_by_head}
 use Rattle.plain_queues.specs.Lines.{key_cmp, keys_of, IsLineOf, AreLinesOf}
 use Rattle.plain_queues.proofs.OfferedLemmas.{is_key-true, has_key-Contains}
+use Rattle.multi_queue.specs.declared.board.Board.{Board}
 use Rattle.multi_queue.specs.declared.entry.Entry.{Entry}
 use Rattle.multi_queue.specs.declared.entry.Lane.{Lane}
 use Rattle.multi_queue.specs.Counted.{has, is_live, standing}
@@ -171,27 +172,27 @@ known-values lanes m named ordered =
     let there = named.known e.0 e.1 found in
     omega (arith, slice_get_within lanes e.1 there.0 there.1, back.2)) (values m) (All-contains_itself (values m)))
 
-module _ {units : List Entry} {lanes : List Lane} {counts : List ℕ} {nodes : List Bool} {height : ℕ} {places : ℕ × ℕ → Option ℕ} (m : BTreeMap (ℕ × List ℕ) ℕ)
-    (it : IsQueues units lanes counts nodes height places (get names_cmp m)) where
+module _ {units : List Entry} {lanes : List Lane} {board : Board} {places : ℕ × ℕ → Option ℕ} (m : BTreeMap (ℕ × List ℕ) ℕ)
+    (it : IsQueues units lanes board places (get names_cmp m)) where
   -- a queue holds as many units as its line has places
   in_queue-line : (q : ℕ) (w : Lane) → slice_get lanes q ≡ Some w → length (in_queue w.key (seen units lanes)) ≡ length w.line
   in_queue-line q w at_q =
       count-standing (λ (unit : QueuedUnit). has_key w.key unit.keys) (seen_unit lanes) q 0 units
-      (λ p u at_p. has-key_at lanes (get names_cmp m) q w u.queues it.named at_q (λ r h. it.counted.known p u r at_p h))
+      (λ p u at_p. has-key_at lanes (get names_cmp m) q w u.queues it.named at_q (λ r h. it.kept.counted.known p u r at_p h))
       (λ p u at_p h. queued-live it p q u at_p h)
-      ∙ ap (λ (l : List ℕ). length l) (sym (it.counted.lines q w at_q))
+      ∙ ap (λ (l : List ℕ). length l) (sym (it.kept.counted.lines q w at_q))
 
   -- the line of the queue of a number has its key, and tells of it
-  line-is : (q : ℕ) (line : QueueCount) → line_at units lanes counts q ≡ Some line
+  line-is : (q : ℕ) (line : QueueCount) → line_at units lanes board.heads q ≡ Some line
       → (w : Lane) × (slice_get lanes q ≡ Some w) × (line.key ≡ w.key) × IsLineOf (seen units lanes) line
   line-is q line is = by (slice_get lanes q) refl is
     where
       by : (o : Option Lane) → slice_get lanes q ≡ o
-          → option_and_then (λ (w : Lane). option_map (line_with w) (status_of_lane units lanes counts (Some w))) o ≡ Some line
+          → option_and_then (λ (w : Lane). option_map (line_with w) (status_of_lane units lanes board.heads (Some w))) o ≡ Some line
           → (w : Lane) × (slice_get lanes q ≡ Some w) × (line.key ≡ w.key) × IsLineOf (seen units lanes) line
       by None at_q is = absurd (cc)
       by (Some w) at_q is =
-          let found = option_map-Some (line_with w) (status_of_lane units lanes counts (Some w)) line is in (
+          let found = option_map-Some (line_with w) (status_of_lane units lanes board.heads (Some w)) line is in (
             w,
             at_q,
             ap (λ (l : QueueCount). l.key) (sym found.2),
@@ -203,9 +204,9 @@ module _ {units : List Entry} {lanes : List Lane} {counts : List ℕ} {nodes : L
 
   -- a queue that has a status has a line
   line-there : (q : ℕ) (w : Lane) (status : QueueStatus) → slice_get lanes q ≡ Some w → status_of w.key (seen units lanes) ≡ Some status
-      → line_at units lanes counts q ≡ Some (line_with w status)
+      → line_at units lanes board.heads q ≡ Some (line_with w status)
   line-there q w status at_q its =
-      ap (option_and_then (λ (w : Lane). option_map (line_with w) (status_of_lane units lanes counts (Some w)))) at_q
+      ap (option_and_then (λ (w : Lane). option_map (line_with w) (status_of_lane units lanes board.heads (Some w)))) at_q
       ∙ ap (option_map (line_with w)) (sym (status-lane it q w at_q) ∙ its)
 
   -- each number of a queue is in the table of names
@@ -215,19 +216,19 @@ module _ {units : List Entry} {lanes : List Lane} {counts : List ℕ} {nodes : L
       Contains-map (λ (e : (ℕ × List ℕ) × ℕ). e.1) m.entries (place.1, q) (Contains-at m.entries place.0 (place.1, q) place.2)
 
   -- a key that a line has is that of a queue that has a status
-  listed-has : (key : QueueKey) → has_key key (keys_of (filter_map (line_at units lanes counts) (values m))) ≡ true
+  listed-has : (key : QueueKey) → has_key key (keys_of (filter_map (line_at units lanes board.heads) (values m))) ≡ true
       → is_some (status_of key (seen units lanes)) ≡ true
   listed-has key lists =
-      let found = list_any-found (λ (other : QueueKey). is_key other key) (keys_of (filter_map (line_at units lanes counts) (values m))) lists in
-      let line = Contains-map_back (λ (l : QueueCount). l.key) (filter_map (line_at units lanes counts) (values m)) found.0 found.1 in
-      let number = filter_map-Contains_back (line_at units lanes counts) (values m) line.0 line.1 in
+      let found = list_any-found (λ (other : QueueKey). is_key other key) (keys_of (filter_map (line_at units lanes board.heads) (values m))) lists in
+      let line = Contains-map_back (λ (l : QueueCount). l.key) (filter_map (line_at units lanes board.heads) (values m)) found.0 found.1 in
+      let number = filter_map-Contains_back (line_at units lanes board.heads) (values m) line.0 line.1 in
       let its = line-is number.0 line.0 number.2 in
       let key_is : line.0.key ≡ key = line.2 ∙ is_key-true found.0 key found.2 in
       ap (λ (k : QueueKey). is_some (status_of k (seen units lanes))) (sym key_is) ∙ ap is_some its.3.status
 
   -- a queue that has a status is listed
   has-listed : (key : QueueKey) → is_some (status_of key (seen units lanes)) ≡ true
-      → has_key key (keys_of (filter_map (line_at units lanes counts) (values m))) ≡ true
+      → has_key key (keys_of (filter_map (line_at units lanes board.heads) (values m))) ≡ true
   has-listed key some =
       elim (lane-or-none key lanes) [
         | inr none ↦
@@ -240,17 +241,17 @@ module _ {units : List Entry} {lanes : List Lane} {counts : List ℕ} {nodes : L
               | inr (status, its) ↦
                   let key_is : w.key ≡ key = is_key-true w.key key same in
                   let line = line-there q w status at_q (ap (λ (k : QueueKey). status_of k (seen units lanes)) key_is ∙ its) in
-                  let listed = filter_map-Contains (line_at units lanes counts) (values m) q (line_with w status) (number-there q w at_q) line in
-                  has_key-Contains key (keys_of (filter_map (line_at units lanes counts) (values m)))
-                  (subst (λ k. Contains (keys_of (filter_map (line_at units lanes counts) (values m))) k) key_is
-                  (Contains-map (λ (l : QueueCount). l.key) (filter_map (line_at units lanes counts) (values m)) (line_with w status) listed))
+                  let listed = filter_map-Contains (line_at units lanes board.heads) (values m) q (line_with w status) (number-there q w at_q) line in
+                  has_key-Contains key (keys_of (filter_map (line_at units lanes board.heads) (values m)))
+                  (subst (λ k. Contains (keys_of (filter_map (line_at units lanes board.heads) (values m))) k) key_is
+                  (Contains-map (λ (l : QueueCount). l.key) (filter_map (line_at units lanes board.heads) (values m)) (line_with w status) listed))
             ]
       ]
 
-  named-by : IsOrdered names_cmp m → AllByRecursion (IsNamedBy (line_at units lanes counts)) m.entries
+  named-by : IsOrdered names_cmp m → AllByRecursion (IsNamedBy (line_at units lanes board.heads)) m.entries
   named-by ordered =
-      recursion_from_All (IsNamedBy (line_at units lanes counts)) m.entries
-      (All-weaker (λ (e : (ℕ × List ℕ) × ℕ). get names_cmp m e.0 ≡ Some e.1) (IsNamedBy (line_at units lanes counts)) (λ e found line is.
+      recursion_from_All (IsNamedBy (line_at units lanes board.heads)) m.entries
+      (All-weaker (λ (e : (ℕ × List ℕ) × ℕ). get names_cmp m e.0 ≡ Some e.1) (IsNamedBy (line_at units lanes board.heads)) (λ e found line is.
       let there = it.named.known e.0 e.1 found in
       let its = line-is e.1 line is in
       let same : its.0 ≡ there.0 = cc (its.1, there.1) in (
@@ -259,13 +260,13 @@ module _ {units : List Entry} {lanes : List Lane} {counts : List ℕ} {nodes : L
       )) m.entries (All-found names-total m ordered))
 
   -- what the queues give in the order of the table of names are their lines
-  pub lines-are : IsOrdered names_cmp m → AreLinesOf (seen units lanes) (filter_map (line_at units lanes counts) (values m))
+  pub lines-are : IsOrdered names_cmp m → AreLinesOf (seen units lanes) (filter_map (line_at units lanes board.heads) (values m))
   lines-are ordered = record {
-    ascending = ascending (line_at units lanes counts) m.entries (named-by ordered) ordered;
-    listed = λ key. both_ways (has_key key (keys_of (filter_map (line_at units lanes counts) (values m)))) (is_some (status_of key (seen units lanes)))
+    ascending = ascending (line_at units lanes board.heads) m.entries (named-by ordered) ordered;
+    listed = λ key. both_ways (has_key key (keys_of (filter_map (line_at units lanes board.heads) (values m)))) (is_some (status_of key (seen units lanes)))
         (listed-has key) (has-listed key);
-    each = All-weaker (Contains (filter_map (line_at units lanes counts) (values m))) (IsLineOf (seen units lanes)) (λ line has.
-        let number = filter_map-Contains_back (line_at units lanes counts) (values m) line has in
-        (line-is number.0 line number.2).3) (filter_map (line_at units lanes counts) (values m))
-        (All-contains_itself (filter_map (line_at units lanes counts) (values m)));
+    each = All-weaker (Contains (filter_map (line_at units lanes board.heads) (values m))) (IsLineOf (seen units lanes)) (λ line has.
+        let number = filter_map-Contains_back (line_at units lanes board.heads) (values m) line has in
+        (line-is number.0 line number.2).3) (filter_map (line_at units lanes board.heads) (values m))
+        (All-contains_itself (filter_map (line_at units lanes board.heads) (values m)));
   }

@@ -16,6 +16,7 @@ use Rattle.plain_queues.specs.Queues.{head_of, is_stopped}
 use Rattle.plain_queues.specs.Offered.{has_tid, heads, lets_go, is_offered, first_offered}
 use Rattle.plain_queues.specs.Offered.{is_ready as may_go}
 use Rattle.plain_queues.proofs.OfferedLemmas.{is_key-same}
+use Rattle.multi_queue.specs.declared.board.Board.{Board}
 use Rattle.multi_queue.specs.declared.entry.Entry.{Entry}
 use Rattle.multi_queue.specs.declared.entry.Lane.{Lane}
 use Rattle.multi_queue.specs.Counted.{has, is_live, is_in, is_first, tells, count_but, standing, is_ready}
@@ -83,9 +84,9 @@ none-seen q n (x ∷ xs) h =
     ] refl h
 
 -- what the lists keep, of one unit and one queue
-pub queued-live : {units : List Entry} {lanes : List Lane} {counts : List ℕ} {nodes : List Bool} {height : ℕ} {places : ℕ × ℕ → Option ℕ}
+pub queued-live : {units : List Entry} {lanes : List Lane} {board : Board} {places : ℕ × ℕ → Option ℕ}
     {names : ℕ × List ℕ → Option ℕ}
-    → IsQueues units lanes counts nodes height places names → (p q : ℕ) (u : Entry) → slice_get units p ≡ Some u → has q u.queues ≡ true → u.live ≡ true
+    → IsQueues units lanes board places names → (p q : ℕ) (u : Entry) → slice_get units p ≡ Some u → has q u.queues ≡ true → u.live ≡ true
 queued-live it p q u got h =
     elim (cases_Bool u.live) [
       | inl its ↦ its
@@ -93,34 +94,34 @@ queued-live it p q u got h =
     ]
 
 -- the unit that heads a queue is the one at the first place of its line
-pub head-line : {units : List Entry} {lanes : List Lane} {counts : List ℕ} {nodes : List Bool} {height : ℕ} {places : ℕ × ℕ → Option ℕ}
+pub head-line : {units : List Entry} {lanes : List Lane} {board : Board} {places : ℕ × ℕ → Option ℕ}
     {names : ℕ × List ℕ → Option ℕ}
-    → IsQueues units lanes counts nodes height places names → (q : ℕ) (w : Lane) → slice_get lanes q ≡ Some w
+    → IsQueues units lanes board places names → (q : ℕ) (w : Lane) → slice_get lanes q ≡ Some w
     → head_of w.key (seen units lanes) ≡ option_map (seen_unit lanes) (option_and_then (λ p. slice_get units p) (slice_get w.line 0))
-head-line {units} {lanes} {counts} {nodes} {height} {places} {names} it q w got =
-    let first : slice_get w.line 0 ≡ slice_get (standing q 0 units) 0 = ap (λ l. slice_get l 0) (it.counted.lines q w got) in
+head-line {units} {lanes} {board} {places} {names} it q w got =
+    let first : slice_get w.line 0 ≡ slice_get (standing q 0 units) 0 = ap (λ l. slice_get l 0) (it.kept.counted.lines q w got) in
     let found : (o : Option ℕ) → slice_get (standing q 0 units) 0 ≡ o → find (is_in q) (filter is_live units) ≡ option_and_then (λ p. slice_get units p) o =
     λ o. elim o as (λ o. slice_get (standing q 0 units) 0 ≡ o → find (is_in q) (filter is_live units) ≡ option_and_then (λ p. slice_get units p) o) [
       | None ↦ λ e. none-seen q 0 units e
       | Some p ↦ λ e. let z : 0 + p ≡ p = omega arith in
           first-seen q 0 units p (λ v i at_i h. queued-live it i q v at_i h) (e ∙ ap (λ i. Some i) (sym z))
     ] in
-    head_of-seen units lanes names q w it.named got (λ k u r at_k h. it.counted.known k u r at_k h)
+    head_of-seen units lanes names q w it.named got (λ k u r at_k h. it.kept.counted.known k u r at_k h)
     ∙ ap (option_map (seen_unit lanes)) (found (slice_get w.line 0) (sym first))
 
 -- two units that are not finished and have one id are at one place
-pub one-place : {units : List Entry} {lanes : List Lane} {counts : List ℕ} {nodes : List Bool} {height : ℕ} {places : ℕ × ℕ → Option ℕ}
+pub one-place : {units : List Entry} {lanes : List Lane} {board : Board} {places : ℕ × ℕ → Option ℕ}
     {names : ℕ × List ℕ → Option ℕ}
-    → IsQueues units lanes counts nodes height places names → (p r : ℕ) (u v : Entry) → slice_get units p ≡ Some u → slice_get units r ≡ Some v
+    → IsQueues units lanes board places names → (p r : ℕ) (u v : Entry) → slice_get units p ≡ Some u → slice_get units r ≡ Some v
     → u.live ≡ true → v.live ≡ true → is_tid v.tid u.tid ≡ true → p ≡ r
 one-place {places = places} it p r u v at_p at_r live_u live_v same =
     same_Some p r (sym (it.placed.placed p u at_p live_u) ∙ ap (λ (t : TidOf). places (number_of t)) (sym (is_tid-true v.tid u.tid same))
     ∙ it.placed.placed r v at_r live_v)
 
 -- of two units that are not finished, one has the id of the other exactly where it is at its place
-pub tid-place : {units : List Entry} {lanes : List Lane} {counts : List ℕ} {nodes : List Bool} {height : ℕ} {places : ℕ × ℕ → Option ℕ}
+pub tid-place : {units : List Entry} {lanes : List Lane} {board : Board} {places : ℕ × ℕ → Option ℕ}
     {names : ℕ × List ℕ → Option ℕ}
-    → IsQueues units lanes counts nodes height places names → (p r : ℕ) (u v : Entry) → slice_get units p ≡ Some u → slice_get units r ≡ Some v
+    → IsQueues units lanes board places names → (p r : ℕ) (u v : Entry) → slice_get units p ≡ Some u → slice_get units r ≡ Some v
     → u.live ≡ true → v.live ≡ true → is_tid v.tid u.tid ≡ eqb p r
 tid-place it p r u v at_p at_r live_u live_v =
     elim (eqb_tells p r) [
@@ -135,14 +136,14 @@ first-no [] p e = refl
 first-no (x ∷ xs) p e = absurd (cc)
 
 -- a unit heads a queue exactly where it is the first of its line
-pub heads-is : {units : List Entry} {lanes : List Lane} {counts : List ℕ} {nodes : List Bool} {height : ℕ} {places : ℕ × ℕ → Option ℕ}
+pub heads-is : {units : List Entry} {lanes : List Lane} {board : Board} {places : ℕ × ℕ → Option ℕ}
     {names : ℕ × List ℕ → Option ℕ}
-    → IsQueues units lanes counts nodes height places names → (p q : ℕ) (u : Entry) (w : Lane) → slice_get units p ≡ Some u → u.live ≡ true →
+    → IsQueues units lanes board places names → (p q : ℕ) (u : Entry) (w : Lane) → slice_get units p ≡ Some u → u.live ≡ true →
     slice_get lanes q ≡ Some w
     → heads u.tid (seen units lanes) w.key ≡ is_first p w.line
 heads-is {units} {lanes} it p q u w at_p live at_q =
     let head = head-line it q w at_q in
-    let line = it.counted.lines q w at_q in
+    let line = it.kept.counted.lines q w at_q in
     let by : (o : Option ℕ) → slice_get w.line 0 ≡ o → has_tid u.tid (option_map (seen_unit lanes) (option_and_then (λ i. slice_get units i) o))
     ≡ is_first p w.line =
     λ o. elim o as (λ o. slice_get w.line 0 ≡ o → has_tid u.tid (option_map (seen_unit lanes) (option_and_then (λ i. slice_get units i) o))
@@ -166,9 +167,9 @@ turned false true = refl
 turned false false = refl
 
 -- a queue lets a unit go exactly where it counts for it
-pub lets-is : {units : List Entry} {lanes : List Lane} {counts : List ℕ} {nodes : List Bool} {height : ℕ} {places : ℕ × ℕ → Option ℕ}
+pub lets-is : {units : List Entry} {lanes : List Lane} {board : Board} {places : ℕ × ℕ → Option ℕ}
     {names : ℕ × List ℕ → Option ℕ}
-    → IsQueues units lanes counts nodes height places names → (p q : ℕ) (u : Entry) (w : Lane) → slice_get units p ≡ Some u → u.live ≡ true →
+    → IsQueues units lanes board places names → (p q : ℕ) (u : Entry) (w : Lane) → slice_get units p ≡ Some u → u.live ≡ true →
     slice_get lanes q ≡ Some w
     → lets_go u.tid (seen units lanes) w.key ≡ tells p (Some w)
 lets-is {units} {lanes} {names = names} it p q u w at_p live at_q =
@@ -208,34 +209,34 @@ all-count test lanes p (q ∷ qs) known is =
     ∙ ap (λ o. eqb (cond (tells p o) 1 0 + count_but None lanes p qs) (suc (length qs))) (sym at.1)
 
 -- a unit that is not finished may be claimed exactly where its count says so
-pub ready-is : {units : List Entry} {lanes : List Lane} {counts : List ℕ} {nodes : List Bool} {height : ℕ} {places : ℕ × ℕ → Option ℕ}
+pub ready-is : {units : List Entry} {lanes : List Lane} {board : Board} {places : ℕ × ℕ → Option ℕ}
     {names : ℕ × List ℕ → Option ℕ}
-    → IsQueues units lanes counts nodes height places names → (p : ℕ) (u : Entry) → slice_get units p ≡ Some u → u.live ≡ true
-    → may_go (seen units lanes) (seen_unit lanes u) ≡ is_ready (slice_get units p) (slice_get counts p)
-ready-is {units} {lanes} {counts} it p u at_p live =
+    → IsQueues units lanes board places names → (p : ℕ) (u : Entry) → slice_get units p ≡ Some u → u.live ≡ true
+    → may_go (seen units lanes) (seen_unit lanes u) ≡ is_ready (slice_get units p) (slice_get board.heads p)
+ready-is {units} {lanes} {board} it p u at_p live =
     let within = slice_get_within units p u at_p in
-    let at = slice_get-within counts p (omega (arith, within, it.counted.all)) in
+    let at = slice_get-within board.heads p (omega (arith, within, it.kept.counted.all)) in
     let h : ℕ = at.0 in
-    let count = it.counted.counts p u h at_p at.1 in
-    let all = all-count (lets_go u.tid (seen units lanes)) lanes p u.queues (λ r k. it.counted.known p u r at_p k)
+    let count = it.kept.counted.counts p u h at_p at.1 in
+    let all = all-count (lets_go u.tid (seen units lanes)) lanes p u.queues (λ r k. it.kept.counted.known p u r at_p k)
     (λ q w at_q. lets-is it p q u w at_p live at_q) in
     ap (λ b. is_none u.claim && is_none u.mark && b) (all ∙ ap (λ n. eqb n (length u.queues)) (sym count))
     ∙ ap (λ b. b && is_none u.claim && is_none u.mark && eqb h (length u.queues)) (sym live)
     ∙ ap (λ o. is_ready (Some u) o) (sym at.1)
-    ∙ ap (λ o. is_ready o (slice_get counts p)) (sym at_p)
+    ∙ ap (λ o. is_ready o (slice_get board.heads p)) (sym at_p)
 
-pub offered-at : {units : List Entry} {lanes : List Lane} {counts : List ℕ} {nodes : List Bool} {height : ℕ} {places : ℕ × ℕ → Option ℕ}
+pub offered-at : {units : List Entry} {lanes : List Lane} {board : Board} {places : ℕ × ℕ → Option ℕ}
     {names : ℕ × List ℕ → Option ℕ}
-    → IsQueues units lanes counts nodes height places names → (tid : TidOf) (p : ℕ) (u : Entry) → places (number_of tid) ≡ Some p → slice_get units p ≡ Some u →
+    → IsQueues units lanes board places names → (tid : TidOf) (p : ℕ) (u : Entry) → places (number_of tid) ≡ Some p → slice_get units p ≡ Some u →
     u.live ≡ true
-    → is_offered tid (seen units lanes) ≡ is_ready (slice_get units p) (slice_get counts p)
+    → is_offered tid (seen units lanes) ≡ is_ready (slice_get units p) (slice_get board.heads p)
 offered-at {units} {lanes} {places = places} it tid p u names at_p live =
     ap (λ (o : Option QueuedUnit). option_map_or (may_go (seen units lanes)) o false) (unit_of-here tid units lanes places p u it.placed names at_p live)
     ∙ ready-is it p u at_p live
 
-pub offered-nowhere : {units : List Entry} {lanes : List Lane} {counts : List ℕ} {nodes : List Bool} {height : ℕ} {places : ℕ × ℕ → Option ℕ}
+pub offered-nowhere : {units : List Entry} {lanes : List Lane} {board : Board} {places : ℕ × ℕ → Option ℕ}
     {names : ℕ × List ℕ → Option ℕ}
-    → IsQueues units lanes counts nodes height places names → (tid : TidOf) → IsNowhere tid units places → is_offered tid (seen units lanes) ≡ false
+    → IsQueues units lanes board places names → (tid : TidOf) → IsNowhere tid units places → is_offered tid (seen units lanes) ≡ false
 offered-nowhere {units} {lanes} {places = places} it tid none =
     ap (λ (o : Option QueuedUnit). option_map_or (may_go (seen units lanes)) o false) (unit_of-gone tid units lanes places it.placed none.nowhere)
 
@@ -281,13 +282,13 @@ find-first test (v ∷ vs) (suc p) u at_p live pass none =
     ] refl
 
 -- the first unit by place that may go is the offered unit that was added first
-pub first-offer : {units : List Entry} {lanes : List Lane} {counts : List ℕ} {nodes : List Bool} {height : ℕ} {places : ℕ × ℕ → Option ℕ}
+pub first-offer : {units : List Entry} {lanes : List Lane} {board : Board} {places : ℕ × ℕ → Option ℕ}
     {names : ℕ × List ℕ → Option ℕ}
-    → IsQueues units lanes counts nodes height places names → (p : ℕ) (u : Entry) → slice_get units p ≡ Some u →
-    is_ready (slice_get units p) (slice_get counts p) ≡ true
-    → ((r : ℕ) → r < p → is_ready (slice_get units r) (slice_get counts r) ≡ false) → first_offered (seen units lanes) ≡ Some u.tid
-first-offer {units} {lanes} {counts} it p u at_p ready none =
-    let there = ready-unit units counts p ready in
+    → IsQueues units lanes board places names → (p : ℕ) (u : Entry) → slice_get units p ≡ Some u →
+    is_ready (slice_get units p) (slice_get board.heads p) ≡ true
+    → ((r : ℕ) → r < p → is_ready (slice_get units r) (slice_get board.heads r) ≡ false) → first_offered (seen units lanes) ≡ Some u.tid
+first-offer {units} {lanes} {board} it p u at_p ready none =
+    let there = ready-unit units board.heads p ready in
     let same : there.0 ≡ u = cc (there.1, at_p) in
     let live : u.live ≡ true = ap (λ (v : Entry). v.live) (sym same) ∙ there.2 in
     ap (option_map (λ (unit : QueuedUnit). unit.tid)) (find-map (may_go (seen units lanes)) (seen_unit lanes) (filter is_live units)
@@ -296,9 +297,9 @@ first-offer {units} {lanes} {counts} it p u at_p ready none =
     (λ r v less at_r live_v. ready-is it r v at_r live_v ∙ none r less)))
 
 -- where no place may go, no unit is found that may
-pub no-offer : {units : List Entry} {lanes : List Lane} {counts : List ℕ} {nodes : List Bool} {height : ℕ} {places : ℕ × ℕ → Option ℕ}
+pub no-offer : {units : List Entry} {lanes : List Lane} {board : Board} {places : ℕ × ℕ → Option ℕ}
     {names : ℕ × List ℕ → Option ℕ}
-    → IsQueues units lanes counts nodes height places names → ((r : ℕ) → is_ready (slice_get units r) (slice_get counts r) ≡ false)
+    → IsQueues units lanes board places names → ((r : ℕ) → is_ready (slice_get units r) (slice_get board.heads r) ≡ false)
     → find (may_go (seen units lanes)) (seen units lanes).units ≡ None
 no-offer {units} {lanes} it none =
     find-map (may_go (seen units lanes)) (seen_unit lanes) (filter is_live units)
@@ -306,17 +307,13 @@ no-offer {units} {lanes} it none =
     (λ r v at_r live. ready-is it r v at_r live ∙ none r))
 
 -- the unit at a place that may go is offered
-pub offered-place : {units : List Entry} {lanes : List Lane} {counts : List ℕ} {nodes : List Bool} {height : ℕ} {places : ℕ × ℕ → Option ℕ}
+pub offered-place : {units : List Entry} {lanes : List Lane} {board : Board} {places : ℕ × ℕ → Option ℕ}
     {names : ℕ × List ℕ → Option ℕ}
-    → IsQueues units lanes counts nodes height places names → (p : ℕ) (u : Entry) → slice_get units p ≡ Some u →
-    is_ready (slice_get units p) (slice_get counts p) ≡ true
+    → IsQueues units lanes board places names → (p : ℕ) (u : Entry) → slice_get units p ≡ Some u →
+    is_ready (slice_get units p) (slice_get board.heads p) ≡ true
     → is_offered u.tid (seen units lanes) ≡ true
-offered-place {units} {counts = counts} it p u at_p ready =
-    let there = ready-unit units counts p ready in
+offered-place {units} {board = board} it p u at_p ready =
+    let there = ready-unit units board.heads p ready in
     let same : there.0 ≡ u = cc (there.1, at_p) in
     let live : u.live ≡ true = ap (λ (v : Entry). v.live) (sym same) ∙ there.2 in
     offered-at it u.tid p u (it.placed.placed p u at_p live) at_p live ∙ ready
-
--- where there is no unit, no place may go
-pub none-ready : (units : List Entry) (counts : List ℕ) → units ≡ [] → (r : ℕ) → is_ready (slice_get units r) (slice_get counts r) ≡ false
-none-ready units counts empty r = ap (λ (l : List Entry). is_ready (slice_get l r) (slice_get counts r)) empty

@@ -9,8 +9,10 @@ use Rattle.plain_queues.specs.declared.queued_unit.QueuedUnit.{QueuedUnit}
 use Rattle.plain_queues.specs.declared.not_offered.NotOffered.TheVariants.{Unknown, Running, Failed, Stopped, Behind}
 use Rattle.plain_queues.specs.Queues.{head_of, is_stopped}
 use Rattle.plain_queues.specs.Offered.{behind_head, first_stopped, first_behind, why_not_unit, why_not}
+use Rattle.multi_queue.specs.declared.board.Board.{Board}
 use Rattle.multi_queue.specs.declared.entry.Entry.{Entry}
 use Rattle.multi_queue.specs.declared.entry.Lane.{Lane}
+use Rattle.multi_queue.specs.Counted.{AreKept}
 use Rattle.multi_queue.specs.Seen.{key_at, seen_unit, seen, number_of, IsQueues, IsNowhere, AreKnown, AreHeaded, stopped_reason, first_stopped_of, head_reason}
 use Rattle.multi_queue.specs.Seen.{behind_reason, first_behind_of, why_not_of}
 use Rattle.ale_base.proofs.ListLemmas.{slice_get-within}
@@ -18,18 +20,19 @@ use Rattle.multi_queue.proofs.CountedLemmas.{first-stands}
 use Rattle.multi_queue.proofs.SeenLemmas.{unit_of-here, unit_of-gone}
 use Rattle.multi_queue.proofs.OfferLemmas.{stopped-is, head-line, tid-place, queued-live, known-here, known-later}
 
-module _ {units : List Entry} {lanes : List Lane} {counts : List ℕ} {nodes : List Bool} {height : ℕ} {places : ℕ × ℕ → Option ℕ} {names : ℕ × List ℕ → Option ℕ}
-    (it : IsQueues units lanes counts nodes height places names) where
-  -- the queues of a unit are known, and the first place of each line is one of a unit
-  pub known-of : (p : ℕ) (u : Entry) → slice_get units p ≡ Some u → AreKnown u.queues lanes
-  known-of p u at_p = λ q h. it.counted.known p u q at_p h
+-- the queues of a unit are known, and the first place of each line is one of a unit
+pub known-of : {but : Option ℕ} {units : List Entry} {lanes : List Lane} {board : Board} → AreKept but units lanes board → (p : ℕ) (u : Entry) →
+    slice_get units p ≡ Some u → AreKnown u.queues lanes
+known-of it p u at_p = λ q h. it.counted.known p u q at_p h
 
-  pub headed-all : AreHeaded units lanes
-  headed-all = λ q p w at_q first.
-      let there = first-stands q 0 units p (ap (λ l. slice_get l 0) (sym (it.counted.lines q w at_q)) ∙ first) in
-      let z : p - 0 ≡ p = omega arith in
-      slice_get_within units p there.0 (ap (λ i. slice_get units i) (sym z) ∙ there.1.1)
+pub headed-all : {but : Option ℕ} {units : List Entry} {lanes : List Lane} {board : Board} → AreKept but units lanes board → AreHeaded units lanes
+headed-all {units = units} it = λ q p w at_q first.
+    let there = first-stands q 0 units p (ap (λ l. slice_get l 0) (sym (it.counted.lines q w at_q)) ∙ first) in
+    let z : p - 0 ≡ p = omega arith in
+    slice_get_within units p there.0 (ap (λ i. slice_get units i) (sym z) ∙ there.1.1)
 
+module _ {units : List Entry} {lanes : List Lane} {board : Board} {places : ℕ × ℕ → Option ℕ} {names : ℕ × List ℕ → Option ℕ}
+    (it : IsQueues units lanes board places names) where
   first-stopped : (qs : List ℕ) → AreKnown qs lanes → first_stopped (seen units lanes) (filter_map (key_at lanes) qs) ≡ first_stopped_of lanes qs
   first-stopped [] known = refl
   first-stopped (q ∷ qs) known =
@@ -58,7 +61,7 @@ module _ {units : List Entry} {lanes : List Lane} {counts : List ℕ} {nodes : L
       ≡ head_reason units p w.key o) [
         | None ↦ λ e. refl
         | Some r ↦ λ e.
-            let there = first-stands q 0 units r (ap (λ l. slice_get l 0) (sym (it.counted.lines q w at_q)) ∙ e) in
+            let there = first-stands q 0 units r (ap (λ l. slice_get l 0) (sym (it.kept.counted.lines q w at_q)) ∙ e) in
             let v : Entry = there.0 in
             let z : r - 0 ≡ r = omega arith in
             let at_r : slice_get units r ≡ Some v = ap (λ i. slice_get units i) (sym z) ∙ there.1.1 in
@@ -89,9 +92,9 @@ module _ {units : List Entry} {lanes : List Lane} {counts : List ℕ} {nodes : L
       (unit_of-here tid units lanes places p u it.placed names at_p live)
       ∙ ap (λ o. option_or (option_map Running u.claim)
       (option_or (option_map Failed u.mark) (option_or o (first_behind u.tid (seen units lanes) (filter_map (key_at lanes) u.queues)))))
-      (first-stopped u.queues (known-of p u at_p))
+      (first-stopped u.queues (known-of it.kept p u at_p))
       ∙ ap (λ o. option_or (option_map Running u.claim) (option_or (option_map Failed u.mark) (option_or (first_stopped_of lanes u.queues) o)))
-      (first-behind p u u.queues at_p live (known-of p u at_p))
+      (first-behind p u u.queues at_p live (known-of it.kept p u at_p))
 
   pub why-nowhere : (tid : TidOf) → IsNowhere tid units places → why_not tid (seen units lanes) ≡ Some Unknown
   why-nowhere tid none =

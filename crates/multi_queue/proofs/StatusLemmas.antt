@@ -16,6 +16,7 @@ use Rattle.plain_queues.specs.Queues.{head_of, is_stopped}
 use Rattle.plain_queues.specs.Offered.{heads, lets_go}
 use Rattle.plain_queues.specs.Status.{status_of, status_by_head, status_of_free, status_of_mark}
 use Rattle.plain_queues.proofs.OfferedLemmas.{is_key-true}
+use Rattle.multi_queue.specs.declared.board.Board.{Board}
 use Rattle.multi_queue.specs.declared.entry.Entry.{Entry}
 use Rattle.multi_queue.specs.declared.entry.Lane.{Lane}
 use Rattle.multi_queue.specs.Counted.{is_live}
@@ -84,8 +85,8 @@ free-heads head stop (key ∷ keys) none =
     and_true true = refl
     and_true false = refl
 
-module _ {units : List Entry} {lanes : List Lane} {counts : List ℕ} {nodes : List Bool} {height : ℕ} {places : ℕ × ℕ → Option ℕ} {names : ℕ × List ℕ → Option ℕ}
-    (it : IsQueues units lanes counts nodes height places names) where
+module _ {units : List Entry} {lanes : List Lane} {board : Board} {places : ℕ × ℕ → Option ℕ} {names : ℕ × List ℕ → Option ℕ}
+    (it : IsQueues units lanes board places names) where
   any-stopped : (qs : List ℕ) → AreKnown qs lanes → list_any (λ key. is_stopped key (seen units lanes)) (filter_map (key_at lanes) qs)
       ≡ is_some (first_stopped_of lanes qs)
   any-stopped [] known = refl
@@ -103,15 +104,15 @@ module _ {units : List Entry} {lanes : List Lane} {counts : List ℕ} {nodes : L
       ∙ by w.stopped refl
       ∙ ap (λ o. is_some (option_or (stopped_reason o) (first_stopped_of lanes qs))) (sym at.1)
 
-  status-free : (p n : ℕ) (u : Entry) → slice_get units p ≡ Some u → slice_get counts p ≡ Some n → u.live ≡ true
+  status-free : (p n : ℕ) (u : Entry) → slice_get units p ≡ Some u → slice_get board.heads p ≡ Some n → u.live ≡ true
       → status_of_free (seen units lanes) (seen_unit lanes u) ≡ status_by_count lanes u.queues n
   status-free p n u at_p at_n live =
-      let known : AreKnown u.queues lanes = λ q h. it.counted.known p u q at_p h in
+      let known : AreKnown u.queues lanes = λ q h. it.kept.counted.known p u q at_p h in
       let keys = filter_map (key_at lanes) u.queues in
       let stop : QueueKey → Bool = λ key. is_stopped key (seen units lanes) in
       let head : QueueKey → Bool = λ key. heads u.tid (seen units lanes) key in
       let full = all-count (lets_go u.tid (seen units lanes)) lanes p u.queues known (λ q w at_q. lets-is it p q u w at_p live at_q) in
-      let count = it.counted.counts p u n at_p at_n in
+      let count = it.kept.counted.counts p u n at_p at_n in
       let by : (b : Bool) → list_any stop keys ≡ b → cond b Waitstop (cond (list_all head keys) Ready Waiting)
       ≡ cond b Waitstop (cond (eqb n (length u.queues)) Ready Waiting) =
       λ b. elim b as (λ b. list_any stop keys ≡ b → cond b Waitstop (cond (list_all head keys) Ready Waiting)
@@ -121,7 +122,7 @@ module _ {units : List Entry} {lanes : List Lane} {counts : List ℕ} {nodes : L
       ] in
       by (list_any stop keys) refl ∙ ap (λ b. cond b Waitstop (cond (eqb n (length u.queues)) Ready Waiting)) (any-stopped u.queues known)
 
-  status-head : (p q n : ℕ) (u : Entry) (w : Lane) → slice_get units p ≡ Some u → slice_get counts p ≡ Some n → u.live ≡ true → slice_get lanes q ≡ Some w
+  status-head : (p q n : ℕ) (u : Entry) (w : Lane) → slice_get units p ≡ Some u → slice_get board.heads p ≡ Some n → u.live ≡ true → slice_get lanes q ≡ Some w
       → status_by_head w.key (seen units lanes) (seen_unit lanes u) ≡ status_of_head lanes w.stopped n u
   status-head p q n u w at_p at_n live at_q =
       ap (λ b. cond b Stop (cond (is_some u.claim) Running (option_map_or status_of_mark u.mark (status_of_free (seen units lanes) (seen_unit lanes u)))))
@@ -129,23 +130,23 @@ module _ {units : List Entry} {lanes : List Lane} {counts : List ℕ} {nodes : L
       ∙ ap (λ s. cond w.stopped Stop (cond (is_some u.claim) Running (option_map_or status_of_mark u.mark s))) (status-free p n u at_p at_n live)
 
   -- the status of the queue of a number
-  pub status-lane : (q : ℕ) (w : Lane) → slice_get lanes q ≡ Some w → status_of w.key (seen units lanes) ≡ status_of_lane units lanes counts (Some w)
+  pub status-lane : (q : ℕ) (w : Lane) → slice_get lanes q ≡ Some w → status_of w.key (seen units lanes) ≡ status_of_lane units lanes board.heads (Some w)
   status-lane q w at_q =
       let by : (o : Option ℕ) → slice_get w.line 0 ≡ o
       → option_map (status_by_head w.key (seen units lanes)) (option_map (seen_unit lanes) (option_and_then (λ i. slice_get units i) o))
-      ≡ option_and_then (status_by_place units lanes counts w.stopped) o =
+      ≡ option_and_then (status_by_place units lanes board.heads w.stopped) o =
       λ o. elim o as (λ o. slice_get w.line 0 ≡ o
       → option_map (status_by_head w.key (seen units lanes)) (option_map (seen_unit lanes) (option_and_then (λ i. slice_get units i) o))
-      ≡ option_and_then (status_by_place units lanes counts w.stopped) o) [
+      ≡ option_and_then (status_by_place units lanes board.heads w.stopped) o) [
         | None ↦ λ e. refl
         | Some r ↦ λ e.
-            let there = first-stands q 0 units r (ap (λ l. slice_get l 0) (sym (it.counted.lines q w at_q)) ∙ e) in
+            let there = first-stands q 0 units r (ap (λ l. slice_get l 0) (sym (it.kept.counted.lines q w at_q)) ∙ e) in
             let v : Entry = there.0 in
             let z : r - 0 ≡ r = omega arith in
             let at_r : slice_get units r ≡ Some v = ap (λ i. slice_get units i) (sym z) ∙ there.1.1 in
             let live = queued-live it r q v at_r there.1.2 in
             let within = slice_get_within units r v at_r in
-            let some = slice_get-within counts r (omega (arith, within, it.counted.all)) in
+            let some = slice_get-within board.heads r (omega (arith, within, it.kept.counted.all)) in
             let n : ℕ = some.0 in
             ap (λ (o : Option Entry). option_map (status_by_head w.key (seen units lanes)) (option_map (seen_unit lanes) o)) at_r
             ∙ ap (λ s. Some s) (status-head r q n v w at_r some.1 live at_q)

@@ -1,11 +1,14 @@
 -- Queues as lists of places, with a count for each unit of the queues that are not stopped and that it heads. Private functions
--- cite this, and `IsQueues` by `IsCounted` and `IsBoardBut`.
+-- cite this, and `IsQueues` by `AreKept`.
 use Rattle.std.specs.Option.{is_none}
-use Rattle.std.specs.Prelude.{◌≡◌, ◌<◌, ◌≤◌, ◌+◌, ℕ, Bool, true, false, not, ◌&&◌, ◌||◌, eqb, cond, slice_set, Option, Some, None, List, [], ◌∷◌, ◌++◌, length}
+use Rattle.std.specs.Prelude.{◌≡◌, ◌<◌, ◌≤◌, ◌+◌, ◌*◌, ℕ, Bool, true, false, not, ◌&&◌, ◌||◌, eqb, cond, slice_set, Option, Some, None, List, [], ◌∷◌, ◌++◌}
+use Rattle.std.specs.Prelude.{length}
 use Rattle.std.specs.Prelude.{slice_get, is_some, find, take, ◌-◌}
 use Rattle.std.specs.Prelude.{◌^◌}
 use Rattle.ale_base.specs.Tid.{TidOf}
 use Rattle.multi_queue.specs.Bits.{IsTreeBut, bit}
+use Rattle.multi_queue.specs.declared.board.Board.{Board}
+use Rattle.multi_queue.specs.declared.counting.Counting.{Counting}
 use Rattle.multi_queue.specs.declared.entry.Entry.{Entry}
 use Rattle.multi_queue.specs.declared.entry.Lane.{Lane}
 
@@ -114,9 +117,11 @@ abbrev pub new_entry : TidOf → Entry
 new_entry tid = record { tid = tid; queues = []; live = false; claim = None; mark = None }
 
 -- a unit behind all others, with its count
-pub record IsBehind (tid : TidOf) (units after : List Entry) (heads counts : List ℕ) : Type 0 where
-  pub units_are : after ≡ units ++ new_entry tid ∷ []
-  pub heads_are : counts ≡ heads ++ 0 ∷ []
+abbrev pub behind : TidOf → Counting → Counting
+behind tid counting = record counting {
+  units = counting.units ++ new_entry tid ∷ [];
+  board = record counting.board { heads = counting.board.heads ++ 0 ∷ [] };
+}
 
 -- the unit at a place is live now, and in these queues
 pub record IsEntered (p : ℕ) (queues : List ℕ) (before after : List Entry) : Type 0 where
@@ -159,12 +164,23 @@ abbrev pub is_other : Option ℕ → ℕ → Bool
 is_other None p = true
 is_other (Some b) p = not (eqb b p)
 
--- the leaves of the tree say which units are offered
-pub record IsBoardBut (but : Option ℕ) (height : ℕ) (units : List Entry) (heads : List ℕ) (nodes : List Bool) : Type 0 where
-  pub tree : IsTreeBut 0 height nodes
-  pub room : length units ≤ 2 ^ height
-  pub all : length heads ≡ length units
-  pub ready : (p : ℕ) → is_other but p ≡ true → p < 2 ^ height → bit nodes (2 ^ height + p) ≡ is_ready (slice_get units p) (slice_get heads p)
+-- the leaves of a board's tree say which units are offered, but for one
+pub record IsBoardBut (but : Option ℕ) (units : List Entry) (board : Board) : Type 0 where
+  pub tree : IsTreeBut 0 board.height board.nodes
+  pub fits : 2 * 2 ^ board.height < 2 ^ 64
+  pub room : length units ≤ 2 ^ board.height
+  pub all : length board.heads ≡ length units
+  pub ready : (p : ℕ) → is_other but p ≡ true → p < 2 ^ board.height
+      → bit board.nodes (2 ^ board.height + p) ≡ is_ready (slice_get units p) (slice_get board.heads p)
+
+-- units, queues and their board belong together, where the counts leave one queue out; where there is no unit, there is no tree
+pub record AreKept (but : Option ℕ) (units : List Entry) (lanes : List Lane) (board : Board) : Type 0 where
+  pub counted : IsCounted but units lanes board.heads
+  pub leaves : 0 < length units → IsBoardBut None units board
+
+-- the same of what the counting body keeps
+abbrev pub IsKept : Option ℕ → Counting → Type 0
+IsKept but counting = AreKept but counting.units counting.lanes counting.board
 
 -- what the public sees: the units that are not finished
 abbrev pub is_live : Entry → Bool

@@ -1,5 +1,5 @@
 -- What is seen of the counting body: the list of units and stops of the plain definitions, and what its lists keep.
-use Rattle.std.specs.Prelude.{◌≡◌, ℕ, ◌*◌, ◌^◌, ◌<◌, ◌==◌, ◌&&◌, Bool, false, true, Option, Some, None, List, [], ◌∷◌, map, filter, length, slice_get, if◌then◌else◌}
+use Rattle.std.specs.Prelude.{◌≡◌, ℕ, ◌<◌, ◌==◌, ◌&&◌, Bool, false, true, Option, Some, None, List, [], ◌∷◌, map, filter, length, slice_get, if◌then◌else◌}
 use Rattle.std.specs.List.{filter_map}
 use Rattle.std.specs.Option.{option_map, option_map_or, option_and_then, option_or, is_none, is_some}
 use Rattle.std.specs.declared.cmp.Ordering.{Ordering}
@@ -17,9 +17,10 @@ use Rattle.plain_queues.specs.declared.queue_status.QueueStatus.TheVariants.{Sto
 use Rattle.plain_queues.specs.declared.queue_status.QueueStatus.TheVariants.{Running as Worked}
 use Rattle.plain_queues.specs.Queues.{QueuesOf}
 use Rattle.plain_queues.specs.Status.{status_of_mark}
+use Rattle.multi_queue.specs.declared.board.Board.{Board}
 use Rattle.multi_queue.specs.declared.entry.Entry.{Entry}
 use Rattle.multi_queue.specs.declared.entry.Lane.{Lane}
-use Rattle.multi_queue.specs.Counted.{has, is_first, IsCounted, IsBoardBut, HeadsAll, is_live}
+use Rattle.multi_queue.specs.Counted.{has, is_first, AreKept, HeadsAll, is_live}
 
 -- the key of the queue of a number
 abbrev pub key_at : List Lane → ℕ → Option QueueKey
@@ -55,11 +56,8 @@ pub record IsNamed (lanes : List Lane) (names : ℕ × List ℕ → Option ℕ) 
   pub proper : (q : ℕ) (w : Lane) → slice_get lanes q ≡ Some w → IsQueueName w.key.name
 
 -- what the lists of the counting body keep
-pub record IsQueues (units : List Entry) (lanes : List Lane) (heads : List ℕ) (nodes : List Bool) (height : ℕ) (places : ℕ × ℕ → Option ℕ)
-    (names : ℕ × List ℕ → Option ℕ) : Type 0 where
-  pub counted : IsCounted None units lanes heads
-  pub board : 0 < length units → IsBoardBut None height units heads nodes
-  pub fits : 2 * 2 ^ height < 2 ^ 64
+pub record IsQueues (units : List Entry) (lanes : List Lane) (board : Board) (places : ℕ × ℕ → Option ℕ) (names : ℕ × List ℕ → Option ℕ) : Type 0 where
+  pub kept : AreKept None units lanes board
   pub placed : IsPlaced units places
   pub named : IsNamed lanes names
   pub gone : (p : ℕ) (u : Entry) → slice_get units p ≡ Some u → u.live ≡ false → u.queues ≡ []

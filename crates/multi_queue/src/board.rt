@@ -1,94 +1,121 @@
-//! Which units are offered, as bits in a tree over their places.
+//! The counts of the heads of queues, and which units are offered by them, as bits in a tree over their places.
 
-ghost use Rattle.std.specs.Prelude.{◌≡◌, ◌<◌, ◌*◌, ◌^◌, ℕ, None, Some, true, false, length, slice_get, slice_set, MatchOption};
-ghost use Rattle.multi_queue.specs.declared.entry.Entry.{Entry};
-ghost use Rattle.multi_queue.specs.Counted.{is_ready, IsBoardBut};
+ghost use Rattle.std.specs.Prelude.{◌≡◌, ◌<◌, ◌≤◌, ◌+◌, ℕ, [], None, Some, true, false, length, slice_get, MatchOption};
+ghost use Rattle.multi_queue.specs.Counted.{is_ready, looks, IsBoardBut, AreKept};
 
 use crate::bits::{first, settle};
-use crate::entry::Entry;
-use ale_base::{Items, Mark};
+use crate::entry::{Entry, Lane};
+use ale_base::Items;
+use plain_queues::Steps;
+use std::alloc::Global;
+use std::sync::ledger::Ledger;
 
-/// Whether the unit at a place is offered.
-pub(crate) fn ready_at(units: &Items<Entry>, heads: &Items<usize>, place: usize) -> bool
-    requires within { place < length units.now }
-    requires all { length heads.now ≡ length units.now }
-    ensures { result ≡ is_ready (slice_get units.now place) (slice_get heads.now place) }
-{
-    let unit = &units[place];
-    unit.live && unit.claim.is_none() && unit.mark.is_none() && heads[place] == unit.queues.len()
+/// For each unit, by its place, how many queues it heads that are not stopped; and whether it is offered, as a leaf of a tree of bits.
+/// The counts are changed by looking at the queues' first entries.
+#[derive(Drop)]
+pub(crate) struct Board {
+    pub(crate) heads: Items<usize>,
+    pub(crate) nodes: Items<bool>,
+    pub(crate) height: u32,
 }
 
-/// Writes whether the unit at a place is offered.
-pub(crate) fn refresh(
-    units: &Items<Entry>,
-    heads: &Items<usize>,
-    nodes: &mut Items<bool>,
-    height: u32,
-    place: usize,
-)
-    requires board { IsBoardBut (Some place) height units.now heads.now nodes.old }
-    requires fits { 2 * 2 ^ height < 2 ^ 64 }
-    requires within { place < length units.now }
-    ensures board { IsBoardBut None height units.now heads.now nodes.new }
-{
-    let ready = ready_at(units, heads, place);
-    let leaf = nodes.len() / 2 + place;
-    *nodes.at_mut(leaf) = ready;
-    settle(nodes, leaf, height);
-}
+impl Board {
+    /// The board of no units. It takes no memory.
+    pub(crate) fn new(alloc: Global) -> Board
+        ensures { result ≡ record { heads = []; nodes = []; height = 0 } }
+    {
+        Board {
+            heads: Items::new(alloc),
+            nodes: Items::new(alloc),
+            height: 0,
+        }
+    }
 
-/// Writes the claim of the unit at a place.
-pub(crate) fn set_claim(
-    units: &mut Items<Entry>,
-    heads: &Items<usize>,
-    nodes: &mut Items<bool>,
-    height: u32,
-    place: usize,
-    claim: Option<u64>,
-)
-    requires board { IsBoardBut None height units.old heads.now nodes.old }
-    requires fits { 2 * 2 ^ height < 2 ^ 64 }
-    requires within { place < length units.old }
-    ensures board { IsBoardBut None height units.new heads.now nodes.new }
-    ensures unit { (u : Entry) → slice_get units.old place ≡ Some u → units.new ≡ slice_set units.old place (record u { claim = claim }) }
-{
-    units.at_mut(place).claim = claim;
-    refresh(units, heads, nodes, height, place);
-}
+    /// Whether the unit at a place is offered.
+    pub(crate) fn ready_at(&self, units: &Items<Entry>, place: usize) -> bool
+        requires within { place < length units.now }
+        requires all { length self.now.heads ≡ length units.now }
+        ensures { result ≡ is_ready (slice_get units.now place) (slice_get self.now.heads place) }
+    {
+        let unit = &units[place];
+        unit.live
+            && unit.claim.is_none()
+            && unit.mark.is_none()
+            && self.heads[place] == unit.queues.len()
+    }
 
-/// Writes the mark of the unit at a place.
-pub(crate) fn set_mark(
-    units: &mut Items<Entry>,
-    heads: &Items<usize>,
-    nodes: &mut Items<bool>,
-    height: u32,
-    place: usize,
-    mark: Option<Mark>,
-)
-    requires board { IsBoardBut None height units.old heads.now nodes.old }
-    requires fits { 2 * 2 ^ height < 2 ^ 64 }
-    requires within { place < length units.old }
-    ensures board { IsBoardBut None height units.new heads.now nodes.new }
-    ensures unit { (u : Entry) → slice_get units.old place ≡ Some u → units.new ≡ slice_set units.old place (record u { mark = mark }) }
-{
-    units.at_mut(place).mark = mark;
-    refresh(units, heads, nodes, height, place);
-}
+    /// Writes whether the unit at a place is offered. The counts stay.
+    pub(crate) fn refresh(&mut self, units: &Items<Entry>, place: usize)
+        requires board { IsBoardBut (Some place) units.now self.old }
+        requires within { place < length units.now }
+        ensures board { IsBoardBut None units.now self.new }
+        ensures heads { self.new.heads ≡ self.old.heads }
+    {
+        let ready = self.ready_at(units, place);
+        let leaf = self.nodes.len() / 2 + place;
+        *self.nodes.at_mut(leaf) = ready;
+        settle(&mut self.nodes, leaf, self.height);
+    }
 
-/// The place of the offered unit that was added first.
-pub(crate) fn next_place(
-    units: &Items<Entry>,
-    heads: &Items<usize>,
-    nodes: &Items<bool>,
-    height: u32,
-) -> Option<usize>
-    requires board { IsBoardBut None height units.now heads.now nodes.now }
-    requires fits { 2 * 2 ^ height < 2 ^ 64 }
-    ensures { MatchOption result ((p : ℕ) → is_ready (slice_get units.now p) (slice_get heads.now p) ≡ false)
-        (λ at. (is_ready (slice_get units.now at) (slice_get heads.now at) ≡ true) × ((p : ℕ) → p < at → is_ready (slice_get units.now p) (slice_get heads.now p) ≡ false)) }
-{
-    match first(nodes, height) {
-        Some(leaf) => Some(leaf - nodes.len() / 2),
-        None => None,
+    /// The first unit of a queue that is not stopped counts it no more.
+    pub(crate) fn lower<L: Ledger>(
+        &mut self,
+        units: &Items<Entry>,
+        lanes: &Items<Lane>,
+        queue: usize,
+        steps: &mut Steps<L>,
+    )
+        requires kept { AreKept None units.now lanes.now self.old }
+        requires known { queue < length lanes.now }
+        ensures kept { AreKept (Some queue) units.now lanes.now self.new }
+        ensures cost { steps.new ≤ steps.old + 1 }
+    {
+        let lane = &lanes[queue];
+        if !lane.stopped {
+            match lane.line.first(steps) {
+                Some(place) => {
+                    *self.heads.at_mut(place) -= 1;
+                    self.refresh(units, place);
+                }
+                None => {}
+            }
+        }
+    }
+
+    /// The first unit of a queue that is not stopped counts it again.
+    pub(crate) fn raise<L: Ledger>(
+        &mut self,
+        units: &Items<Entry>,
+        lanes: &Items<Lane>,
+        queue: usize,
+        steps: &mut Steps<L>,
+    )
+        requires kept { AreKept (Some queue) units.now lanes.now self.old }
+        requires known { queue < length lanes.now }
+        ensures kept { AreKept None units.now lanes.now self.new }
+        ensures cost { steps.new ≤ steps.old + looks queue units.now }
+    {
+        let lane = &lanes[queue];
+        if !lane.stopped {
+            match lane.line.first(steps) {
+                Some(place) => {
+                    *self.heads.at_mut(place) += 1;
+                    self.refresh(units, place);
+                }
+                None => {}
+            }
+        }
+    }
+
+    /// The place of the offered unit that was added first.
+    pub(crate) fn next_place(&self, units: &Items<Entry>) -> Option<usize>
+        requires board { IsBoardBut None units.now self.now }
+        ensures { MatchOption result ((p : ℕ) → is_ready (slice_get units.now p) (slice_get self.now.heads p) ≡ false)
+            (λ at. (is_ready (slice_get units.now at) (slice_get self.now.heads at) ≡ true) × ((p : ℕ) → p < at → is_ready (slice_get units.now p) (slice_get self.now.heads p) ≡ false)) }
+    {
+        match first(&self.nodes, self.height) {
+            Some(leaf) => Some(leaf - self.nodes.len() / 2),
+            None => None,
+        }
     }
 }

@@ -2,14 +2,11 @@
 
 mod asking;
 
-use crate::board::{set_claim, set_mark};
-use crate::counting::{enter, take_away, write_stop};
-use crate::entry::{Entry, Lane};
-use crate::growing::make_room;
+use crate::counting::Counting;
 use crate::names::{Name, queue_of};
 use crate::numbering::{number_in, numbers_in};
 use crate::places::{Number, place_of};
-use ale_base::{Items, Mark, OutOfMemory, Tid};
+use ale_base::{Mark, OutOfMemory, Tid};
 use plain_queues::{Claim, MOST_QUEUES, NotOffered, QueueKey, Steps};
 use std::alloc::Global;
 use std::collections::BTreeMap;
@@ -21,11 +18,7 @@ use std::sync::ledger::Ledger;
 #[derive(Drop)]
 pub struct Queues {
     alloc: Global,
-    units: Items<Entry>,
-    lanes: Items<Lane>,
-    heads: Items<usize>,
-    nodes: Items<bool>,
-    height: u32,
+    counting: Counting,
     places: BTreeMap<Number, usize>,
     names: BTreeMap<Name, usize>,
 }
@@ -38,9 +31,9 @@ impl Model for Queues {
     ghost use Rattle.std.specs.BTreeMap.{get};
     ghost use Rattle.multi_queue.specs.Seen.{seen, numbers_cmp, names_cmp, IsQueues};
 
-    ghost view = { λ queues. seen queues.units queues.lanes };
+    ghost view = { λ queues. seen queues.counting.units queues.counting.lanes };
 
-    ghost invariant = { λ queues. IsQueues queues.units queues.lanes queues.heads queues.nodes queues.height (get numbers_cmp queues.places) (get names_cmp queues.names) };
+    ghost invariant = { λ queues. IsQueues queues.counting.units queues.counting.lanes queues.counting.board (get numbers_cmp queues.places) (get names_cmp queues.names) };
 }
 
 impl Queues {
@@ -58,11 +51,7 @@ impl Queues {
     {
         Queues {
             alloc,
-            units: Items::new(alloc),
-            lanes: Items::new(alloc),
-            heads: Items::new(alloc),
-            nodes: Items::new(alloc),
-            height: 0,
+            counting: Counting::new(alloc),
             places: BTreeMap::new(alloc),
             names: BTreeMap::new(alloc),
         }
@@ -77,31 +66,20 @@ impl Queues {
         ensures ok { OnOk result (self.new ≡ added tid keys.now self.old) }
         ensures err { OnErr result (self.new ≡ self.old) }
     {
-        let numbers = match numbers_in(self.alloc, &mut self.lanes, &mut self.names, keys) {
+        let numbers = match numbers_in(
+            self.alloc,
+            &mut self.counting.lanes,
+            &mut self.names,
+            keys,
+        ) {
             Ok(numbers) => numbers,
             Err(short) => return Err(short),
         };
-        let place = match make_room(
-            self.alloc,
-            &mut self.units,
-            &mut self.heads,
-            &mut self.nodes,
-            &mut self.height,
-            &mut self.places,
-            tid,
-        ) {
+        let place = match self.counting.make_room(self.alloc, &mut self.places, tid) {
             Ok(place) => place,
             Err(short) => return Err(short),
         };
-        enter(
-            &mut self.units,
-            &mut self.lanes,
-            &mut self.heads,
-            &mut self.nodes,
-            self.height,
-            place,
-            numbers.as_slice(),
-        )
+        self.counting.enter(place, numbers.as_slice())
     }
 
     /// Claims the unit of this id under a number. An `Err` says why it is not offered, as `why_not` does, and changes nothing.
@@ -155,16 +133,8 @@ impl Queues {
         ensures finished { self.new ≡ finished claim.tid self.old }
         ensures cost { steps.new ≤ steps.old + most_looks claim.tid self.old }
     {
-        match place_of(&self.units, &self.places, claim.tid) {
-            Some(place) => take_away(
-                &mut self.units,
-                &mut self.lanes,
-                &mut self.heads,
-                &mut self.nodes,
-                self.height,
-                place,
-                steps,
-            ),
+        match place_of(&self.counting.units, &self.places, claim.tid) {
+            Some(place) => self.counting.take_away(place, steps),
             None => {}
         }
     }
@@ -182,16 +152,8 @@ impl Queues {
         ensures ok { OnOk result (Stops key self.old self.new) }
         ensures err { OnErr result (self.new ≡ self.old) }
     {
-        let queue = number_in(self.alloc, &mut self.lanes, &mut self.names, &key)?;
-        write_stop(
-            &self.units,
-            &mut self.lanes,
-            &mut self.heads,
-            &mut self.nodes,
-            self.height,
-            queue,
-            true,
-        );
+        let queue = number_in(self.alloc, &mut self.counting.lanes, &mut self.names, &key)?;
+        self.counting.write_stop(queue, true);
         Ok(())
     }
 
@@ -200,15 +162,7 @@ impl Queues {
         ensures { Starts key self.old self.new }
     {
         match queue_of(&self.names, &key) {
-            Some(queue) => write_stop(
-                &self.units,
-                &mut self.lanes,
-                &mut self.heads,
-                &mut self.nodes,
-                self.height,
-                queue,
-                false,
-            ),
+            Some(queue) => self.counting.write_stop(queue, false),
             None => {}
         }
     }
@@ -218,17 +172,8 @@ impl Queues {
         requires free { is_none claim ≡ false → is_free tid self.old ≡ true }
         ensures { self.new ≡ changed (λ unit. record unit { claim = claim }) tid self.old }
     {
-        match place_of(&self.units, &self.places, tid) {
-            Some(place) => {
-                set_claim(
-                    &mut self.units,
-                    &self.heads,
-                    &mut self.nodes,
-                    self.height,
-                    place,
-                    claim,
-                );
-            }
+        match place_of(&self.counting.units, &self.places, tid) {
+            Some(place) => self.counting.set_claim(place, claim),
             None => {}
         }
     }
@@ -237,17 +182,8 @@ impl Queues {
     fn write_mark(&mut self, tid: Tid, mark: Option<Mark>)
         ensures { self.new ≡ changed (λ unit. record unit { mark = mark }) tid self.old }
     {
-        match place_of(&self.units, &self.places, tid) {
-            Some(place) => {
-                set_mark(
-                    &mut self.units,
-                    &self.heads,
-                    &mut self.nodes,
-                    self.height,
-                    place,
-                    mark,
-                );
-            }
+        match place_of(&self.counting.units, &self.places, tid) {
+            Some(place) => self.counting.set_mark(place, mark),
             None => {}
         }
     }

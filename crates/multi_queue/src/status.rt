@@ -1,31 +1,32 @@
 //! The status of a queue, by its number.
 
-ghost use Rattle.std.specs.Prelude.{◌≡◌, ◌<◌, ℕ, Some, length, slice_get};
-ghost use Rattle.multi_queue.specs.declared.entry.Entry.{Entry};
-ghost use Rattle.multi_queue.specs.Seen.{AreKnown, AreHeaded, status_of_lane, status_of_head, status_by_count};
+ghost use Rattle.std.specs.Prelude.{◌≡◌, ◌<◌, None, length, slice_get};
+ghost use Rattle.multi_queue.specs.Counted.{IsKept};
+ghost use Rattle.multi_queue.specs.Seen.{AreKnown, status_of_lane, status_of_head, status_by_count};
 
+use crate::counting::Counting;
 use crate::entry::{Entry, Lane};
 use crate::reasons::first_stopped;
 use ale_base::{Items, Mark};
 use plain_queues::QueueStatus;
 
-/// The status of the queue of a number. None exactly where it is empty.
-pub(crate) fn status_at(
-    units: &Items<Entry>,
-    lanes: &Items<Lane>,
-    heads: &Items<usize>,
-    queue: usize,
-) -> Option<QueueStatus>
-    requires within { queue < length lanes.now }
-    requires headed { AreHeaded units.now lanes.now }
-    requires all { length heads.now ≡ length units.now }
-    requires known { (p : ℕ) (u : Entry) → slice_get units.now p ≡ Some u → AreKnown u.queues lanes.now }
-    ensures { result ≡ status_of_lane units.now lanes.now heads.now (slice_get lanes.now queue) }
-{
-    let lane = &lanes[queue];
-    match lane.line.head() {
-        Some(place) => Some(status_of_head(lanes, lane.stopped, &units[place], heads[place])),
-        None => None,
+impl Counting {
+    /// The status of the queue of a number. None exactly where it is empty.
+    pub(crate) fn status_at(&self, queue: usize) -> Option<QueueStatus>
+        requires kept { IsKept None self.now }
+        requires within { queue < length self.now.lanes }
+        ensures { result ≡ status_of_lane self.now.units self.now.lanes self.now.board.heads (slice_get self.now.lanes queue) }
+    {
+        let lane = &self.lanes[queue];
+        match lane.line.head() {
+            Some(place) => Some(status_of_head(
+                &self.lanes,
+                lane.stopped,
+                &self.units[place],
+                self.board.heads[place],
+            )),
+            None => None,
+        }
     }
 }
 

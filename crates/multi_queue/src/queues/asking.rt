@@ -1,12 +1,9 @@
 //! Questions to the queues, which change nothing.
 
 use super::Queues;
-use crate::board::{next_place, ready_at};
-use crate::listing::lines;
 use crate::names::queue_of;
 use crate::places::place_of;
 use crate::reasons::{free_at, why_not_at};
-use crate::status::status_at;
 use ale_base::{Items, Mark, OutOfMemory, Tid};
 use plain_queues::{Claim, NotOffered, QueueCount, QueueKey, QueueStatus};
 use std::alloc::Global;
@@ -24,8 +21,8 @@ impl Queues {
     pub fn offered(&self, tid: Tid) -> bool
         ensures { result ≡ is_offered tid self.now }
     {
-        match place_of(&self.units, &self.places, tid) {
-            Some(place) => ready_at(&self.units, &self.heads, place),
+        match place_of(&self.counting.units, &self.places, tid) {
+            Some(place) => self.counting.board.ready_at(&self.counting.units, place),
             None => false,
         }
     }
@@ -34,8 +31,8 @@ impl Queues {
     pub fn is_free(&self, tid: Tid) -> bool
         ensures { result ≡ is_free tid self.now }
     {
-        match place_of(&self.units, &self.places, tid) {
-            Some(place) => free_at(&self.lanes, place, &self.units[place]),
+        match place_of(&self.counting.units, &self.places, tid) {
+            Some(place) => free_at(&self.counting.lanes, place, &self.counting.units[place]),
             None => false,
         }
     }
@@ -44,7 +41,7 @@ impl Queues {
     pub fn contains(&self, tid: Tid) -> bool
         ensures { IsTrue result ↔ IsSome (unit_of tid self.now) }
     {
-        match place_of(&self.units, &self.places, tid) {
+        match place_of(&self.counting.units, &self.places, tid) {
             Some(_) => true,
             None => false,
         }
@@ -54,8 +51,8 @@ impl Queues {
     pub fn holds(&self, claim: &Claim) -> bool
         ensures { IsTrue result ↔ (claim_of claim.now.tid self.now ≡ Some claim.now.number) }
     {
-        match place_of(&self.units, &self.places, claim.tid) {
-            Some(place) => self.units[place].claim == Some(claim.number),
+        match place_of(&self.counting.units, &self.places, claim.tid) {
+            Some(place) => self.counting.units[place].claim == Some(claim.number),
             None => false,
         }
     }
@@ -64,8 +61,8 @@ impl Queues {
     pub fn mark_on(&self, tid: Tid) -> Option<Mark>
         ensures { result ≡ mark_on tid self.now }
     {
-        match place_of(&self.units, &self.places, tid) {
-            Some(place) => self.units[place].mark,
+        match place_of(&self.counting.units, &self.places, tid) {
+            Some(place) => self.counting.units[place].mark,
             None => None,
         }
     }
@@ -76,11 +73,11 @@ impl Queues {
         ensures offered { IfSome result (λ tid. is_offered tid self.now ≡ true) }
         ensures none { IsNone result ↔ ((tid : TidOf) → is_offered tid self.now ≡ false) }
     {
-        if self.units.is_empty() {
+        if self.counting.units.is_empty() {
             return None;
         }
-        match next_place(&self.units, &self.heads, &self.nodes, self.height) {
-            Some(place) => Some(self.units[place].tid),
+        match self.counting.board.next_place(&self.counting.units) {
+            Some(place) => Some(self.counting.units[place].tid),
             None => None,
         }
     }
@@ -90,8 +87,13 @@ impl Queues {
         ensures why { result ≡ why_not tid self.now }
         ensures none { IsNone result ↔ (is_offered tid self.now ≡ true) }
     {
-        match place_of(&self.units, &self.places, tid) {
-            Some(place) => why_not_at(&self.units, &self.lanes, place, &self.units[place]),
+        match place_of(&self.counting.units, &self.places, tid) {
+            Some(place) => why_not_at(
+                &self.counting.units,
+                &self.counting.lanes,
+                place,
+                &self.counting.units[place],
+            ),
             None => Some(NotOffered::Unknown),
         }
     }
@@ -102,7 +104,7 @@ impl Queues {
         ensures none { IsNone result ↔ (in_queue key self.now ≡ []) }
     {
         match queue_of(&self.names, &key) {
-            Some(queue) => status_at(&self.units, &self.lanes, &self.heads, queue),
+            Some(queue) => self.counting.status_at(queue),
             None => None,
         }
     }
@@ -112,6 +114,6 @@ impl Queues {
     pub fn lines(&self, alloc: Global) -> Result<Items<QueueCount>, OutOfMemory>
         ensures { IfOk result (AreLinesOf self.now) }
     {
-        lines(alloc, &self.units, &self.lanes, &self.heads, &self.names)
+        self.counting.lines(alloc, &self.names)
     }
 }

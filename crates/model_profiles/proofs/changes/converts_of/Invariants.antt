@@ -9,5 +9,5 @@ use Rattle.model_profiles.proofs.changes.converts_of.Given as goal
 
 abbrev pub invariant-loop-place : goal.invariant-loop-place
 invariant-loop-place l =
-    let read = λ (done : List Convert) (d : Data). convert_of l.types l.definitions d in
+    let read = λ (done : List Convert) (d : Data). convert_of l.on.types l.on.definitions d in
     each CONVERT.now read l.place l.converts (items_view (drop l.place l.values)) ≡ each CONVERT.now read 0 [] (items_view l.values)

@@ -8,5 +8,5 @@ use Rattle.model_profiles.proofs.queue_rules.rules_of.Given as goal
 
 abbrev pub invariant-loop-place : goal.invariant-loop-place
 invariant-loop-place l =
-    let read = λ (done : List QueueRule) (d : Data). rule_of l.types l.definitions l.entries l.outmod d in
+    let read = λ (done : List QueueRule) (d : Data). rule_of l.on.types l.on.definitions l.entries l.outmod d in
     each l.key read l.place l.rules (items_view (drop l.place l.values)) ≡ each l.key read 0 [] (items_view l.values)

@@ -9,5 +9,5 @@ use Rattle.model_profiles.proofs.rows.groups_of.Given as goal
 
 abbrev pub invariant-loop-place : goal.invariant-loop-place
 invariant-loop-place l =
-    let read = λ (done : List Group) (d : Data). group_of l.definitions l.filters l.message d in
+    let read = λ (done : List Group) (d : Data). group_of l.on.definitions l.on.filters l.message d in
     each GROUP.now read l.place l.groups (items_view (drop l.place l.values)) ≡ each GROUP.now read 0 [] (items_view l.values)

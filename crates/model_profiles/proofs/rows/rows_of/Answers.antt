@@ -11,7 +11,8 @@ use Rattle.model_profiles.proofs.rows.rows_of.Goals as goal
 pub returns-in-Err : goal.returns-in-Err
 returns-in-Err c =
     loop-fails ROW.now (λ (done : List Row) (d : Data).
-    row_of c.args.systems.now c.args.definitions.now c.args.messages.now c.args.filters.now (row_ways done) d) c.args.values.now c.loop-place.place _
+    row_of c.args.on.now.systems c.args.on.now.definitions c.args.on.now.messages c.args.on.now.filters (row_ways done) d) c.args.values.now c.loop-place.place
+    _
     c.in-Err.error c.within.result
     c.loop-place.rows c.index-values-place.result c.index-values-place.is c.loop-place-test.true (rw (← c.loop-place.invariant.0) c.in-Err.ensures.given)
     c.within.ensures c.loop-place.invariant.1
@@ -23,7 +24,8 @@ loop-place-preserved c =
       c.in-Ok.ensures.added ∙ ap (λ (before : List Way). before ++ row_way c.in-Ok.row ∷ []) c.loop-place.invariant.0
           ∙ sym (map_push (λ (one : Row). row_way one) c.loop-place.rows c.in-Ok.row),
       loop-goes ROW.now (λ (done : List Row) (d : Data).
-          row_of c.args.systems.now c.args.definitions.now c.args.messages.now c.args.filters.now (row_ways done) d) c.args.values.now c.loop-place.place _
+          row_of c.args.on.now.systems c.args.on.now.definitions c.args.on.now.messages c.args.on.now.filters (row_ways done) d) c.args.values.now
+          c.loop-place.place _
           c.loop-place.rows
           c.index-values-place.result c.in-Ok.row c.index-values-place.is c.loop-place-test.true (rw (← c.loop-place.invariant.0) c.in-Ok.ensures.given)
           c.loop-place.invariant.1,
@@ -32,5 +34,6 @@ loop-place-preserved c =
 pub returns : goal.returns
 returns c =
     loop-ends ROW.now (λ (done : List Row) (d : Data).
-    row_of c.args.systems.now c.args.definitions.now c.args.messages.now c.args.filters.now (row_ways done) d) c.args.values.now c.loop-place.place _
+    row_of c.args.on.now.systems c.args.on.now.definitions c.args.on.now.messages c.args.on.now.filters (row_ways done) d) c.args.values.now c.loop-place.place
+    _
     c.loop-place.rows c.loop-place-test.false c.loop-place.invariant.1

@@ -9,6 +9,6 @@ use Rattle.model_profiles.proofs.rows.rows_of.Given as goal
 
 abbrev pub invariant-loop-place : goal.invariant-loop-place
 invariant-loop-place l =
-    let read = λ (done : List Row) (d : Data). row_of l.systems l.definitions l.messages l.filters (row_ways done) d in
+    let read = λ (done : List Row) (d : Data). row_of l.on.systems l.on.definitions l.on.messages l.on.filters (row_ways done) d in
     (l.ways ≡ row_ways l.rows)
     × (each ROW.now read l.place l.rows (items_view (drop l.place l.values)) ≡ each ROW.now read 0 [] (items_view l.values))

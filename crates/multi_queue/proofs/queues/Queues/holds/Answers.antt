@@ -21,7 +21,7 @@ returns-in-Some c =
     let same : at.unit ≡ c.index.result.now = cc (at.stands, c.index.ensures) in
     let claim_is = λ (o : Option QueuedUnit). option_and_then (λ (unit : QueuedUnit). unit.claim) o in
     let here = sym (ap (λ (queues : QueuesOf). unit_of c.args.claim.now.tid queues) c.self.view_is)
-    ∙ unit_of-here c.args.claim.now.tid c.self.inside.units c.self.inside.lanes (get numbers_cmp c.self.inside.places) c.in-Some.place at.unit
+    ∙ unit_of-here c.args.claim.now.tid c.self.inside.counting.units c.self.inside.counting.lanes (get numbers_cmp c.self.inside.places) c.in-Some.place at.unit
     c.self.invariant.placed at.names at.stands at.live in
     let claim : claim_is (unit_of c.args.claim.now.tid c.args.self.now) ≡ c.index.result.now.claim = ap claim_is here ∙ ap (λ (u : Entry). u.claim) same in
     subst (λ o. IsTrue c.eq.result ↔ (o ≡ Some c.args.claim.now.number)) (sym claim)
@@ -31,7 +31,7 @@ returns-in-Some c =
 pub returns-in-None : goal.returns-in-None
 returns-in-None c =
     let gone = sym (ap (λ (queues : QueuesOf). unit_of c.args.claim.now.tid queues) c.self.view_is)
-    ∙ unit_of-gone c.args.claim.now.tid c.self.inside.units c.self.inside.lanes (get numbers_cmp c.self.inside.places) c.self.invariant.placed
+    ∙ unit_of-gone c.args.claim.now.tid c.self.inside.counting.units c.self.inside.counting.lanes (get numbers_cmp c.self.inside.places) c.self.invariant.placed
     c.in-None.ensures.nowhere in
     subst (λ (o : Option QueuedUnit). IsTrue false ↔ (option_and_then (λ (unit : QueuedUnit). unit.claim) o ≡ Some c.args.claim.now.number)) (sym gone)
     (search rules)

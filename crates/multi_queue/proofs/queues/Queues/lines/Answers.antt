@@ -7,21 +7,16 @@ use Rattle.plain_queues.specs.Queues.{QueuesOf}
 use Rattle.plain_queues.specs.Lines.{AreLinesOf}
 use Rattle.multi_queue.specs.Listed.{line_at}
 use Rattle.multi_queue.specs.Seen.{seen}
-use Rattle.multi_queue.proofs.ReasonLemmas.{known-of, headed-all}
 use Rattle.multi_queue.proofs.LinesLemmas.{lines-are}
 use Rattle.multi_queue.proofs.queues.Queues.lines.Goals as goal
-
-pub lines-requires-clause-headed : goal.lines-requires-clause-headed
-lines-requires-clause-headed c = headed-all c.self.invariant
-
-pub lines-requires-clause-known : goal.lines-requires-clause-known
-lines-requires-clause-known c = λ p u at_p. known-of c.self.invariant p u at_p
 
 pub returns : goal.returns
 returns c =
     IfOk-weaker c.lines.result
-    (λ (lines : List QueueCount). lines ≡ filter_map (line_at c.self.inside.units c.self.inside.lanes c.self.inside.heads) (values c.self.inside.names))
+    (λ (lines : List QueueCount). lines ≡ filter_map (line_at c.self.inside.counting.units c.self.inside.counting.lanes c.self.inside.counting.board.heads)
+    (values c.self.inside.names))
     (AreLinesOf c.args.self.now) (λ lines are.
     subst (λ (queues : QueuesOf). AreLinesOf queues lines) c.self.view_is
-    (subst (AreLinesOf (seen c.self.inside.units c.self.inside.lanes)) (sym are) (lines-are c.self.inside.names c.self.invariant c.lines.ensures.ordered)))
+    (subst (AreLinesOf (seen c.self.inside.counting.units c.self.inside.counting.lanes)) (sym are)
+    (lines-are c.self.inside.names c.self.invariant c.lines.ensures.ordered)))
     c.lines.ensures.lines

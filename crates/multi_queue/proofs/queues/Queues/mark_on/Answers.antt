@@ -14,7 +14,8 @@ returns-in-Some c =
     let same : at.unit ≡ c.index.result.now = cc (at.stands, c.index.ensures) in
     let mark_is = λ (o : Option QueuedUnit). option_and_then (λ (unit : QueuedUnit). unit.mark) o in
     sym (ap (λ (queues : QueuesOf). mark_is (unit_of c.args.tid queues)) (sym c.self.view_is)
-    ∙ ap mark_is (unit_of-here c.args.tid c.self.inside.units c.self.inside.lanes (get numbers_cmp c.self.inside.places) c.in-Some.place at.unit
+    ∙ ap mark_is (unit_of-here c.args.tid c.self.inside.counting.units c.self.inside.counting.lanes (get numbers_cmp c.self.inside.places) c.in-Some.place
+    at.unit
     c.self.invariant.placed at.names at.stands at.live)
     ∙ ap (λ (u : Entry). u.mark) same)
 
@@ -22,5 +23,6 @@ pub returns-in-None : goal.returns-in-None
 returns-in-None c =
     let mark_is = λ (o : Option QueuedUnit). option_and_then (λ (unit : QueuedUnit). unit.mark) o in
     sym (ap (λ (queues : QueuesOf). mark_is (unit_of c.args.tid queues)) (sym c.self.view_is)
-    ∙ ap mark_is (unit_of-gone c.args.tid c.self.inside.units c.self.inside.lanes (get numbers_cmp c.self.inside.places) c.self.invariant.placed
+    ∙ ap mark_is (unit_of-gone c.args.tid c.self.inside.counting.units c.self.inside.counting.lanes
+    (get numbers_cmp c.self.inside.places) c.self.invariant.placed
     c.in-None.ensures.nowhere))

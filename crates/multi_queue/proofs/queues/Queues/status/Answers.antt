@@ -11,7 +11,6 @@ use Rattle.plain_queues.specs.Status.{status_of, status_by_head}
 use Rattle.plain_queues.proofs.OfferedLemmas.{status-there, status-empty}
 use Rattle.multi_queue.specs.declared.entry.Lane.{Lane}
 use Rattle.multi_queue.specs.Seen.{names_cmp, seen, status_of_lane}
-use Rattle.multi_queue.proofs.ReasonLemmas.{known-of, headed-all}
 use Rattle.multi_queue.proofs.StatusLemmas.{lane-there, no-lane, no-head, status-lane}
 use Rattle.multi_queue.proofs.queues.Queues.status.Goals as goal
 
@@ -25,23 +24,20 @@ none-of key queues = by (head_of key queues) refl
 
 pub status_at-requires-clause-within : goal.status_at-requires-clause-within
 status_at-requires-clause-within c =
-    let there = lane-there c.self.inside.lanes (get names_cmp c.self.inside.names) c.args.key c.in-Some.queue c.self.invariant.named c.in-Some.ensures.proper
+    let there = lane-there c.self.inside.counting.lanes (get names_cmp c.self.inside.names) c.args.key c.in-Some.queue c.self.invariant.named
+    c.in-Some.ensures.proper
     (sym c.in-Some.ensures.number) in
-    slice_get_within c.self.inside.lanes c.in-Some.queue there.0 there.1
-
-pub status_at-requires-clause-headed : goal.status_at-requires-clause-headed
-status_at-requires-clause-headed c = headed-all c.self.invariant
-
-pub status_at-requires-clause-known : goal.status_at-requires-clause-known
-status_at-requires-clause-known c = λ p u at_p. known-of c.self.invariant p u at_p
+    slice_get_within c.self.inside.counting.lanes c.in-Some.queue there.0 there.1
 
 pub returns-in-Some-clause-status : goal.returns-in-Some-clause-status
 returns-in-Some-clause-status c =
-    let there = lane-there c.self.inside.lanes (get names_cmp c.self.inside.names) c.args.key c.in-Some.queue c.self.invariant.named c.in-Some.ensures.proper
+    let there = lane-there c.self.inside.counting.lanes (get names_cmp c.self.inside.names) c.args.key c.in-Some.queue c.self.invariant.named
+    c.in-Some.ensures.proper
     (sym c.in-Some.ensures.number) in
-    c.status_at.ensures ∙ ap (λ (o : Option Lane). status_of_lane c.self.inside.units c.self.inside.lanes c.self.inside.heads o) there.1
+    c.status_at.ensures ∙ ap (λ (o : Option Lane).
+    status_of_lane c.self.inside.counting.units c.self.inside.counting.lanes c.self.inside.counting.board.heads o) there.1
     ∙ sym (status-lane c.self.invariant c.in-Some.queue there.0 there.1)
-    ∙ ap (λ (key : QueueKey). status_of key (seen c.self.inside.units c.self.inside.lanes)) there.2
+    ∙ ap (λ (key : QueueKey). status_of key (seen c.self.inside.counting.units c.self.inside.counting.lanes)) there.2
     ∙ ap (λ (queues : QueuesOf). status_of c.args.key queues) c.self.view_is
 
 pub returns-in-Some-clause-none : goal.returns-in-Some-clause-none
@@ -52,8 +48,8 @@ pub returns-in-None-clause-status : goal.returns-in-None-clause-status
 returns-in-None-clause-status c =
     sym (ap (λ (o : Option QueuedUnit). option_map (status_by_head c.args.key c.args.self.now) o) (
     ap (λ (queues : QueuesOf). head_of c.args.key queues) (sym c.self.view_is)
-    ∙ no-head c.self.inside.units c.self.inside.lanes c.args.key
-    (no-lane c.self.inside.lanes (get names_cmp c.self.inside.names) c.args.key c.self.invariant.named (sym c.in-None.ensures.number))))
+    ∙ no-head c.self.inside.counting.units c.self.inside.counting.lanes c.args.key
+    (no-lane c.self.inside.counting.lanes (get names_cmp c.self.inside.names) c.args.key c.self.invariant.named (sym c.in-None.ensures.number))))
 
 pub returns-in-None-clause-none : goal.returns-in-None-clause-none
 returns-in-None-clause-none c = subst (λ (o : Option QueueStatus). IsNone o ↔ (in_queue c.args.key c.args.self.now ≡ []))

@@ -9,16 +9,16 @@ use Rattle.multi_queue.proofs.ReasonLemmas.{known-of, headed-all, why-at, why-no
 use Rattle.multi_queue.proofs.queues.Queues.why_not.Goals as goal
 
 pub why_not_at-requires-clause-known : goal.why_not_at-requires-clause-known
-why_not_at-requires-clause-known c = known-of c.self.invariant c.in-Some.place c.index.result.now c.index.ensures
+why_not_at-requires-clause-known c = known-of c.self.invariant.kept c.in-Some.place c.index.result.now c.index.ensures
 
 pub why_not_at-requires-clause-headed : goal.why_not_at-requires-clause-headed
-why_not_at-requires-clause-headed c = headed-all c.self.invariant
+why_not_at-requires-clause-headed c = headed-all c.self.invariant.kept
 
 pub returns-in-Some-clause-why : goal.returns-in-Some-clause-why
 returns-in-Some-clause-why c =
     let at = c.in-Some.ensures in
     let same : c.index.result.now ≡ at.unit = cc (at.stands, c.index.ensures) in
-    c.why_not_at.ensures ∙ ap (λ (u : Entry). why_not_of c.self.inside.units c.self.inside.lanes c.in-Some.place u) same
+    c.why_not_at.ensures ∙ ap (λ (u : Entry). why_not_of c.self.inside.counting.units c.self.inside.counting.lanes c.in-Some.place u) same
     ∙ sym (why-at c.self.invariant c.args.tid c.in-Some.place at.unit at.names at.stands at.live)
     ∙ ap (λ (queues : QueuesOf). why_not c.args.tid queues) c.self.view_is
 
