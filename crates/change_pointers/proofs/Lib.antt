@@ -10,3 +10,5 @@ pub mod MasterLemmas
 pub mod RenumberLemmas
 -- a segment alone that is a document
 pub mod ReadLemmas
+-- what is cleared, what waits and what is carried over
+pub mod LawLemmas

@@ -8,3 +8,5 @@ pub mod Master
 pub mod Gathered
 -- pointers when another model comes into force
 pub mod Renumbered
+-- what is true of clearing, waiting and renumbering, in other words
+pub mod Laws

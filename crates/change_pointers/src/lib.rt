@@ -4,7 +4,8 @@
 //! told in byte order, each once (`Pointers::pending`), a put notes exactly the pointers of the fields that it changes
 //! (`noted`), and the master of an object has the object as it is and is a document of its message type (`master_of`). Under
 //! another model pointers go by the names of their message types (`Pointers::renumber`). The definitions are in `specs/`:
-//! `Pointers`, `Noted`, `Master` and `Renumbered`.
+//! `Pointers`, `Noted`, `Master` and `Renumbered`; what clearing, waiting and renumbering are is said there once more in other
+//! words, in `Laws`.
 #![tactic(auto)]
 
 mod master;

@@ -27,6 +27,7 @@ impl Model for Pointers {
 
 impl Pointers {
     ghost use Rattle.std.specs.Prelude.{◌≡◌, [], ◌∷◌, ◌++◌, OnOk, OnErr, IfOk};
+    ghost use Rattle.change_pointers.specs.Laws.{AreWaiting, ClearsAlone};
     ghost use Rattle.change_pointers.specs.Pointers.{cleared, pending_of};
 
     /// No pointers. It takes no memory.
@@ -52,7 +53,8 @@ impl Pointers {
         alloc: Global,
         message: MessageNo,
     ) -> Result<Items<ObjectKey>, OutOfMemory>
-        ensures { IfOk result (λ objects. objects ≡ pending_of message self.now) }
+        ensures all { IfOk result (λ objects. objects ≡ pending_of message self.now) }
+        ensures waiting { IfOk result (λ objects. AreWaiting message self.now objects) }
     {
         let mut objects = ObjectSet::new(alloc);
         let pointers = self.pointers.as_slice();
@@ -66,7 +68,8 @@ impl Pointers {
 
     /// Removes the pointers of a message type. All others stay.
     pub fn clear(&mut self, message: MessageNo)
-        ensures { self.new ≡ cleared message self.old }
+        ensures left { self.new ≡ cleared message self.old }
+        ensures alone { ClearsAlone message self.old self.new }
     {
         self.pointers.retain(|pointer| pointer.message != message);
     }

@@ -15,6 +15,7 @@ use std::alloc::Global;
 impl Pointers {
     ghost use Rattle.std.specs.Prelude.{◌≡◌, OnOk, OnErr};
     ghost use Rattle.std.specs.List.{filter_map};
+    ghost use Rattle.change_pointers.specs.Laws.{FollowNames};
     ghost use Rattle.change_pointers.specs.Renumbered.{renumbered};
 
     /// Another model comes into force: each pointer gets the number that its message type has there, by its name, and those of
@@ -26,8 +27,11 @@ impl Pointers {
         after: &Model,
     ) -> Result<(), OutOfMemory>
         ensures ok { OnOk result (self.new ≡ filter_map (renumbered before.now after.now) self.old) }
+        ensures names { OnOk result (FollowNames before.now after.now self.old self.new) }
         ensures err { OnErr result (self.new ≡ self.old) }
     {
+        // The rules of a model say that each of its message types has a name.
+        let _rules = after.as_lists();
         let mut kept = Items::new(alloc);
         let pointers = self.pointers.as_slice();
         for pointer in pointers {

@@ -10,3 +10,5 @@ pub mod TablesLemmas
 pub mod RecordLemmas
 -- what becomes of a document, by its profile
 pub mod PreparedLemmas
+-- what a posting says, and what a Commit does to pointers
+pub mod LawLemmas

@@ -6,3 +6,5 @@ pub mod Prepared
 pub mod Application
 -- the tables in which a system keeps that
 pub mod Tables
+-- what is true of postings and Commits, in other words
+pub mod Laws

@@ -26,10 +26,12 @@ pub struct ApplicationTables {
 }
 
 impl ApplicationTables {
-    ghost use Rattle.std.specs.Prelude.{◌≡◌, IfOk, OnOk, Some, slice_get, length};
+    ghost use Rattle.std.specs.Prelude.{◌≡◌, IfOk, List, OnOk, Some, slice_get, length};
     ghost use Rattle.std.specs.Option.{option_copied, option_map};
     ghost use Rattle.change_pointers.specs.Noted.{noted_by};
     ghost use Rattle.inbound_post.specs.Application.{Application, changed, left_by, no_application, pointers_under, statuses_at};
+    ghost use Rattle.change_pointers.specs.declared.pointer.Pointer.{Pointer};
+    ghost use Rattle.inbound_post.specs.Laws.{TakesUp};
     ghost use Rattle.inbound_post.specs.Tables.{AreTablesOf, bare};
 
     /// The tables of a log that has no record. It takes no memory.
@@ -103,9 +105,15 @@ impl ApplicationTables {
 
     /// A Commit: a gathering, which names its message type, takes the pointers of this up.
     pub fn commit(&mut self, model: &Model, origin: &Option<Items<u8>>)
-        ensures { (application : Application) → AreTablesOf application self.old
+        ensures left { (application : Application) → AreTablesOf application self.old
             → AreTablesOf (record application { pointers = left_by model.now origin.now application.pointers }) self.new }
+        // What the Commit leaves of the pointers, in other words.
+        ensures takes_up { (application : Application) → AreTablesOf application self.old
+            → (pointers : List Pointer) × AreTablesOf (record application { pointers = pointers }) self.new
+            × TakesUp model.now origin.now application.pointers pointers }
     {
+        // The rules of a model say that a name stands for one message type.
+        let _rules = model.as_lists();
         if let Some(name) = origin {
             if let Some(message) = model.message(name.as_slice()) {
                 self.pointers.clear(message);

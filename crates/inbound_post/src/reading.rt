@@ -1,6 +1,6 @@
 //! What a received document is to make of an object.
 
-ghost use Rattle.std.specs.Prelude.{◌≡◌, ◌<◌, ◌==◌, ◌||◌, not, IfOk, IsSome, OnOk, length, map, slice_get, option_and_then, Some};
+ghost use Rattle.std.specs.Prelude.{◌≡◌, ◌<◌, ◌==◌, ◌||◌, not, IfOk, IfSome, IsSome, OnOk, length, map, slice_get, option_and_then, Some};
 ghost use Rattle.segment_defs.specs.Definitions.{AreDefinitions};
 ghost use Rattle.segment_defs.specs.IdocType.{IsIdocType};
 ghost use Rattle.segment_defs.specs.Version.{field_text, text_in};
@@ -10,6 +10,7 @@ ghost use Rattle.idoc_tree.specs.FromRecords.{built};
 ghost use Rattle.idoc_tree.specs.Lines.{IsNode};
 ghost use Rattle.idoc_tree.specs.Nodes.{tree_of};
 ghost use Rattle.change_pointers.specs.Noted.{name_at};
+ghost use Rattle.inbound_post.specs.Laws.{IsSaidBy};
 ghost use Rattle.inbound_post.specs.Reading.{is_no_data, key_text, posted_fields, posting, posting_as, posting_by, posting_made, posting_of, posting_with, root_built};
 
 use ale_base::{FieldValue, Items, OutOfMemory};
@@ -30,7 +31,8 @@ pub fn posting(
     model: &Model,
     doc: &RawUnitDoc,
 ) -> Result<Option<Posting>, OutOfMemory>
-    ensures { IfOk result (λ made. made ≡ posting model.now doc.now) }
+    ensures made { IfOk result (λ made. made ≡ posting model.now doc.now) }
+    ensures said { IfOk result (λ made. IfSome made (IsSaidBy model.now doc.now)) }
 {
     match model.message(doc.text(ControlField::Mestyp)) {
         None => Ok(None),

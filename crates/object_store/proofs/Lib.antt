@@ -2,3 +2,5 @@
 
 -- entries by the texts of their keys
 pub mod EntryLemmas
+-- the order of a listing
+pub mod OrderLemmas

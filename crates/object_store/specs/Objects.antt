@@ -1,10 +1,10 @@
 -- Business objects, as all of them together are seen. They are this project's own.
 use Rattle.std.specs.Prelude.{ℕ, List, [], map, Option}
-use Rattle.std.specs.List.{flat_map}
+use Rattle.std.specs.List.{AllByRecursion, flat_map}
 use Rattle.std.specs.Option.{option_and_then, option_map, unwrap_or}
 use Rattle.ale_base.specs.declared.change.FieldValue.{FieldValue}
 use Rattle.object_store.specs.declared.object.Object.{Object}
-use Rattle.object_store.specs.Texts.{entry_at, with_entry}
+use Rattle.object_store.specs.Texts.{IsAscending, entry_at, with_entry}
 
 -- the fields of an object that are not blank, by their names, each with its bytes
 abbrev pub Fields : Type 0
@@ -50,6 +50,11 @@ listed_field entry = record { field = entry.0; value = entry.1 }
 -- an object as it is listed
 abbrev pub listed_object : List ℕ → List ℕ × Fields → Object
 listed_object kind entry = record { kind = kind; key = entry.0; fields = map listed_field entry.1 }
+
+-- the keys of a kind ascend, and so do the names of the fields of each of its objects
+pub record IsAscendingKind (objects : OfKind) : Type 0 where
+  pub keys : IsAscending objects
+  pub names : AllByRecursion (λ entry. IsAscending entry.1) objects
 
 -- all objects, by kind and key, each with its fields that are not blank, by name
 abbrev pub listed : ObjectsOf → List Object

@@ -2,7 +2,8 @@
 //!
 //! Contract: objects are seen as a map from kind and key to the fields that are not blank; a posting does exactly what its
 //! definition says, or is refused by the first reason that applies and changes nothing (`apply`). The definitions are in
-//! `specs/`: `Objects` (the map, what is asked of it, and the listing), `Posting` (postings, their reasons, and puts).
+//! `specs/`: `Objects` (the map, what is asked of it, and the listing), `Listing` (the order of the listing), `Posting`
+//! (postings, their reasons, and puts).
 #![tactic(auto)]
 
 mod object;

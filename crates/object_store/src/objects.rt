@@ -1,7 +1,8 @@
 //! The objects of a system, and what is asked of them. What postings and puts make of them is in `putting.rt`.
 
 ghost use Rattle.std.specs.Prelude.{◌≡◌, ◌++◌, IfOk, OnOk, map};
-ghost use Rattle.object_store.specs.Objects.{listed_field, listed_object, value_in};
+ghost use Rattle.object_store.specs.Objects.{IsAscendingKind, listed_field, listed_object, value_in};
+ghost use Rattle.object_store.specs.Texts.{IsAscending};
 
 use crate::Object;
 use crate::text_map::TextMap;
@@ -27,6 +28,7 @@ impl Model for Objects {
 impl Objects {
     ghost use Rattle.std.specs.Prelude.{◌≡◌, IfOk, OnOk, OnErr, is_some};
     ghost use Rattle.std.specs.Option.{option_copied};
+    ghost use Rattle.object_store.specs.Listing.{IsInOrder};
     ghost use Rattle.object_store.specs.Objects.{no_objects, listed, object_at, value_of, with_object};
 
     /// No objects. It takes no memory.
@@ -58,7 +60,8 @@ impl Objects {
 
     /// All objects in byte order of their kinds and keys, with their fields that are not blank in byte order of their names.
     pub fn list(&self, alloc: Global) -> Result<Items<Object>, OutOfMemory>
-        ensures { IfOk result (λ objects. objects ≡ listed self.now) }
+        ensures all { IfOk result (λ objects. objects ≡ listed self.now) }
+        ensures in_order { IfOk result (λ objects. IsInOrder objects) }
     {
         let mut list = Items::new(alloc);
         for (kind, objects) in self.kinds.iter() {
@@ -109,7 +112,8 @@ fn push_kind(
     objects: &TextMap<TextMap<Items<u8>>>,
     list: &mut Items<Object>,
 ) -> Result<(), OutOfMemory>
-    ensures { OnOk result (list.new ≡ list.old ++ map (listed_object kind.now) objects.now) }
+    ensures listed { OnOk result (list.new ≡ list.old ++ map (listed_object kind.now) objects.now) }
+    ensures ascending { OnOk result (IsAscendingKind objects.now) }
 {
     for (key, fields) in objects.iter() {
         list.push(Object {
@@ -126,7 +130,8 @@ fn listed_fields(
     alloc: Global,
     fields: &TextMap<Items<u8>>,
 ) -> Result<Items<FieldValue>, OutOfMemory>
-    ensures { IfOk result (λ list. list ≡ map listed_field fields.now) }
+    ensures listed { IfOk result (λ list. list ≡ map listed_field fields.now) }
+    ensures ascending { IsAscending fields.now }
 {
     let mut list = Items::new(alloc);
     for (field, value) in fields.iter() {

@@ -26,7 +26,7 @@ impl<V> Model for TextMap<V> {
 impl<V> TextMap<V> {
     ghost use Rattle.std.specs.Prelude.{◌≡◌, [], map};
     ghost use Rattle.std.specs.Option.{option_copied};
-    ghost use Rattle.object_store.specs.Texts.{entry_at};
+    ghost use Rattle.object_store.specs.Texts.{IsAscending, entry_at};
 
     /// Nothing at any text. It takes no memory.
     pub(crate) fn new(alloc: Global) -> TextMap<V>
@@ -46,7 +46,8 @@ impl<V> TextMap<V> {
 
     /// All texts in byte order, with what is at each.
     pub(crate) fn iter(&self) -> Iter<'_, Vec<u8>, V>
-        ensures { map (λ entry. (entry.0.items, entry.1)) result ≡ self.now }
+        ensures all { map (λ entry. (entry.0.items, entry.1)) result ≡ self.now }
+        ensures ascending { IsAscending self.now }
     {
         self.tree.iter()
     }

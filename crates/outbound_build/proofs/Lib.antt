@@ -36,3 +36,5 @@ pub mod GetsLemmas
 pub mod TablesLemmas
 -- one more record of a log
 pub mod TrackedLemmas
+-- the queues of the units that a record adds
+pub mod QueuedLemmas

@@ -5,6 +5,8 @@ pub mod ControlRecord
 pub mod Sent
 -- the queues that a document is in
 pub mod QueueNames
+-- the queues of a unit, from its documents
+pub mod Queued
 -- what one record adds to the documents and units of a log
 pub mod Added
 -- the documents and units of a whole log

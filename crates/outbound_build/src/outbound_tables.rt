@@ -25,6 +25,7 @@ impl OutboundTables {
     ghost use Rattle.std.specs.Prelude.{◌≡◌, ◌≤◌, ◌<◌, ℕ, Err, IfOk, OnOk, length, slice_get};
     ghost use Rattle.std.specs.Option.{option_copied};
     ghost use Rattle.outbound_build.specs.Added.{added_by, units_with};
+    ghost use Rattle.outbound_build.specs.Queued.{AreQueued};
     ghost use Rattle.outbound_build.specs.Statuses.{Tracked, nothing_tracked, tracked_with};
     ghost use Rattle.outbound_build.specs.Tables.{AreTablesOf};
 
@@ -80,6 +81,7 @@ impl OutboundTables {
     ) -> Result<Added, AddFault>
         ensures added { (tracked : Tracked) → AreTablesOf tracked self.now
             → IfOk result (λ added. added ≡ added_by model.now system tracked.past.outbox next.now) }
+        ensures queued { IfOk result (λ added. AreQueued model.now next.now added.units) }
         ensures few { (tracked : Tracked) → AreTablesOf tracked self.now
             → OnOk result (units_with model.now system tracked.past.outbox next.now ≤ 65536) }
         ensures too_many { (tracked : Tracked) → AreTablesOf tracked self.now → (count : ℕ) → result ≡ Err (AddFault.TooMany count)

@@ -29,6 +29,7 @@ impl Outbox {
     ghost use Rattle.std.specs.Prelude.{◌≡◌, ◌≤◌, ◌<◌, ◌+◌, ℕ, Err, IfOk, OnOk, OnErr, length};
     ghost use Rattle.outbound_build.specs.Added.{added_by, after, batch_of, units_with};
     ghost use Rattle.outbound_build.specs.Committed.{empty_outbox};
+    ghost use Rattle.outbound_build.specs.Queued.{AreQueued};
 
     /// The outbox of a log that has no record.
     pub fn new(alloc: Global) -> Outbox
@@ -54,6 +55,7 @@ impl Outbox {
         next: &Record,
     ) -> Result<Added, AddFault>
         ensures added { IfOk result (λ added. added ≡ added_by model.now system self.now next.now) }
+        ensures queued { IfOk result (λ added. AreQueued model.now next.now added.units) }
         ensures few { OnOk result (units_with model.now system self.now next.now ≤ 65536) }
         ensures too_many { (count : ℕ) → result ≡ Err (AddFault.TooMany count)
             → (count ≡ units_with model.now system self.now next.now) × (65536 < count) }

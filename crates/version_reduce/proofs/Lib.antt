@@ -14,3 +14,8 @@ pub mod ProfileLemmas
 pub mod WholeLemmas
 -- what is sent of a document of a message type is one again
 pub mod DocumentLemmas
+-- what is left of a forest, tree by tree
+pub mod LeftLemmas
+pub mod RemovalLemmas
+pub mod TextLawLemmas
+pub mod ReleaseLemmas

@@ -1,3 +1,5 @@
+-- what may be left of a forest
+pub mod Left
 -- the four maps of a document for one receiver, in the order in which they are applied
 pub mod Removed
 pub mod Reduced

@@ -6,7 +6,7 @@ ghost use Rattle.dist_model.specs.Outbound.{removes};
 ghost use Rattle.idoc_tree.specs.Forest.{AllNodes};
 ghost use Rattle.idoc_tree.specs.Nodes.{forest_of};
 ghost use Rattle.version_reduce.specs.Document.{IsOfMessage};
-ghost use Rattle.version_reduce.specs.Converted.{converted, converted_text, replaces};
+ghost use Rattle.version_reduce.specs.Converted.{IsConvertedFrom, converted, converted_text, replaces};
 
 use crate::head::Head;
 use crate::texts::fields_of;
@@ -27,6 +27,7 @@ pub fn convert_fields(
 ) -> Result<Vec<Node>, OutOfMemory>
     requires profile { Contains model.now.outbound profile.now }
     ensures map { IfOk result (λ sent. forest_of sent.items ≡ converted model.now profile.now (forest_of forest.items)) }
+    ensures each { IfOk result (λ sent. IsConvertedFrom model.now profile.now (forest_of forest.items) (forest_of sent.items)) }
     ensures gone { AllNodes (λ segment. removes profile.now segment.type ≡ false) (forest_of forest.items)
         → IfOk result (λ sent. AllNodes (λ segment. removes profile.now segment.type ≡ false) (forest_of sent.items)) }
     ensures of_message { IsOfMessage model.now profile.now.message (forest_of forest.items)

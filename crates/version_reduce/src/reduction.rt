@@ -6,7 +6,7 @@ ghost use Rattle.dist_model.specs.Outbound.{removes};
 ghost use Rattle.idoc_tree.specs.Forest.{AllNodes};
 ghost use Rattle.idoc_tree.specs.Nodes.{forest_of};
 ghost use Rattle.version_reduce.specs.Document.{IsOfMessage};
-ghost use Rattle.version_reduce.specs.Reduced.{are_of, is_kept, kept_fields, no_data, reduced};
+ghost use Rattle.version_reduce.specs.Reduced.{IsReducedFrom, are_of, is_kept, kept_fields, no_data, reduced};
 
 use crate::head::Head;
 use crate::texts::fields_of;
@@ -27,6 +27,7 @@ pub fn reduce_message(
     forest: Vec<Node>,
 ) -> Result<Vec<Node>, OutOfMemory>
     ensures map { IfOk result (λ sent. forest_of sent.items ≡ reduced model.now profile.now (forest_of forest.items)) }
+    ensures each { IfOk result (λ sent. IsReducedFrom model.now profile.now (forest_of forest.items) (forest_of sent.items)) }
     ensures gone { AllNodes (λ segment. removes profile.now segment.type ≡ false) (forest_of forest.items)
         → IfOk result (λ sent. AllNodes (λ segment. removes profile.now segment.type ≡ false) (forest_of sent.items)) }
     ensures of_message { IsOfMessage model.now profile.now.message (forest_of forest.items)

@@ -8,7 +8,7 @@ ghost use Rattle.idoc_tree.specs.Forest.{AllNodes};
 ghost use Rattle.idoc_tree.specs.Nodes.{forest_of};
 ghost use Rattle.idoc_tree.specs.Spells.{fitted_by};
 ghost use Rattle.version_reduce.specs.Document.{IsOfMessage};
-ghost use Rattle.version_reduce.specs.Released.{given_version, own_release, released, with_version};
+ghost use Rattle.version_reduce.specs.Released.{IsByRelease, IsReleasedFrom, given_version, own_release, released, with_version};
 
 use crate::head::Head;
 use crate::texts::version_of;
@@ -30,6 +30,8 @@ pub fn to_release(
 ) -> Result<Vec<Node>, OutOfMemory>
     requires profile { Contains model.now.outbound profile.now }
     ensures map { IfOk result (λ sent. forest_of sent.items ≡ released model.now profile.now (forest_of forest.items)) }
+    ensures by_release { IfOk result (λ sent. AllNodes (IsByRelease model.now.definitions profile.now.release) (forest_of sent.items)) }
+    ensures each { IfOk result (λ sent. IsReleasedFrom model.now profile.now (forest_of forest.items) (forest_of sent.items)) }
     ensures of_message { AllNodes (λ segment. removes profile.now segment.type ≡ false) (forest_of forest.items)
         → IsOfMessage model.now profile.now.message (forest_of forest.items)
         → IfOk result (λ sent. IsOfMessage model.now profile.now.message (forest_of sent.items)) }

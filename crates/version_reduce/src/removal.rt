@@ -5,7 +5,7 @@ ghost use Rattle.idoc_tree.specs.Forest.{AllNodes};
 ghost use Rattle.idoc_tree.specs.Nodes.{forest_of};
 ghost use Rattle.dist_model.specs.Outbound.{removes};
 ghost use Rattle.version_reduce.specs.Document.{IsOfMessage};
-ghost use Rattle.version_reduce.specs.Removed.{removed};
+ghost use Rattle.version_reduce.specs.Removed.{LosesRemoved, removed};
 
 use crate::head::Head;
 use crate::walk::{Step, walk};
@@ -27,6 +27,7 @@ pub fn remove_segments(
     ensures map { IfOk result (λ left. forest_of left.items ≡ removed profile.now (forest_of forest.items)) }
     ensures gone { IfOk result (λ left.
         AllNodes (λ segment. removes profile.now segment.type ≡ false) (forest_of left.items)) }
+    ensures left { IfOk result (λ left. LosesRemoved profile.now (forest_of forest.items) (forest_of left.items)) }
     ensures of_message { IsOfMessage model.now profile.now.message (forest_of forest.items)
         → IfOk result (λ left. IsOfMessage model.now profile.now.message (forest_of left.items)) }
 {

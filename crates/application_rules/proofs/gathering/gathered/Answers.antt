@@ -14,5 +14,5 @@ loop-key-init c =
     let carry = carried_master model.definitions in
     let made = object_master model c.args.message c.args.objects.now in
     ap (λ docs. docs ++ filter_map (λ (object : ObjectKey). option_map carry (made object)) c.as_slice-keys.result.now) c.new-docs.ensures
-    ∙ ap (filter_map (λ (object : ObjectKey). option_map carry (made object))) (c.as_slice-keys.ensures ∙ c.in_ok-pending.ensures)
+    ∙ ap (filter_map (λ (object : ObjectKey). option_map carry (made object))) (c.as_slice-keys.ensures ∙ c.in_ok-pending.ensures.all)
     ∙ sym (map-filter_map carry made (pending_of c.args.message c.args.pointers.now))

@@ -8,7 +8,10 @@ use Rattle.object_store.proofs.objects.listed_fields.Goals as goal
 pub returns : goal.returns
 returns c =
     let whole : map deref_pair c.loop-field.yielded ≡ c.iter-field-items.result = search (rules, iter_end) in
-    c.loop-field.invariant
-    ∙ ap (map (λ entry. listed_field (entry.0.items, entry.1))) whole
-    ∙ map-by_text (λ key. key.items) listed_field c.iter-field-items.result
-    ∙ ap (map listed_field) c.iter-field-items.ensures
+    record {
+      listed = c.loop-field.invariant
+          ∙ ap (map (λ entry. listed_field (entry.0.items, entry.1))) whole
+          ∙ map-by_text (λ key. key.items) listed_field c.iter-field-items.result
+          ∙ ap (map listed_field) c.iter-field-items.ensures.all;
+      ascending = c.iter-field-items.ensures.ascending;
+    }

@@ -8,11 +8,12 @@ use Rattle.dist_model.specs.Outbound.{IsConvert, removes}
 use Rattle.dist_model.specs.Model.{IsModel}
 use Rattle.idoc_tree.specs.Forest.{AllNodes, map_nodes}
 use Rattle.idoc_tree.specs.Nodes.{forest_of}
-use Rattle.version_reduce.specs.Converted.{converted, converted_segment}
+use Rattle.version_reduce.specs.Converted.{IsConvertedFrom, converted, converted_segment}
 use Rattle.version_reduce.specs.Document.{IsOfMessage}
 use Rattle.version_reduce.proofs.DocumentLemmas.{converted-IsOfMessage, converted-gone}
 use Rattle.version_reduce.proofs.ChangeLemmas.{without-none}
 use Rattle.version_reduce.proofs.ProfileLemmas.{is_outbound}
+use Rattle.version_reduce.proofs.TextLawLemmas.{converted-from}
 use Rattle.version_reduce.proofs.conversion.convert_fields.Goals as goal
 
 -- what the walk needs
@@ -37,6 +38,9 @@ same c = c.in_ok-sent.ensures
 pub returns : goal.returns
 returns c = record {
   map = same c;
+  each = subst (IsConvertedFrom c.args.model.now c.args.profile.now (forest_of c.args.forest.items)) (sym (same c))
+      (converted-from c.args.model.now c.args.profile.now (forest_of c.args.forest.items) c.as_lists-lists.ensures.kept.definitions
+      (is_outbound c.args.model.now c.args.profile.now c.as_lists-lists.ensures.kept c.requires.profile).convert);
   gone = λ gone. subst (AllNodes (λ segment. removes c.args.profile.now segment.type ≡ false)) (sym (same c))
       (converted-gone c.args.model.now c.args.profile.now (forest_of c.args.forest.items) gone);
   of_message = λ is. subst (IsOfMessage c.args.model.now c.args.profile.now.message) (sym (same c))

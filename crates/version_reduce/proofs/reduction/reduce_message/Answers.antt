@@ -3,9 +3,10 @@ use Rattle.dist_model.specs.Outbound.{removes}
 use Rattle.idoc_tree.specs.Forest.{AllNodes, map_nodes}
 use Rattle.idoc_tree.specs.Nodes.{forest_of}
 use Rattle.version_reduce.specs.Document.{IsOfMessage}
-use Rattle.version_reduce.specs.Reduced.{reduced_segment, reduced}
+use Rattle.version_reduce.specs.Reduced.{IsReducedFrom, reduced_segment, reduced}
 use Rattle.version_reduce.proofs.ChangeLemmas.{without-none}
 use Rattle.version_reduce.proofs.DocumentLemmas.{reduced-IsOfMessage, reduced-gone}
+use Rattle.version_reduce.proofs.TextLawLemmas.{reduced-from}
 use Rattle.version_reduce.proofs.reduction.reduce_message.Goals as goal
 
 same : (c : goal.In_ok-sent) → forest_of c.in_ok-sent.sent.items ≡ reduced c.args.model.now c.args.profile.now (forest_of c.args.forest.items)
@@ -17,6 +18,8 @@ same c = c.in_ok-sent.ensures
 pub returns : goal.returns
 returns c = record {
   map = same c;
+  each = subst (IsReducedFrom c.args.model.now c.args.profile.now (forest_of c.args.forest.items)) (sym (same c))
+      (reduced-from c.args.model.now c.args.profile.now (forest_of c.args.forest.items) c.as_lists-lists.ensures.kept.definitions);
   gone = λ gone. subst (AllNodes (λ segment. removes c.args.profile.now segment.type ≡ false)) (sym (same c))
       (reduced-gone c.args.model.now c.args.profile.now (forest_of c.args.forest.items) gone);
   of_message = λ is. subst (IsOfMessage c.args.model.now c.args.profile.now.message) (sym (same c))

@@ -4,9 +4,10 @@ use Rattle.idoc_tree.specs.Forest.{AllNodes}
 use Rattle.idoc_tree.specs.Nodes.{forest_of}
 use Rattle.idoc_tree.proofs.ForestLemmas.{AllNodes-without}
 use Rattle.version_reduce.specs.Document.{IsOfMessage}
-use Rattle.version_reduce.specs.Removed.{removed}
+use Rattle.version_reduce.specs.Removed.{LosesRemoved, removed}
 use Rattle.version_reduce.proofs.ChangeLemmas.{map_nodes-same}
 use Rattle.version_reduce.proofs.DocumentLemmas.{removed-IsOfMessage}
+use Rattle.version_reduce.proofs.RemovalLemmas.{removed-loses}
 use Rattle.version_reduce.proofs.removal.remove_segments.Goals as goal
 
 same : (c : goal.In_ok-left) → forest_of c.in_ok-left.left.items ≡ removed c.args.profile.now (forest_of c.args.forest.items)
@@ -17,6 +18,8 @@ returns c = record {
   map = same c;
   gone = subst (AllNodes (λ segment. removes c.args.profile.now segment.type ≡ false)) (sym (same c))
       (AllNodes-without (λ segment. removes c.args.profile.now segment.type) (forest_of c.args.forest.items));
+  left = subst (LosesRemoved c.args.profile.now (forest_of c.args.forest.items)) (sym (same c))
+      (removed-loses c.args.profile.now (forest_of c.args.forest.items));
   of_message = λ is. subst (IsOfMessage c.args.model.now c.args.profile.now.message) (sym (same c))
       (removed-IsOfMessage c.args.model.now c.args.profile.now (forest_of c.args.forest.items) c.as_lists-rules.ensures.kept c.requires.profile is);
 }

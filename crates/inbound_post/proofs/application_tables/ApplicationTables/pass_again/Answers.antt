@@ -23,7 +23,7 @@ returns-in-None-2 c application are =
     (subst (λ (s : Status). Adds c.args.doc.0 s tables.statuses c.add.new.self) c.plain.ensures adds) in
     subst (λ (n : ℕ). AreTablesOf (passed_again model application n) after) (sym at)
     (unread-tables model application tables place c.in-Some.document.now c.add.new.self are known
-    (sym c.in_ok-posting-in-Some.ensures ∙ c.in-None-2.is)
+    (sym c.in_ok-posting-in-Some.ensures.made ∙ c.in-None-2.is)
     (subst (λ (n : ℕ). AddsAll n (plain 56 ∷ []) tables.statuses c.add.new.self) at its)))
 
 pub returns-in-Some-2 : goal.returns-in-Some-2
@@ -40,5 +40,5 @@ returns-in-Some-2 c application are =
     let after : ApplicationTables = record tables { statuses = c.pass.new.statuses; objects = c.pass.new.objects } in
     subst (λ (n : ℕ). AreTablesOf (passed_again model application n) after) (sym at)
     (passed-tables model application tables place c.in-Some.document.now made c.pass.new.statuses c.pass.new.objects are known
-    (sym c.in_ok-posting-in-Some.ensures ∙ c.in-Some-2.is)
+    (sym c.in_ok-posting-in-Some.ensures.made ∙ c.in-Some-2.is)
     (subst (λ (n : ℕ). AddsAll n more tables.statuses c.pass.new.statuses) at both.1) both.0))
