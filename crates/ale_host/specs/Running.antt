@@ -3,7 +3,6 @@
 use Rattle.std.specs.Prelude.{◌≡◌, ◌⊎◌, ⊤, ℕ, ◌<◌, List, [], ◌∷◌, ◌++◌, Some, Ok, length, map, codes}
 use Rattle.std.specs.Arc.{arc_value}
 use Rattle.ale_base.specs.Tid.{TidOf}
-use Rattle.ale_base.specs.declared.system_no.TheConstants.SystemNo.{MAX}
 use Rattle.ale_io.specs.Told.{Told}
 use Rattle.ale_volumes.specs.declared.volume.Volume.{Volume as OneVolume}
 use Rattle.idoc_file.specs.declared.raw_doc.RawDoc.{RawDoc}
@@ -24,7 +23,7 @@ use Rattle.unit_landscape.specs.Kept.{IsLandscape}
 use Rattle.landscape.specs.declared.open_end.OpenWhy.{OpenWhy}
 use Rattle.landscape.specs.declared.open_end.OpenWhy.TheVariants as open_why
 use Rattle.landscape.specs.declared.counts.Counts.{Counts}
-use Rattle.landscape.specs.Counted.{counts_to}
+use Rattle.landscape.specs.Counted.{held_by}
 use Rattle.landscape.specs.Opened.{EndedByFault, HasOpened, LeavesOpening, NoneFailed, WhyEnded}
 use Rattle.report_text.specs.declared.faults.FaultLine.TheVariants as last
 use Rattle.report_text.specs.FaultLine.{fault_line}
@@ -120,7 +119,7 @@ EndsCounting counts model its status line = EndsWith model its status line
 -- which memory may be wanting.
 abbrev pub EndsReporting : {V : Type 0} → Report → Stage V → Lists → RunEnd → ℕ → List ℕ → Type 0
 EndsReporting report.Commands left model its status line = EndsWith model its status line
-EndsReporting report.Counts left model its status line = EndsCounting (counts_to left.landscape.world MAX) model its status line
+EndsReporting report.Counts left model its status line = EndsCounting (held_by left.landscape.world) model its status line
 
 -- the text of the turns, where it is reported
 abbrev pub reported : {V : Type 0} → Report → List (Turn V) → List ℕ

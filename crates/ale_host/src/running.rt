@@ -200,7 +200,7 @@ fn load_opened<R: Threads + Wait + Sync, G: Gate + Sync, V: Volumes + Send, K: S
         &mut unprinted,
         clock,
     );
-    let counts = stage.landscape.counts();
+    let counts = stage.landscape.held();
     let status = close_load(alloc, &inputs.model, counts, end, out);
     let Stage { landscape, .. } = stage;
     let _ = landscape.world();

@@ -28,19 +28,19 @@ use Rattle.inbound_post.proofs.ApplicationLemmas.{executed-prepared}
 use Rattle.inbound_post.specs.Tables.{AreTablesOf as AreApplied}
 use Rattle.document_state.specs.declared.document_tables.DocumentTables.{DocumentTables}
 use Rattle.document_state.specs.declared.made.Made.{Made}
-use Rattle.document_state.specs.declared.made.Made.TheVariants.{Nothing, Sent, Postings, Executed}
+use Rattle.document_state.specs.declared.made.Made.TheVariants.{Nothing, Brought, Sent, Postings, Executed}
 use Rattle.document_state.specs.OfLog.{sent_by, applied_by, added_behind}
 use Rattle.document_state.specs.Made.{GoesWith, is_noted_alone}
 use Rattle.document_state.specs.Tables.{AreTablesOf}
-use Rattle.document_state.specs.steps.Applying.{AddsAs, MadeUnder, applied_under, postings_under, renumbered_at, said_behind}
-use Rattle.document_state.specs.steps.Between.{IsBetween}
+use Rattle.document_state.specs.steps.Applying.{AddsAs, MadeUnder, applied_under, is_plain, postings_under, renumbered_at, said_behind}
+use Rattle.document_state.specs.steps.Between.{GoesUnder, IsBetween}
 use Rattle.document_state.specs.SentLemmas.{sent-push}
 use Rattle.document_state.proofs.PushLemmas.{added-nothing, applied-push}
 
 -- ---- what was made
 
--- what goes with a record goes with it as far as the application is concerned
-goes-under : (records : List Record) (next : Record) (made : Made) → GoesWith records next made
+-- what goes with a record under the model before it goes with it as far as the application is concerned
+goes-under : (records : List Record) (next : Record) (made : Made) → GoesUnder records next made
     → MadeUnder (model_of records) (applied_by records).system (applied_by records).application next made
 goes-under records (log.Commit origin docs) (Sent added) goes = refl
 goes-under records log.Dispatch (Sent added) goes = refl
@@ -49,10 +49,24 @@ goes-under records (log.Execute tid) (Executed unit postings) goes = goes
 goes-under records next Nothing goes = goes
 goes-under records next made goes = absurd goes
 
-alone-plain : (next : Record) → IsTrue (is_noted_alone next) → adds_any next ≡ false
+plain-adds : (next : Record) → IsTrue (is_plain next) → adds_any next ≡ false
+plain-adds (log.Commit origin docs) plain = absurd (cc)
+plain-adds log.Dispatch plain = absurd (cc)
+plain-adds _ plain = refl
+
+alone-plain : (next : Record) → IsTrue (is_noted_alone next) → IsTrue (is_plain next)
+alone-plain (log.Genesis system text) alone = absurd (cc)
 alone-plain (log.Commit origin docs) alone = absurd (cc)
 alone-plain log.Dispatch alone = absurd (cc)
+alone-plain (log.Direct unit) alone = absurd (cc)
+alone-plain (log.Execute tid) alone = absurd (cc)
+alone-plain (log.Model text) alone = absurd (cc)
 alone-plain _ alone = refl
+
+alone-silent : (next : Record) → IsTrue (is_noted_alone next) → text_of next ≡ None
+alone-silent (log.Genesis system text) alone = absurd (cc)
+alone-silent (log.Model text) alone = absurd (cc)
+alone-silent _ alone = refl
 
 -- what was made says what the record adds
 pub goes-adds : (records : List Record) (next : Record) (made : Made) (added : Added) → GoesWith records next made → AddsAs made added →
@@ -61,12 +75,23 @@ goes-adds records (log.Commit origin docs) (Sent made) added goes adds = adds �
 goes-adds records log.Dispatch (Sent made) added goes adds = adds ∙ goes
 goes-adds records (log.Direct unit) (Postings postings) added goes adds = adds ∙ sym (added-nothing records (log.Direct unit) refl)
 goes-adds records (log.Execute tid) (Executed unit postings) added goes adds = adds ∙ sym (added-nothing records (log.Execute tid) refl)
-goes-adds records next Nothing added goes adds = adds ∙ sym (added-nothing records next (alone-plain next goes))
+goes-adds records (log.Genesis system text) (Brought model) added goes adds = adds ∙ sym (added-nothing records (log.Genesis system text) refl)
+goes-adds records (log.Model text) (Brought model) added goes adds = adds ∙ sym (added-nothing records (log.Model text) refl)
+goes-adds records next Nothing added goes adds = adds ∙ sym (added-nothing records next (plain-adds next (alone-plain next goes)))
 goes-adds records next made added goes adds = absurd goes
+
+-- so does what goes with it under the model before it
+under-adds : (records : List Record) (next : Record) (made : Made) (added : Added) → GoesUnder records next made → AddsAs made added →
+    added ≡ added_behind records next
+under-adds records next Nothing added goes adds = adds ∙ sym (added-nothing records next (plain-adds next goes))
+under-adds records next (Brought model) added goes adds = absurd goes
+under-adds records next (Sent made) added goes adds = goes-adds records next (Sent made) added goes adds
+under-adds records next (Postings postings) added goes adds = goes-adds records next (Postings postings) added goes adds
+under-adds records next (Executed unit postings) added goes adds = goes-adds records next (Executed unit postings) added goes adds
 
 -- a record is noted under the model before it
 pub between-noted : (records : List Record) (next : Record) (made : Made) (before after : DocumentTables) (added : Added)
-    → AreTablesOf records before → GoesWith records next made → after.has_begun ≡ before.has_begun → after.model ≡ before.model
+    → AreTablesOf records before → GoesUnder records next made → after.has_begun ≡ before.has_begun → after.model ≡ before.model
     → AddsAs made added
     → ((application : Application) (system : ℕ) → AreApplied application before.inbound
     → MadeUnder (option_map arc_value before.model) system application next made
@@ -79,7 +104,7 @@ between-noted records next made before after added are goes begun model adds app
       begun = subst (λ b. IsTrue b ↔ (1 ≤ models_in records)) (sym begun) are.begun;
       model = ap (option_map arc_value) model ∙ are.model;
       sent = subst (λ (t : Tracked). AreSent t after.outbound)
-          (ap (tracked_with behind next) (goes-adds records next made added goes adds) ∙ sym (sent-push records next))
+          (ap (tracked_with behind next) (under-adds records next made added goes adds) ∙ sym (sent-push records next))
           take;
       applied = subst (λ (found : Option Lists). AreApplied (applied_under found past.system past.application next) after.inbound) are.model
           (apply past.application past.system are.applied
@@ -87,6 +112,24 @@ between-noted records next made before after added are goes begun model adds app
     }
 
 -- ---- the text of a record
+
+-- a model goes with a record that has a text; it neither takes documents nor adds any
+pub brought-text : (records : List Record) (next : Record) (model : _) → GoesWith records next (Brought model)
+    → IsTrue (is_plain next) × ((text : List ℕ) × (text_of next ≡ Some text) × (option_map arc_value model ≡ said text))
+brought-text records (log.Genesis system text) model goes = (refl, (text, refl, goes))
+brought-text records (log.Model text) model goes = (refl, (text, refl, goes))
+brought-text records _ model goes = absurd goes
+
+-- what else goes with a record goes with it under the model before it, and the record has no text
+pub goes-silent : (records : List Record) (next : Record) (made : Made) → ((model : _) → made ≡ Brought model → ⊥)
+    → GoesWith records next made → GoesUnder records next made × (text_of next ≡ None)
+goes-silent records (log.Commit origin docs) (Sent added) other goes = (goes, refl)
+goes-silent records log.Dispatch (Sent added) other goes = (goes, refl)
+goes-silent records (log.Direct unit) (Postings postings) other goes = (goes, refl)
+goes-silent records (log.Execute tid) (Executed unit postings) other goes = (goes, refl)
+goes-silent records next Nothing other goes = (alone-plain next goes, alone-silent next goes)
+goes-silent records next (Brought model) other goes = absurd (other model refl)
+goes-silent records next made other goes = absurd goes
 
 -- a record without a text brings no model into force
 silent-stays : (before after : Option Lists) (next : Record) (application : Application) → text_of next ≡ None →
@@ -212,10 +255,3 @@ tables-nothing tables begun none sent applied = record {
   sent = subst (λ (t : Tracked). AreSent t tables.outbound) (sym sent-nothing) sent;
   applied = subst (λ (a : Application). AreApplied a tables.inbound) (sym applied-nothing) applied;
 }
-
--- a record that is no Genesis and no Model has no text
-pub silent-of : (next : Record) → ((system : ℕ) (text : List ℕ) → next ≡ log.Genesis system text → ⊥) → ((text : List ℕ) → next ≡ log.Model text → ⊥)
-    → text_of next ≡ None
-silent-of (log.Genesis system text) genesis model = absurd (genesis system text refl)
-silent-of (log.Model text) genesis model = absurd (model text refl)
-silent-of _ genesis model = refl

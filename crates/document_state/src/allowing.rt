@@ -24,7 +24,7 @@ use unit_core::Record;
 pub fn is_allowed(
     alloc: Global,
     tables: &DocumentTables,
-    readings: &Readings,
+    readings: &mut Readings,
     systems: u8,
     system: SystemNo,
     next: &Record,
@@ -47,7 +47,7 @@ pub fn is_allowed(
 fn is_allowed_under(
     alloc: Global,
     tables: &DocumentTables,
-    readings: &Readings,
+    readings: &mut Readings,
     model: &Model,
     system: SystemNo,
     next: &Record,
@@ -151,7 +151,7 @@ fn waits_any(tables: &DocumentTables) -> bool
 /// Whether a text says a model that keeps what this one says.
 fn may_replace(
     alloc: Global,
-    readings: &Readings,
+    readings: &mut Readings,
     model: &Model,
     text: &[u8],
 ) -> Result<bool, OutOfMemory>

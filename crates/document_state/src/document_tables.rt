@@ -10,7 +10,6 @@ use ale_base::{Fixed, Items, OutOfMemory, SystemNo};
 use dist_model::{Lists, Model};
 use inbound_post::{ApplicationTables, DocPosting, Prepared, prepare};
 use outbound_build::{AddFault, Added, OutboundTables};
-use said_models::Readings;
 use std::alloc::Global;
 use std::sync::Arc;
 use unit_core::{AleUnit, Record};
@@ -21,8 +20,6 @@ use unit_core::{AleUnit, Record};
 /// After an `Err` of `note` nothing is said of the tables: they are to be made again from the log.
 #[derive(Drop)]
 pub struct DocumentTables {
-    /// Texts that were read.
-    pub(crate) readings: Arc<Readings>,
     /// Whether the log has a text.
     pub(crate) has_begun: bool,
     /// The model in force. None where a text of the log says none.
@@ -43,12 +40,11 @@ impl DocumentTables {
     ghost use Rattle.document_state.specs.OfLog.{sent_by, applied_by, added_behind, postings_behind};
     ghost use Rattle.document_state.specs.Tables.{AreTablesOf};
 
-    /// The tables of a log that has no record, which need not read the texts that were read. It takes no memory.
-    pub fn new(alloc: Global, readings: Arc<Readings>) -> DocumentTables
+    /// The tables of a log that has no record. It takes no memory.
+    pub fn new(alloc: Global) -> DocumentTables
         ensures { AreTablesOf [] result }
     {
         DocumentTables {
-            readings,
             has_begun: false,
             model: None,
             outbound: OutboundTables::new(alloc),

@@ -14,6 +14,7 @@ use crate::replay::{made_for, push_made};
 use crate::{DocumentTables, Made, ModelRules};
 use ale_base::{Fixed, Items, OutOfMemory, SystemNo};
 use log_tables::{Brought, LogRules, LogTables, read};
+use said_models::Readings;
 use std::alloc::Global;
 use std::sync::Arc;
 use unit_core::{AleUnit, Record};
@@ -21,15 +22,18 @@ use unit_core::{AleUnit, Record};
 impl LogRules for ModelRules {
     type Tables = DocumentTables;
 
+    type Known = Readings;
+
     fn allows_at(
         &self,
         alloc: Global,
+        known: &mut Readings,
         system: SystemNo,
         tables: &DocumentTables,
         _log: &[Record],
         next: &Record,
     ) -> Result<bool, OutOfMemory> {
-        is_allowed(alloc, tables, &self.readings, self.systems, system, next)
+        is_allowed(alloc, tables, known, self.systems, system, next)
     }
 
     fn offers_at(
@@ -45,13 +49,14 @@ impl LogRules for ModelRules {
     fn brings(
         &self,
         alloc: Global,
+        known: &mut Readings,
         system: SystemNo,
         tables: &DocumentTables,
         log: &[Record],
         next: &Record,
         executed: Option<&AleUnit>,
     ) -> Result<Brought<DocumentTables>, OutOfMemory> {
-        let made = made_at(alloc, tables, system, log, next, executed)?;
+        let made = made_at(alloc, known, tables, system, log, next, executed)?;
         let units = units_of(alloc, &made)?;
         Ok(Brought { units, extra: made })
     }
@@ -60,6 +65,7 @@ impl LogRules for ModelRules {
 /// What goes with a record that may follow a legal log. An Execute comes with its unit, so that the log is not walked.
 fn made_at(
     alloc: Global,
+    known: &mut Readings,
     tables: &DocumentTables,
     system: SystemNo,
     log: &[Record],
@@ -73,7 +79,7 @@ fn made_at(
 {
     match executed {
         Some(unit) => made_of(alloc, tables, system, log, next, unit),
-        None => made_for(alloc, tables, system, log, next),
+        None => made_for(alloc, known, tables, system, log, next),
     }
 }
 
@@ -112,12 +118,13 @@ fn units_of(alloc: Global, made: &Made) -> Result<Items<AleUnit>, OutOfMemory>
 pub fn read_log(
     alloc: Global,
     rules: &ModelRules,
+    readings: &mut Readings,
     system: SystemNo,
     log: &[Record],
 ) -> Result<(LogTables<DocumentTables>, usize), OutOfMemory>
     requires proper { All IsProper log.now }
     ensures { IfOk result (λ read. IsReadTo (model_meaning rules.now.systems) (λ tables records. AreTablesOf records tables) system log.now read.1 read.0) }
 {
-    let application = DocumentTables::new(alloc, Arc::try_clone(&rules.readings)?);
-    read(alloc, rules, system, application, log)
+    let application = DocumentTables::new(alloc);
+    read(alloc, rules, readings, system, application, log)
 }

@@ -1,6 +1,7 @@
 //! What is made for a record before it is written.
 
 use ale_base::Items;
+use dist_model::Model;
 use inbound_post::DocPosting;
 use outbound_build::Added;
 use std::sync::Arc;
@@ -11,6 +12,8 @@ use unit_core::AleUnit;
 pub enum Made {
     /// Nothing goes with the record.
     Nothing,
+    /// The model that the text of a Genesis or a Model says; none where it says none.
+    Brought(Option<Arc<Model>>),
     /// The documents and units that a Commit or a Dispatch adds.
     Sent(Added),
     /// What becomes of the documents of a unit that is received and executed at once.

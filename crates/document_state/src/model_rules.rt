@@ -6,7 +6,6 @@ use crate::allowing::is_allowed;
 use ale_base::{Fixed, OutOfMemory, SystemNo};
 use said_models::Readings;
 use std::alloc::Global;
-use std::sync::Arc;
 use trfc_protocol::Rules;
 use unit_core::{AleUnit, Record};
 
@@ -14,8 +13,6 @@ use unit_core::{AleUnit, Record};
 /// for each answer: a running landscape has tables, and asks these rules for nothing of a log that grows.
 #[derive(Drop)]
 pub struct ModelRules {
-    /// Texts that were read.
-    pub readings: Arc<Readings>,
     /// How many systems there are.
     pub systems: u8,
     pub ghost least: { 1 ≤ systems },
@@ -25,13 +22,13 @@ pub struct ModelRules {
 impl ModelRules {
     ghost use Rattle.std.specs.Prelude.{◌≡◌, ◌≤◌};
 
-    /// The rules of a landscape of so many systems, 1 to 16, which need not read the texts that were read.
-    pub fn new(readings: Arc<Readings>, systems: u8) -> ModelRules
+    /// The rules of a landscape of so many systems, 1 to 16.
+    pub fn new(systems: u8) -> ModelRules
         requires least { 1 ≤ systems }
         requires most { systems ≤ 16 }
         ensures { result.systems ≡ systems }
     {
-        ModelRules { readings, systems }
+        ModelRules { systems }
     }
 }
 
@@ -72,7 +69,7 @@ impl Rules for ModelRules {
         is_allowed(
             alloc,
             &replay.tables,
-            &self.readings,
+            &mut Readings::new(alloc),
             self.systems,
             system,
             next,

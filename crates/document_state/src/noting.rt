@@ -1,6 +1,6 @@
 //! What a record of the log does to the tables.
 
-ghost use Rattle.std.specs.Prelude.{◌≡◌, ℕ, Some, IsTrue, OnOk, IfOk};
+ghost use Rattle.std.specs.Prelude.{◌≡◌, ℕ, List, Some, IsTrue, OnOk, IfOk};
 ghost use Rattle.std.specs.Arc.{arc_value};
 ghost use Rattle.std.specs.Option.{option_map};
 ghost use Rattle.ale_base.specs.Tid.{TidOf};
@@ -12,8 +12,8 @@ ghost use Rattle.outbound_build.specs.Added.{adds_any};
 ghost use Rattle.outbound_build.specs.Committed.{no_more};
 ghost use Rattle.inbound_post.specs.Application.{Application as ApplicationOf};
 ghost use Rattle.inbound_post.specs.Tables.{AreTablesOf as AreApplied};
-ghost use Rattle.document_state.specs.Made.{is_noted_alone};
-ghost use Rattle.document_state.specs.steps.Applying.{AddsAs, MadeUnder, applied_under, postings_under, renumbered_at};
+ghost use Rattle.said_models.specs.Said.{said};
+ghost use Rattle.document_state.specs.steps.Applying.{AddsAs, MadeUnder, applied_under, is_plain, postings_under, renumbered_at, said_behind};
 
 use crate::{DocumentTables, Made};
 use ale_base::{Items, OutOfMemory};
@@ -40,54 +40,63 @@ impl Application for DocumentTables {
     }
 
     fn note(&mut self, alloc: Global, next: &Record, made: Made) -> Result<(), OutOfMemory> {
-        self.note_under(alloc, next, made)?;
-        match next {
-            Record::Genesis { text, .. } => self.bring(alloc, next, text.as_slice()),
-            Record::Model { text } => self.bring(alloc, next, text.as_slice()),
-            _ => Ok(()),
+        match made {
+            Made::Brought(model) => {
+                self.note_under(alloc, next, Made::Nothing)?;
+                self.bring(alloc, next, model)
+            }
+            made => self.note_under(alloc, next, made),
         }
     }
 }
 
 impl DocumentTables {
-    ghost use Rattle.std.specs.Prelude.{◌≡◌, ◌++◌, ◌∷◌, [], List, Some, IfOk, OnOk};
+    ghost use Rattle.std.specs.Prelude.{◌++◌, ◌∷◌, [], List, OnOk};
     ghost use Rattle.unit_core.specs.declared.records.Record.{Record};
-    ghost use Rattle.said_models.specs.OfLog.{text_of};
+    ghost use Rattle.document_state.specs.declared.made.Made.TheVariants.{Brought};
     ghost use Rattle.document_state.specs.Made.{GoesWith};
     ghost use Rattle.document_state.specs.Tables.{AreTablesOf};
-    ghost use Rattle.document_state.specs.steps.Applying.{said_behind};
-    ghost use Rattle.document_state.specs.steps.Between.{IsBetween};
+    ghost use Rattle.document_state.specs.steps.Between.{GoesUnder, IsBetween};
 
     /// Notes a record under the model in force before it.
     fn note_under(&mut self, alloc: Global, next: &Record, made: Made) -> Result<(), OutOfMemory>
-        ensures { (log : List Record) → AreTablesOf log self.old → GoesWith log next.now made → OnOk result (IsBetween log next.now self.new) }
+        ensures { (log : List Record) → AreTablesOf log self.old → GoesUnder log next.now made → OnOk result (IsBetween log next.now self.new) }
     {
         let added = apply(alloc, &mut self.inbound, &self.model, next, made)?;
         self.outbound.take(alloc, next, added)
     }
 
-    /// The text of a record comes into force, which was noted under the model before it.
-    fn bring(&mut self, alloc: Global, next: &Record, text: &[u8]) -> Result<(), OutOfMemory>
-        requires { text_of next.now ≡ Some text.now }
-        ensures { (log : List Record) → IsBetween log next.now self.old → OnOk result (AreTablesOf (log ++ next.now ∷ []) self.new) }
+    /// The model that the text of a record says comes into force; the record was noted under the model before it.
+    fn bring(
+        &mut self,
+        alloc: Global,
+        next: &Record,
+        model: Option<Arc<Model>>,
+    ) -> Result<(), OutOfMemory>
+        ensures { (log : List Record) → GoesWith log next.now (Brought model) → IsBetween log next.now self.old
+            → OnOk result (AreTablesOf (log ++ next.now ∷ []) self.new) }
     {
-        let model = self.model_said(alloc, text)?;
+        let model = behind(self.has_begun, &self.model, model);
         renumber(alloc, &mut self.inbound, &self.model, &model, next)?;
         self.model = model;
         self.has_begun = true;
         Ok(())
     }
+}
 
-    /// The model in force behind a record with this text: what the text says, if each text before it says one.
-    fn model_said(&self, alloc: Global, text: &[u8]) -> Result<Option<Arc<Model>>, OutOfMemory>
-        ensures { IfOk result (λ model. option_map arc_value model
-            ≡ said_behind (self.now).has_begun (option_map arc_value (self.now).model) text.now) }
-    {
-        if self.has_begun && self.model.is_none() {
-            return Ok(None);
-        }
-        self.readings.model(alloc, text)
+/// The model in force behind a text: what the text says, if each text before it says one.
+fn behind(
+    has_begun: bool,
+    before: &Option<Arc<Model>>,
+    model: Option<Arc<Model>>,
+) -> Option<Arc<Model>>
+    ensures { (text : List ℕ) → option_map arc_value model ≡ said text
+        → option_map arc_value result ≡ said_behind has_begun (option_map arc_value before.now) text }
+{
+    if has_begun && before.is_none() {
+        return None;
     }
+    model
 }
 
 /// What a record does to the inbound documents, objects and pointers, under the model in force and with what was made for it; and what
@@ -117,7 +126,7 @@ fn apply(
             execute(alloc, inbound, model, &unit, postings.as_slice())?;
             Ok(none_added(alloc))
         }
-        Made::Nothing => {
+        Made::Nothing | Made::Brought(_) => {
             change(alloc, inbound, model, next)?;
             Ok(none_added(alloc))
         }
@@ -190,7 +199,7 @@ fn change(
     model: &Option<Arc<Model>>,
     next: &Record,
 ) -> Result<(), OutOfMemory>
-    ensures { (application : ApplicationOf) (system : ℕ) → AreApplied application inbound.old → IsTrue (is_noted_alone next.now)
+    ensures { (application : ApplicationOf) (system : ℕ) → AreApplied application inbound.old → IsTrue (is_plain next.now)
         → OnOk result (AreApplied (applied_under (option_map arc_value model.now) system application next.now) inbound.new) }
 {
     let Some(model) = model else {

@@ -12,6 +12,7 @@ ghost use Rattle.document_state.specs.steps.Replaying.{IsNext, IsReplayOf, units
 use crate::{DocumentTables, Made, ModelRules};
 use ale_base::{Items, OutOfMemory, SystemNo, Tid};
 use outbound_build::{AddFault, OutUnit};
+use said_models::Readings;
 use std::alloc::Global;
 use std::sync::Arc;
 use system_tables::Application;
@@ -40,12 +41,20 @@ impl ModelRules {
         requires { IsLegal (model_meaning (self.now).systems) system log.now }
         ensures { IfOk result (IsReplayOf log.now) }
     {
+        let mut readings = Readings::new(alloc);
         let mut replay = Replay {
-            tables: DocumentTables::new(alloc, Arc::try_clone(&self.readings)?),
+            tables: DocumentTables::new(alloc),
             units: Items::new(alloc),
         };
         for (place, next) in log.iter().enumerate() {
-            take_up(alloc, &mut replay, system, &log[..place], next)?;
+            take_up(
+                alloc,
+                &mut readings,
+                &mut replay,
+                system,
+                &log[..place],
+                next,
+            )?;
         }
         Ok(replay)
     }
@@ -54,6 +63,7 @@ impl ModelRules {
 /// Takes up a record that may follow a legal log.
 fn take_up(
     alloc: Global,
+    readings: &mut Readings,
     replay: &mut Replay,
     system: SystemNo,
     log: &[Record],
@@ -63,7 +73,7 @@ fn take_up(
     requires replayed { IsReplayOf log.now replay.old }
     ensures { OnOk result (IsReplayOf (log.now ++ next.now ∷ []) replay.new) }
 {
-    let made = made_for(alloc, &replay.tables, system, log, next)?;
+    let made = made_for(alloc, readings, &replay.tables, system, log, next)?;
     push_made(&mut replay.units, &made)?;
     replay.tables.note(alloc, next, made)
 }
@@ -71,6 +81,7 @@ fn take_up(
 /// What goes with a record that may follow a legal log.
 pub(crate) fn made_for(
     alloc: Global,
+    readings: &mut Readings,
     tables: &DocumentTables,
     system: SystemNo,
     log: &[Record],
@@ -87,6 +98,9 @@ pub(crate) fn made_for(
             // A legal log has no more units than there may be.
             Err(AddFault::TooMany(_)) => unreachable!(),
         },
+        Record::Genesis { text, .. } | Record::Model { text } => {
+            Ok(Made::Brought(readings.model(alloc, text.as_slice())?))
+        }
         Record::Direct { unit } => Ok(Made::Postings(tables.postings(alloc, system, unit)?)),
         Record::Execute { tid } => executed(alloc, tables, system, log, *tid),
         _ => Ok(Made::Nothing),

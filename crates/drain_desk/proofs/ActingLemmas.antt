@@ -42,7 +42,9 @@ use Rattle.unit_works.proofs.WorkedLemmas.{execution-works, is_lawful, meaning, 
 use Rattle.drain_desk.specs.declared.work.Task.TheVariants.{Execute, Ship}
 use Rattle.drain_desk.specs.Done.{HasDone}
 use Rattle.drain_desk.specs.Work.{MayGo}
+use Rattle.drain_desk.specs.ToDo.{OthersStay}
 use Rattle.drain_desk.specs.steps.Acting.{ActedAs, HasActed}
+use Rattle.drain_desk.proofs.ToDoLemmas.{others-left, others-same}
 
 -- a unit none of whose queues is stopped may move
 moves-of : (is_stopped : AleUnit → Bool) (found : Option AleUnit) (unit : AleUnit) → found ≡ Some unit → is_stopped unit ≡ false
@@ -198,6 +200,21 @@ module _ {V : Type 0} (faults : V → ℕ → ℕ) (before after : KeptOf ModelR
           ships = refl;
           once = λ none tid. inl refl;
         }
+  ]
+
+  -- ---- what else was to be done
+
+  pub others-shipped : (claim : OutClaim) (n : ℕ) → ClaimShippedAs faults before after lines lines_after claim (Ok (Some n))
+      → OthersStay before.world after.world (Ship claim)
+  others-shipped claim n did = others-left before.world after.world (Ship claim) did.5
+
+  pub others-executed : (claim : InClaim) (result : Result ℕ OutOfMemory) → ClaimExecutedAs faults before after claim result
+      → OnOk result (OthersStay before.world after.world (Execute claim))
+  others-executed claim (Err short) did = tt
+  others-executed claim (Ok n) did = elim (cases_Bool (stands_in before.world claim)) [
+    | inl stands ↦ others-left before.world after.world (Execute claim) (did.5 stands)
+    | inr stale ↦
+        others-same before.world after.world (Execute claim) (ap (λ (k : KeptOf ModelRules DocumentTables V). k.world) (did.0 stale))
   ]
 
   -- ---- the work of a task was done

@@ -9,7 +9,7 @@ use Rattle.ale_base.specs.Tid.{TidOf}
 use Rattle.unit_core.specs.declared.ale_unit.AleUnit.{AleUnit}
 use Rattle.unit_core.specs.Filters.{received}
 use Rattle.unit_core.specs.Queues.{unit_named}
-use Rattle.unit_core.proofs.TidLemmas.{unit_named-Some}
+use Rattle.unit_core.proofs.TidLemmas.{is_tid-same, unit_named-Some}
 use Rattle.dist_model.specs.declared.lists.Lists.{Lists}
 use Rattle.inbound_post.specs.Prepared.{prepared}
 use Rattle.said_models.specs.OfLog.{model_of}
@@ -21,9 +21,10 @@ use Rattle.trfc_protocol.specs.declared.held.HeldKind.TheVariants.{Direct}
 use Rattle.trfc_protocol.specs.declared.world.World.{World}
 use Rattle.trfc_protocol.specs.Legal.{is_free_inbound, is_free_outbound}
 use Rattle.trfc_protocol.specs.Offered.{is_stopped_inbound, is_stopped_outbound, may_move}
-use Rattle.trfc_protocol.specs.Worlds.{committed_by, committed_unit, is_kind, is_up, log_of}
+use Rattle.trfc_protocol.specs.Worlds.{claim_of, committed_by, committed_unit, is_kind, is_up, log_of}
 use Rattle.trfc_protocol.proofs.SafeLemmas.{received-is}
 use Rattle.unit_landscape.specs.KeptWorlds.{KeptOf}
+use Rattle.unit_landscape.specs.Calls.{is_on, is_out}
 use Rattle.unit_landscape.specs.Kept.{IsLandscape}
 use Rattle.unit_landscape.specs.declared.claims.InClaim.{InClaim}
 use Rattle.unit_landscape.specs.declared.claims.OutClaim.{OutClaim}
@@ -32,14 +33,16 @@ use Rattle.landscape.specs.Standing.{StandAt}
 use Rattle.landscape.specs.Working.{IsPreparedFor}
 use Rattle.unit_works.specs.Events.{is_claim, is_run, is_work}
 use Rattle.unit_works.specs.Worked.{HaveOnlyClaimed, Worked}
-use Rattle.unit_works.specs.Claiming.{IsExecuted, IsShipped}
+use Rattle.unit_works.specs.Claiming.{IsExecuted, IsShipped, in_held, out_held}
 use Rattle.unit_works.proofs.WentLemmas.{went-whole}
 use Rattle.unit_works.proofs.WorkedLemmas.{claim-works, execution-works, is_lawful, meaning, run-executes, still, wider}
 use Rattle.drain_desk.specs.declared.work.Task.TheVariants.{Execute, Ship}
 use Rattle.unit_works.specs.Claims.{NoneRuns}
 use Rattle.drain_desk.specs.Work.{MayGo}
+use Rattle.drain_desk.specs.ToDo.{IsToDo}
 use Rattle.drain_desk.specs.steps.Claiming.{Claims}
 use Rattle.drain_desk.proofs.LastingLemmas.{MayGo-claimed}
+use Rattle.drain_desk.proofs.ToDoLemmas.{found-last, stay-claimed}
 
 -- what is prepared from a unit and the model of its receiver
 pub base-of : (world : World ModelRules) (tid : TidOf) (unit : AleUnit) (tables : DocumentTables) (model : Lists)
@@ -83,6 +86,7 @@ module _ {V : Type 0} (faults : V → ℕ → ℕ) (before after : KeptOf ModelR
     went = still faults is_work whole before after same;
     only = subst (HaveOnlyClaimed before) (sym same) (record { world = refl; journals = refl; vols = refl; causes = refl });
     runs = λ none. ap (λ (k : KeptOf ModelRules DocumentTables V). list_all (λ (h : Held). not (is_kind h.kind Direct)) k.world.claims) same ∙ none;
+    stay = λ other stands. subst (λ (k : KeptOf ModelRules DocumentTables V). IsToDo k.world other) (sym same) stands;
   }
 
   -- a unit was claimed to be shipped
@@ -92,6 +96,7 @@ module _ {V : Type 0} (faults : V → ℕ → ℕ) (before after : KeptOf ModelR
     went = wider faults is_claim is_work whole before after claim-works went;
     only = only;
     runs = λ none. subst NoneRuns (sym is.claims) (runs-more before.world.claims _ refl none);
+    stay = stay-claimed before.world after.world (out_held claim ∷ []) is.claims;
   }
 
   -- and to be executed
@@ -101,7 +106,15 @@ module _ {V : Type 0} (faults : V → ℕ → ℕ) (before after : KeptOf ModelR
     went = wider faults is_run is_work whole before after (λ e it. execution-works e (run-executes e it)) went;
     only = only;
     runs = λ none. subst NoneRuns (sym is.claims) (runs-more before.world.claims _ refl none);
+    stay = stay-claimed before.world after.world (in_held claim ∷ []) is.claims;
   }
+
+  -- what was claimed to be executed is to be done
+  pub to_do-in : (system : ℕ) (claim : InClaim) → IsExecuted (meaning before.world.rules) before.world after.world system claim
+      → IsToDo after.world (Execute claim)
+  to_do-in system claim is =
+      let found = ap (claim_of claim.number) is.claims ∙ found-last claim.number before.world.claims (in_held claim) refl is.fresh in
+      ap (λ f. is_on claim.tid f && not (is_out f)) found ∙ ap (λ b. b && true) (is_tid-same claim.tid)
 
   -- a unit that was claimed to be shipped may go
   pub may-out : (system : ℕ) (claim : OutClaim) → HaveOnlyClaimed before after

@@ -2,6 +2,8 @@
 
 -- what claims and works leave of what is known of a work
 pub mod LastingLemmas
+-- which works are still to be done, whatever is claimed or done
+pub mod ToDoLemmas
 -- units are claimed
 pub mod ClaimingLemmas
 -- works are done

@@ -5,6 +5,7 @@ ghost use Rattle.landscape.specs.Working.{IsPreparedFor};
 ghost use Rattle.unit_works.specs.Claims.{NoneRuns};
 ghost use Rattle.drain_desk.specs.declared.work.Task.TheVariants.{Execute, Ship};
 ghost use Rattle.drain_desk.specs.Done.{HasDone};
+ghost use Rattle.drain_desk.specs.ToDo.{OthersStay};
 ghost use Rattle.drain_desk.specs.Work.{MayGo, tid_of};
 ghost use Rattle.drain_desk.specs.steps.Acting.{ActedAs};
 
@@ -30,6 +31,7 @@ pub(crate) fn perform<V: Volumes>(
     requires prepared { IfSome prepared (λ its. IsPreparedFor landscape.old.world (tid_of task) its.postings) }
     ensures acted { ActedAs V.faults landscape.old landscape.new wires.old wires.new result }
     ensures done { OnOk result (HasDone V.faults landscape.old landscape.new wires.old wires.new task) }
+    ensures others { OnOk result (OthersStay landscape.old.world landscape.new.world task) }
 {
     match task {
         Task::Ship(claim) => ship(alloc, landscape, wires, claim, prepared),
@@ -49,6 +51,7 @@ fn ship<V: Volumes>(
     requires prepared { IfSome prepared (λ its. IsPreparedFor landscape.old.world claim.tid its.postings) }
     ensures acted { ActedAs V.faults landscape.old landscape.new wires.old wires.new result }
     ensures done { OnOk result (HasDone V.faults landscape.old landscape.new wires.old wires.new (Ship claim)) }
+    ensures others { OnOk result (OthersStay landscape.old.world landscape.new.world (Ship claim)) }
 {
     match ship_claimed(alloc, landscape, wires, claim, prepared)? {
         Some(finished) => Ok(finished),
@@ -69,6 +72,7 @@ fn execute<V: Volumes>(
     requires prepared { IfSome prepared (λ its. IsPreparedFor landscape.old.world claim.tid its.postings) }
     ensures acted { ActedAs V.faults landscape.old landscape.new wires.old wires.new result }
     ensures done { OnOk result (HasDone V.faults landscape.old landscape.new wires.old wires.new (Execute claim)) }
+    ensures others { OnOk result (OthersStay landscape.old.world landscape.new.world (Execute claim)) }
 {
     let _ = wires;
     let _ = landscape.world();

@@ -97,7 +97,9 @@ impl<V: Volumes> Desk for DrainDesk<V> {
     ghost use Rattle.std.specs.Prelude.{◌≡◌, IfSome};
     ghost use Rattle.landscape.specs.Working.{IsPreparedFor};
     ghost use Rattle.unit_works.specs.Drained.{IsIdle};
+    ghost use Rattle.unit_works.specs.Claims.{OneFell};
     ghost use Rattle.drain_desk.specs.Done.{HasDone};
+    ghost use Rattle.drain_desk.specs.ToDo.{IsToDo, number_of};
     ghost use Rattle.drain_desk.specs.Work.{name_of, tid_of};
 
     type Work = Work<V>;
@@ -116,6 +118,12 @@ impl<V: Volumes> Desk for DrainDesk<V> {
     ghost name_of = { λ work. name_of work.task };
 
     ghost is_idle = { λ desk. IsIdle desk.landscape.world };
+
+    ghost is_to_do = { λ desk work. IsToDo desk.landscape.world work.task };
+
+    ghost are_one = { λ work other. number_of work.task ≡ number_of other.task };
+
+    ghost has_lost = { λ desk after. OneFell desk.landscape.world after.landscape.world };
 
     ghost has_done = { λ desk work after. HasDone V.faults desk.landscape after.landscape desk.lines after.lines work.task };
 

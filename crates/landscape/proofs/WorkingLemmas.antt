@@ -28,7 +28,7 @@ use Rattle.unit_landscape.specs.declared.claims.InClaim.{InClaim}
 use Rattle.unit_landscape.specs.Calls.{is_offered_function, is_on, is_out, stands_in}
 use Rattle.unit_landscape.specs.Kept.{IsLandscape}
 use Rattle.document_state.specs.declared.made.Made.{Made}
-use Rattle.document_state.specs.declared.made.Made.TheVariants.{Executed, Nothing, Postings, Sent}
+use Rattle.document_state.specs.declared.made.Made.TheVariants.{Brought, Executed, Nothing, Postings, Sent}
 use Rattle.document_state.specs.Made.{GoesWith}
 use Rattle.document_state.specs.OfLog.{postings_behind}
 use Rattle.document_state.specs.declared.model_rules.ModelRules.{ModelRules}
@@ -102,6 +102,7 @@ module _ (world : World ModelRules) (is : IsLandscape meaning world) (number : �
           ∙ ap (λ s. postings_behind (log_of world s) unit) works.receiver ∙ ap (postings_behind (log_of world held.system)) (sym made.0),
     )
     execute-goes unit works named Nothing made = absurd made
+    execute-goes unit works named (Brought model) made = absurd made
     execute-goes unit works named (Sent added) made = absurd made
     execute-goes unit works named (Postings its) made = absurd made
 

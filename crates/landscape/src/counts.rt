@@ -48,47 +48,53 @@ impl Gathered {
     }
 }
 
-/// How much the logs of systems hold. Each number stops at the greatest one.
+/// How much the logs of all systems hold.
 #[derive(Clone, Copy, PartialEq, Eq)]
 pub struct Counts {
-    /// How many masters were committed.
+    /// How many masters were committed. It stops at the greatest number.
     pub masters: u64,
-    /// How many units.
+    /// How many units were committed.
     pub units: u64,
     /// How many units were received.
     pub received: u64,
     /// How many units were executed.
     pub executed: u64,
-    /// How many units have ended.
+    /// How many units have ended. It stops at the greatest number.
     pub ended: u64,
 }
 
-impl Counts {
-    ghost use Rattle.std.specs.Prelude.{◌≡◌, [], length};
-    ghost use Rattle.landscape.specs.Counted.{added, counts_of, noted};
+/// What is counted by a walk through logs. Each number stops at the greatest one.
+#[derive(Clone, Copy)]
+pub(crate) struct Sums {
+    /// How many masters were committed.
+    pub(crate) masters: u64,
+    /// How many units have ended.
+    pub(crate) ended: u64,
+}
 
-    /// So many units, and nothing else.
-    pub(crate) fn of_units(units: u64) -> Counts
-        ensures { result ≡ counts_of units [] }
+impl Sums {
+    ghost use Rattle.std.specs.Prelude.{◌≡◌, length};
+    ghost use Rattle.landscape.specs.Counted.{added, none, noted, sums_of};
+
+    /// Nothing is counted.
+    pub(crate) fn none() -> Sums
+        ensures { result ≡ none }
     {
-        Counts {
+        Sums {
             masters: 0,
-            units,
-            received: 0,
-            executed: 0,
             ended: 0,
         }
     }
 
-    /// How much a log holds, from which so many units were committed.
-    pub(crate) fn of_log(units: u64, log: &[Record]) -> Counts
-        ensures { result ≡ counts_of units log.now }
+    /// What a log holds.
+    pub(crate) fn of_log(log: &[Record]) -> Sums
+        ensures { result ≡ sums_of log.now }
     {
-        let mut counts = Counts::of_units(units);
+        let mut sums = Sums::none();
         for next in log {
-            counts.note(next);
+            sums.note(next);
         }
-        counts
+        sums
     }
 
     /// Counts what a record adds.
@@ -99,26 +105,17 @@ impl Counts {
             Record::Commit { docs, .. } => self.masters = self
                 .masters
                 .saturating_add(docs.len() as u64),
-            Record::Accept { .. } => self.received = self.received.saturating_add(1),
-            Record::Direct { .. } => {
-                self.received = self.received.saturating_add(1);
-                self.executed = self.executed.saturating_add(1);
-            }
-            Record::Execute { .. } => self.executed = self.executed.saturating_add(1),
             Record::Ended { .. } => self.ended = self.ended.saturating_add(1),
             _ => {}
         }
     }
 
     /// These and others together.
-    pub(crate) fn with(self, other: Counts) -> Counts
+    pub(crate) fn with(self, other: Sums) -> Sums
         ensures { result ≡ added self other }
     {
-        Counts {
+        Sums {
             masters: self.masters.saturating_add(other.masters),
-            units: self.units.saturating_add(other.units),
-            received: self.received.saturating_add(other.received),
-            executed: self.executed.saturating_add(other.executed),
             ended: self.ended.saturating_add(other.ended),
         }
     }

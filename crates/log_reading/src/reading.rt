@@ -19,6 +19,7 @@ use unit_core::Record;
 pub fn read_log<R: LogRules>(
     alloc: Global,
     rules: &R,
+    known: &mut R::Known,
     system: SystemNo,
     text: &[u8],
     application: R::Tables,
@@ -32,7 +33,7 @@ pub fn read_log<R: LogRules>(
     ensures { IfOk result (IsReadAs (R.meaning rules.now) R.Tables.stands system text.now moments.now log.now) }
 {
     let mut its = LogTables::new(alloc, application);
-    match first_bad(alloc, rules, system, text, &mut its, moments, log)? {
+    match first_bad(alloc, rules, known, system, text, &mut its, moments, log)? {
         Some(bad) => Ok(Err(bad)),
         None => Ok(Ok(its)),
     }
@@ -42,6 +43,7 @@ pub fn read_log<R: LogRules>(
 fn first_bad<R: LogRules>(
     alloc: Global,
     rules: &R,
+    known: &mut R::Known,
     system: SystemNo,
     text: &[u8],
     its: &mut LogTables<R::Tables>,
@@ -60,7 +62,9 @@ fn first_bad<R: LogRules>(
     for (place, next) in log.iter().enumerate() {
         let moment = moments[place];
         let log = &log[..place];
-        match read_next(alloc, rules, system, text, its, before, moment, log, next)? {
+        match read_next(
+            alloc, rules, known, system, text, its, before, moment, log, next,
+        )? {
             Some(cause) => {
                 let number = place as u64 + 1;
                 return Ok(Some(BadRecord { number, cause }));
@@ -76,6 +80,7 @@ fn first_bad<R: LogRules>(
 fn read_next<R: LogRules>(
     alloc: Global,
     rules: &R,
+    known: &mut R::Known,
     system: SystemNo,
     text: &[u8],
     its: &mut LogTables<R::Tables>,
@@ -97,7 +102,7 @@ fn read_next<R: LogRules>(
     if !may_come(before, moment) {
         return Ok(Some(Cause::Illegal));
     }
-    if take(alloc, rules, system, its, log, next)? {
+    if take(alloc, rules, known, system, its, log, next)? {
         Ok(None)
     } else {
         Ok(Some(Cause::Illegal))

@@ -16,6 +16,7 @@ use unit_core::{AleUnit, Record};
 pub(crate) fn may_follow<R: LogRules>(
     alloc: Global,
     rules: &R,
+    known: &mut R::Known,
     system: SystemNo,
     its: &LogTables<R::Tables>,
     log: &[Record],
@@ -27,7 +28,7 @@ pub(crate) fn may_follow<R: LogRules>(
     if log.is_empty() {
         return Ok(may_begin(system, next));
     }
-    may_follow_others(alloc, rules, system, its, log, next)
+    may_follow_others(alloc, rules, known, system, its, log, next)
 }
 
 /// Whether a record may begin a log.
@@ -44,6 +45,7 @@ fn may_begin(system: SystemNo, next: &Record) -> bool
 fn may_follow_others<R: LogRules>(
     alloc: Global,
     rules: &R,
+    known: &mut R::Known,
     system: SystemNo,
     its: &LogTables<R::Tables>,
     log: &[Record],
@@ -89,7 +91,7 @@ fn may_follow_others<R: LogRules>(
         | Record::App { .. }
         | Record::Repost { .. }
         | Record::Model { .. } => {
-            return rules.allows_at(alloc, system, its.tables.application(), log, next);
+            return rules.allows_at(alloc, known, system, its.tables.application(), log, next);
         }
     };
     Ok(may)

@@ -21,6 +21,7 @@ use unit_core::{AleUnit, Record};
 pub(crate) fn note<R: LogRules>(
     alloc: Global,
     rules: &R,
+    known: &mut R::Known,
     system: SystemNo,
     its: &mut LogTables<R::Tables>,
     log: &[Record],
@@ -35,6 +36,7 @@ pub(crate) fn note<R: LogRules>(
     let executed = executed_unit(&its.places, log, next);
     let Brought { units, extra } = rules.brings(
         alloc,
+        known,
         system,
         its.tables.application(),
         log,

@@ -19,14 +19,18 @@ pub struct Brought<A: Application> {
 }
 
 /// Rules that decide by the tables of an application over a log. The log is handed in for what it says of the tables; none of these calls
-/// is to walk it.
+/// is to walk it. What was read for one record is kept for others.
 pub trait LogRules: Rules {
     type Tables: Application;
+
+    /// What was read, and need not be read again.
+    type Known: Drop;
 
     /// Whether a Commit, Dispatch, Put, App, Repost or Model may follow the log of these tables.
     fn allows_at(
         &self,
         alloc: Global,
+        known: &mut Self::Known,
         system: SystemNo,
         tables: &Self::Tables,
         log: &[Record],
@@ -53,6 +57,7 @@ pub trait LogRules: Rules {
     fn brings(
         &self,
         alloc: Global,
+        known: &mut Self::Known,
         system: SystemNo,
         tables: &Self::Tables,
         log: &[Record],

@@ -63,6 +63,7 @@ impl<A: Application> LogTables<A> {
 pub fn take<R: LogRules>(
     alloc: Global,
     rules: &R,
+    known: &mut R::Known,
     system: SystemNo,
     its: &mut LogTables<R::Tables>,
     log: &[Record],
@@ -75,10 +76,10 @@ pub fn take<R: LogRules>(
     ensures stays { IfOk result (λ may. may ≡ false → its.new ≡ its.old) }
     ensures read { IfOk result (λ may. may ≡ true → IsRead (R.meaning rules.now) R.Tables.stands system (log.now ++ next.now ∷ []) its.new) }
 {
-    if !may_follow(alloc, rules, system, its, log, next)? {
+    if !may_follow(alloc, rules, known, system, its, log, next)? {
         return Ok(false);
     }
-    note(alloc, rules, system, its, log, next)?;
+    note(alloc, rules, known, system, its, log, next)?;
     Ok(true)
 }
 
@@ -87,6 +88,7 @@ pub fn take<R: LogRules>(
 pub fn read<R: LogRules>(
     alloc: Global,
     rules: &R,
+    known: &mut R::Known,
     system: SystemNo,
     application: R::Tables,
     log: &[Record],
@@ -98,7 +100,7 @@ pub fn read<R: LogRules>(
 {
     let mut its = LogTables::new(alloc, application);
     for (place, next) in log.iter().enumerate() {
-        if !take(alloc, rules, system, &mut its, &log[..place], next)? {
+        if !take(alloc, rules, known, system, &mut its, &log[..place], next)? {
             return Ok((its, place));
         }
     }

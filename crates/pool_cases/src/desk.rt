@@ -79,7 +79,7 @@ impl FakeDesk {
 }
 
 impl Desk for FakeDesk {
-    ghost use Rattle.std.specs.Prelude.{◌≡◌, ◌≤◌};
+    ghost use Rattle.std.specs.Prelude.{◌≡◌, ◌<◌, ◌≤◌};
 
     type Work = FakeWork;
 
@@ -96,6 +96,12 @@ impl Desk for FakeDesk {
     ghost name_of = { λ work. (work.tid.system, work.tid) };
 
     ghost is_idle = { λ desk. desk.works ≤ desk.taken };
+
+    ghost is_to_do = { λ desk work. work.number < desk.taken };
+
+    ghost are_one = { λ work other. work.number ≡ other.number };
+
+    ghost has_lost = { λ desk after. ⊥ };
 
     ghost has_done = { λ desk work after. desk.finished ≤ after.finished };
 

@@ -54,7 +54,7 @@ fn read_of(
     requires proper { All IsProper log.now }
     requires moments { length moments.now ≡ length log.now }
 {
-    match read_log(alloc, rules, system, text, NoTables, moments, log)? {
+    match read_log(alloc, rules, &mut (), system, text, NoTables, moments, log)? {
         Ok(_) => Ok(Verdict::Good),
         Err(bad) => Ok(Verdict::Bad(bad)),
     }

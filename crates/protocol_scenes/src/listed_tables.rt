@@ -33,9 +33,12 @@ impl Application for NoTables {
 impl LogRules for ListedRules {
     type Tables = NoTables;
 
+    type Known = ();
+
     fn allows_at(
         &self,
         alloc: Global,
+        known: &mut (),
         system: SystemNo,
         tables: &NoTables,
         log: &[Record],
@@ -43,6 +46,7 @@ impl LogRules for ListedRules {
     ) -> Result<bool, OutOfMemory> {
         let _tables = tables;
         let _ = alloc;
+        let _ = known;
         Ok(is_model(next) || (is_commit_record(next) && commits_of(log) < self.list(system).len()))
     }
 
@@ -62,6 +66,7 @@ impl LogRules for ListedRules {
     fn brings(
         &self,
         alloc: Global,
+        known: &mut (),
         system: SystemNo,
         tables: &NoTables,
         log: &[Record],
@@ -70,6 +75,7 @@ impl LogRules for ListedRules {
     ) -> Result<Brought<NoTables>, OutOfMemory> {
         let _tables = tables;
         let _executed = executed;
+        let _ = known;
         let units = units_by(alloc, self.list(system), log, next)?;
         Ok(Brought { units, extra: () })
     }

@@ -2,3 +2,5 @@
 pub mod OfLogLemmas
 -- a text that says a model
 pub mod SaidLemmas
+-- texts that were read, by the entries of a map
+pub mod ReadingsLemmas

@@ -1,13 +1,17 @@
 -- Texts that were read, with their models.
-use Rattle.std.specs.Prelude.{◌≡◌, List, Some}
-use Rattle.std.specs.Arc.{arc_value}
+use Rattle.std.specs.Prelude.{◌≡◌, ℕ, List, Some}
 use Rattle.std.specs.List.{AllByRecursion}
-use Rattle.said_models.specs.declared.reading.Reading.{Reading}
+use Rattle.dist_model.specs.declared.lists.Lists.{Lists}
 use Rattle.said_models.specs.Said.{said}
 
--- a reading has the model that its text says
+-- a text, and a model
+pub record Reading : Type 0 where
+  pub text : List ℕ
+  pub model : Lists
+
+-- the model is the one that the text says
 abbrev pub IsReading : Reading → Type 0
-IsReading reading = said reading.text ≡ Some (arc_value reading.model)
+IsReading reading = said reading.text ≡ Some reading.model
 
 -- each does
 abbrev pub AreReadings : List Reading → Type 0

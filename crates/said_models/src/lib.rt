@@ -4,8 +4,6 @@
 //! `Said` (the model that a text says), `OfLog` (the models of a log, and the one in force behind it).
 #![tactic(auto)]
 
-mod reading;
 mod readings;
 
-pub use reading::Reading;
 pub use readings::Readings;

@@ -5,33 +5,34 @@ ghost use Rattle.std.specs.Arc.{arc_value};
 ghost use Rattle.std.specs.Option.{option_map};
 ghost use Rattle.said_models.specs.Said.{said};
 
-use crate::Reading;
-use ale_base::{Items, OutOfMemory};
+use ale_base::OutOfMemory;
 use dist_model::Model;
 use model_text::{ModelFault, read};
 use std::alloc::Global;
+use std::collections::BTreeMap;
 use std::sync::Arc;
 
-/// Texts that were entered, with the models that they say.
+/// Texts that were read, each once, with the models that they say. A look takes time as the logarithm of their number.
 #[derive(Drop)]
 pub struct Readings {
-    readings: Items<Reading>,
+    models: BTreeMap<Vec<u8>, Arc<Model>>,
 }
 
 impl std::marker::Model for Readings {
-    ghost use Rattle.std.specs.Prelude.{List};
-    ghost use Rattle.said_models.specs.declared.reading.Reading.{Reading};
-    ghost use Rattle.said_models.specs.Readings.{AreReadings};
+    ghost use Rattle.std.specs.Prelude.{ℕ, List, map};
+    ghost use Rattle.std.specs.Arc.{arc_value};
+    ghost use Rattle.dist_model.specs.declared.lists.Lists.{Lists};
+    ghost use Rattle.said_models.specs.Readings.{Reading, AreReadings};
 
     ghost Value = { List Reading };
 
-    ghost view = { λ all. all.readings };
+    ghost view = { λ all. map (λ entry. record { text = entry.0.items; model = arc_value entry.1 }) all.models.entries };
 
-    ghost invariant = { λ all. AreReadings all.readings };
+    ghost invariant = { λ all. AreReadings (map (λ entry. record { text = entry.0.items; model = arc_value entry.1 }) all.models.entries) };
 }
 
 impl Readings {
-    ghost use Rattle.std.specs.Prelude.{◌≡◌, [], ◌∷◌, ◌++◌, Some, IfOk, IfSome, OnOk, OnErr};
+    ghost use Rattle.std.specs.Prelude.{◌≡◌, [], Some, IfOk, IfSome, OnErr};
     ghost use Rattle.std.specs.Arc.{arc_value};
     ghost use Rattle.std.specs.Option.{option_map, option_copied};
     ghost use Rattle.said_models.specs.Said.{said};
@@ -41,39 +42,44 @@ impl Readings {
         ensures { result ≡ [] }
     {
         Readings {
-            readings: Items::new(alloc),
+            models: BTreeMap::new(alloc),
         }
     }
 
     /// Enters a text that was read, with the model that it says. After an `Err` nothing has changed.
-    pub fn enter(&mut self, text: Items<u8>, model: Arc<Model>) -> Result<(), OutOfMemory>
-        requires { said text ≡ Some (arc_value model) }
-        ensures entered { OnOk result (self.new ≡ self.old ++ record { text = text; model = model } ∷ []) }
+    pub fn enter(
+        &mut self,
+        alloc: Global,
+        text: &[u8],
+        model: Arc<Model>,
+    ) -> Result<(), OutOfMemory>
+        requires { said text.now ≡ Some (arc_value model) }
         ensures err { OnErr result (self.new ≡ self.old) }
     {
-        self.readings.push(Reading { text, model })
+        let text = Vec::from_slice(alloc, text)?;
+        self.models.insert(text, model)?;
+        Ok(())
     }
 
-    /// The model that a text says. None exactly where it says none. `OutOfMemory` comes where a request for memory was refused.
-    pub fn model(&self, alloc: Global, text: &[u8]) -> Result<Option<Arc<Model>>, OutOfMemory>
+    /// The model that a text says. None exactly where it says none. A text that says one is read once, and then entered.
+    pub fn model(&mut self, alloc: Global, text: &[u8]) -> Result<Option<Arc<Model>>, OutOfMemory>
         ensures { IfOk result (λ model. option_map arc_value model ≡ said text.now) }
     {
-        match self.entered(text) {
-            Some(model) => Ok(Some(Arc::try_clone(model)?)),
-            None => model_said(alloc, text),
+        if let Some(model) = self.entered(text) {
+            return Ok(Some(Arc::try_clone(model)?));
         }
+        let Some(model) = model_said(alloc, text)? else {
+            return Ok(None);
+        };
+        self.enter(alloc, text, Arc::try_clone(&model)?)?;
+        Ok(Some(model))
     }
 
     /// The model that was entered with a text.
     fn entered(&self, text: &[u8]) -> Option<&Arc<Model>>
         ensures { IfSome (option_copied result) (λ model. said text.now ≡ Some (arc_value model)) }
     {
-        for reading in self.readings.as_slice() {
-            if reading.text.as_slice() == text {
-                return Some(&reading.model);
-            }
-        }
-        None
+        self.models.get(text)
     }
 }
 

@@ -44,10 +44,11 @@ impl<A: Application> Model for SystemTables<A> {
 }
 
 impl<A: Application> SystemTables<A> {
-    ghost use Rattle.std.specs.Prelude.{◌≡◌, ◌↔◌, Some, true, IsOk, OnOk, OnErr};
+    ghost use Rattle.std.specs.Prelude.{◌≡◌, ◌↔◌, Some, true, false, IsOk, OnOk, OnErr, IsNone, IfSome, IfNone};
     ghost use Rattle.std.specs.Result.{result_err};
     ghost use Rattle.plain_queues.specs.Queues.{claim_of};
-    ghost use Rattle.plain_queues.specs.Offered.{is_offered, is_free, why_not};
+    ghost use Rattle.ale_base.specs.Tid.{TidOf};
+    ghost use Rattle.plain_queues.specs.Offered.{is_offered, is_free, first_offered, why_not};
     ghost use Rattle.plain_queues.specs.Changes.{claimed, released};
     ghost use Rattle.system_tables.specs.Tables.{no_tables, entered, left, queues_of, with_queues};
     ghost use Rattle.system_tables.specs.Noted.{Noted};
@@ -136,6 +137,21 @@ impl<A: Application> SystemTables<A> {
         match claimed {
             Ok(_) => Ok(()),
             Err(why) => Err(why),
+        }
+    }
+
+    /// Claims the unit of a direction that is offered and was added first, under a number. None exactly where no unit is offered there,
+    /// and then nothing has changed. Who is next outgoing is told by `qout_scheduler`, and incoming by `qin_scheduler`.
+    pub fn claim_next(&mut self, way: Way, number: u64) -> Option<Claim>
+        ensures first { IfSome result (λ claim. first_offered (queues_of way self.old) ≡ Some claim.tid) }
+        ensures number { IfSome result (λ claim. claim.number ≡ number) }
+        ensures claimed { IfSome result (λ claim. self.new ≡ with_queues way (claimed number claim.tid (queues_of way self.old)) self.old) }
+        ensures none { IsNone result ↔ ((tid : TidOf) → is_offered tid (queues_of way self.old) ≡ false) }
+        ensures unchanged { IfNone result (self.new ≡ self.old) }
+    {
+        match way {
+            Way::Outgoing => qout_scheduler::next(&mut self.outgoing, number),
+            Way::Incoming => qin_scheduler::next(&mut self.incoming, number),
         }
     }
 

@@ -12,25 +12,26 @@ use Rattle.unit_journal.specs.Log.{Stands}
 use Rattle.unit_journal.specs.Settled.{IsOn, IsSettled, IsBeforeOrAfter}
 use Rattle.unit_journal.proofs.SettledLemmas.{IsSettled-stands, IsSettled-kept}
 use Rattle.unit_journal.specs.declared.journals.SystemJournals.{SystemJournals}
-use Rattle.unit_journal.specs.OnDisk.{HaveMoments, moments_at, last_moment, MayFollow, moments_of, entries_of, entries_at}
+use Rattle.unit_journal.specs.OnDisk.{HaveMoments, moments_at, rest_at, last_moment, MayFollow, moments_of, entries_of, entries_at}
 use Rattle.unit_journal.specs.OnDisk.{IsOnDisk, StandsFound, IsLeftOnDisk}
 use Rattle.unit_journal.specs.Changes.{with_moment, SameAt, OnlyAt}
 use Rattle.unit_journal.proofs.PlaceLemmas.{entries_of-push}
 
 -- What stands for entries stands for them and perhaps one more.
-pub StandsFound-none_more : (image : List ℕ) (entries : List Entry) (rest : Option Record) → Stands image entries → StandsFound image entries rest
-StandsFound-none_more image entries None stands = stands
-StandsFound-none_more image entries (Some next) stands = inl stands
+pub StandsFound-none_more : (image : List ℕ) (entries : List Entry) (moment : Option ℕ) (rest : Option Record) → Stands image entries
+    → StandsFound image entries moment rest
+StandsFound-none_more image entries moment None stands = stands
+StandsFound-none_more image entries moment (Some next) stands = inl stands
 
 -- What stands for the log from before an append or after it stands for it and perhaps one more.
 pub StandsFound-either : (image : List ℕ) (entries : List Entry) (moment : Option ℕ) (next : Record) → MayFollow (last_moment (moments_of entries)) moment
-    → IsBeforeOrAfter entries (entry_with moment next) image → StandsFound image entries (Some next)
+    → IsBeforeOrAfter entries (entry_with moment next) image → StandsFound image entries moment (Some next)
 StandsFound-either image entries moment next follows (inl before) = inl before
-StandsFound-either image entries moment next follows (inr after) = inr (moment, follows, after)
+StandsFound-either image entries moment next follows (inr after) = inr (follows, after)
 
 -- Another moment that is set is of no matter to what is at a place.
 pub SameAt-with_moment : (place : ℕ) (moment : Option ℕ) (all : SystemJournals) → SameAt place all (with_moment moment all)
-SameAt-with_moment place moment all = record { journal = refl; moments = refl }
+SameAt-with_moment place moment all = record { journal = refl; moments = refl; rest = refl }
 
 -- Another record with its moment is another entry.
 pub entries_at-push : (place : ℕ) (before after : SystemJournals) (log : List Record) (moment : Option ℕ) (what : Record)
@@ -61,7 +62,7 @@ module _ {D : Type 0} (told : Type 0) (volume : D → ℕ → Volume) where
   IsLeft-of vols place all log rest disk = record {
     noted = disk.noted;
     each = disk.each;
-    left = λ tells image is. StandsFound-none_more image (entries_at all place log) rest (IsOnDisk-stands vols place all log tells disk image is);
+    left = λ tells image is. StandsFound-none_more image (entries_at all place log) (rest_at all place) rest (IsOnDisk-stands vols place all log tells disk image is);
   }
 
   -- What is on disk at a place stays so while its volume is known as before, and the journal and moments at the place are.
@@ -96,8 +97,9 @@ module _ {D : Type 0} (told : Type 0) (volume : D → ℕ → Volume) where
       record {
         noted = same.moments ∙ disk.noted ∙ ap (λ (l : List (Option ℕ)). Some l) (sym moments);
         each = ap length moments ∙ disk.each;
-        left = λ tells image is. subst (λ (l : List (Option ℕ)). StandsFound image (entries_of l log) rest) (sym moments)
-            (disk.left tells image (subst (λ (v : Volume). IsImage v image) (known tells) is));
+        left = λ tells image is. subst (λ (l : List (Option ℕ)). StandsFound image (entries_of l log) (rest_at after place) rest) (sym moments)
+            (subst (λ (m : Option ℕ). StandsFound image (entries_at before place log) m rest) (sym same.rest)
+            (disk.left tells image (subst (λ (v : Volume). IsImage v image) (known tells) is)));
       }
 
   -- Both stay so where another moment is set.
@@ -137,6 +139,6 @@ module _ {D : Type 0} (told : Type 0) (volume : D → ℕ → Volume) where
     pub IsLeftOnDisk-any_moment : (old new : D) (place : ℕ) (all : SystemJournals) (log : List Record) (rest : Option Record) → told
         → ((image : List ℕ) → images_since old place (moment old) image → IsImage (volume old place) image)
         → KeepsVolume volume moment images_since old new place → IsLeftOnDisk told volume old place all log rest
-        → LeavesOnly moment images_since old new place (λ image. StandsFound image (entries_at all place log) rest)
+        → LeavesOnly moment images_since old new place (λ image. StandsFound image (entries_at all place log) (rest_at all place) rest)
     IsLeftOnDisk-any_moment old new place all log rest tells only_now kept disk =
         LeavesOnly-kept moment images_since volume old new place _ (λ image left. disk.left tells image (only_now image left)) kept

@@ -21,6 +21,7 @@ IsNext-with_system all after journal moments is have = subst (λ (a : SystemJour
   others = λ other before. record {
     journal = slice_get-front all.journals (journal ∷ []) other before;
     moments = slice_get-front all.moments (moments ∷ []) other (omega (arith, have, before));
+    rest = refl;
   };
   moment = refl;
 })

@@ -1,8 +1,8 @@
 -- What the write of a record leaves, from what its append to the journal at the place does.
-use Rattle.std.specs.Prelude.{slice_get, slice_set}
+use Rattle.std.specs.Prelude.{Result, Ok, Err, slice_get, slice_set, slice_index_or}
 use Rattle.std.specs.Option.{unwrap_or}
-use Rattle.std.proofs.Common.{◌≡◌, ◌↔◌, ◌+◌, ◌<◌, ◌≤◌, ℕ, Option, Some, List, [], ◌∷◌, ◌++◌, length, refl, sym, ap, ◌∙◌, subst, arith, length-append}
-use Rattle.std.proofs.lemmas.List.{length-set}
+use Rattle.std.proofs.Common.{◌≡◌, ◌↔◌, ◌+◌, ◌<◌, ◌≤◌, ℕ, Option, Some, None, List, [], ◌∷◌, ◌++◌, length, refl, sym, ap, ◌∙◌, subst, arith, length-append}
+use Rattle.std.proofs.lemmas.List.{get_or-set_other, length-set}
 use Rattle.std.proofs.lemmas.Option.{same_Some, slice_get_within}
 use Rattle.ale_base.proofs.ListLemmas.{AllByRecursion-append}
 use Rattle.ale_volumes.specs.declared.volume.Volume.{Volume}
@@ -15,9 +15,11 @@ use Rattle.unit_codec.specs.Entries.{EntryHasSpelling, entry_with, entry_spellin
 use Rattle.unit_journal.specs.declared.journal.UnitJournal.{UnitJournal}
 use Rattle.unit_journal.specs.Settled.{bodies, IsAtEnd, IsOn, IsSettled, IsBeforeOrAfter}
 use Rattle.unit_journal.specs.declared.journals.SystemJournals.{SystemJournals}
-use Rattle.unit_journal.specs.OnDisk.{moments_at, last_moment, next_moment, MayFollow, moments_of, entries_of, entries_at, length_with, IsOnDisk, IsLeftOnDisk}
-use Rattle.unit_journal.specs.Changes.{OnlyAt}
-use Rattle.unit_journal.specs.steps.Moments.{with_one_more}
+use Rattle.unit_journal.specs.OnDisk.{moments_at, last_moment, next_moment, MayFollow, moments_of, entries_of, entries_at, length_with, StandsFound, IsOnDisk, IsLeftOnDisk}
+use Rattle.byte_journal.specs.declared.fault.AppendFault.{AppendFault}
+use Rattle.byte_journal.specs.declared.fault.AppendFault.TheVariants.{Volume as VolumeFault, Full, OutOfMemory}
+use Rattle.unit_journal.specs.Changes.{with_rest, LeftBy, OnlyAt}
+use Rattle.unit_journal.specs.steps.Moments.{rests_after, with_one_more}
 use Rattle.unit_journal.proofs.PlaceLemmas.{entries_of-push, got-set_other}
 use Rattle.unit_journal.proofs.KeptLemmas.{StandsFound-either}
 use Rattle.unit_journal.proofs.OrderLemmas.{next-follows}
@@ -29,7 +31,7 @@ pub record Moved (was now : UnitJournal) (entry : Entry) : Type 0 where
 
 -- no call changes what is at other places
 pub OnlyAt-none : (place : ℕ) (all : SystemJournals) → OnlyAt place all all
-OnlyAt-none place all = record { journals = refl; moments = refl; others = λ other apart. record { journal = refl; moments = refl }; moment = refl }
+OnlyAt-none place all = record { journals = refl; moments = refl; others = λ other apart. record { journal = refl; moments = refl; rest = refl }; moment = refl }
 
 -- a journal and one moment more at a place
 pub OnlyAt-written : (place : ℕ) (all : SystemJournals) (now : UnitJournal) (moments : List (List (Option ℕ))) (moment : Option ℕ)
@@ -43,16 +45,44 @@ OnlyAt-written place all now moments moment is =
       others = λ other apart. record {
         journal = got-set_other all.journals place other now apart;
         moments = ap (λ (l : List (List (Option ℕ))). slice_get l other) is ∙ got-set_other all.moments place other more apart;
+        rest = refl;
       };
       moment = refl;
     }
 
--- journals and moments that are as before are all that is
-pub unchanged : (all : SystemJournals) (journals : List UnitJournal) (moments : List (List (Option ℕ))) → journals ≡ all.journals → moments ≡ all.moments
-    → record all { journals = journals; moments = moments } ≡ all
-unchanged all journals moments same same_too =
-    ap (λ (l : List UnitJournal). record all { journals = l; moments = moments }) same
-    ∙ ap (λ (l : List (List (Option ℕ))). record all { moments = l }) same_too
+-- nor does the moment of a record whose write failed
+OnlyAt-rest : (place : ℕ) (moment : Option ℕ) (all : SystemJournals) → OnlyAt place all (with_rest place moment all)
+OnlyAt-rest place moment all = record {
+  journals = refl;
+  moments = refl;
+  others = λ other apart. record { journal = refl; moments = refl; rest = get_or-set_other all.rests place other moment None apart };
+  moment = refl;
+}
+
+-- where journals and moments are as before, what is kept of records whose write failed is all that may have changed
+pub unchanged-but : (all : SystemJournals) (journals : List UnitJournal) (moments : List (List (Option ℕ))) (rests other : List (Option ℕ))
+    → journals ≡ all.journals → moments ≡ all.moments → rests ≡ other
+    → record all { journals = journals; moments = moments; rests = rests } ≡ record all { rests = other }
+unchanged-but all journals moments rests other same same_too is = λ i. record all { journals = same i; moments = same_too i; rests = is i }
+
+-- what a write that failed leaves
+module _ (all : SystemJournals) (place k : ℕ) (written : Option ℕ) (at : k ≡ place) (set : written ≡ next_moment all place) where
+  -- all but the moments of records whose write failed
+  abbrev pub left_by : AppendFault → SystemJournals
+  left_by fault = record all { rests = rests_after all.rests k written fault }
+
+  pub LeftBy-failed : (T : Type 0) (fault : AppendFault) → LeftBy {T = T} place all (left_by fault) (Err fault)
+  LeftBy-failed T VolumeFault = ap (λ (i : ℕ). with_rest i written all) at ∙ ap (λ (m : Option ℕ). with_rest place m all) set
+  LeftBy-failed T (Full size) = refl
+  LeftBy-failed T OutOfMemory = refl
+
+  pub OnlyAt-failed : (fault : AppendFault) → OnlyAt place all (left_by fault)
+  OnlyAt-failed VolumeFault = subst (λ (i : ℕ). OnlyAt i all (with_rest k written all)) at (OnlyAt-rest k written all)
+  OnlyAt-failed (Full size) = OnlyAt-none place all
+  OnlyAt-failed OutOfMemory = OnlyAt-none place all
+
+  pub left-unless : (fault : AppendFault) → fault ≡ OutOfMemory → left_by fault ≡ all
+  left-unless fault is = ap left_by is
 
 -- a place of a list, where another name for it holds something
 pub within-place : {A : Type 0} (xs : List A) (k place : ℕ) (x : A) → k ≡ place → slice_get xs place ≡ Some x → k < length xs
@@ -113,11 +143,14 @@ module _ {D : Type 0} (told : Type 0) (volume : D → ℕ → Volume) (old : D) 
       → written ≡ next_moment all place
       → (told → (image : List ℕ) → moment old ≤ moment new → IsImage (volume new place) image → images_since new place (moment old) image)
       → (told → LeavesOnly moment images_since old new place (IsBeforeOrAfter (entries_at all place log) (entry_with written next)))
-      → IsLeftOnDisk told volume new place all log (Some next)
-  IsLeft-torn moment images_since new next written set counts_now leaves = record {
+      → (rests : List (Option ℕ)) → slice_index_or rests place None ≡ written
+      → IsLeftOnDisk told volume new place (record all { rests = rests }) log (Some next)
+  IsLeft-torn moment images_since new next written set counts_now leaves rests found = record {
     noted = disk.noted;
     each = disk.each;
-    left = λ tells image is. StandsFound-either image (entries_at all place log) written next
+    left = λ tells image is. subst (λ (m : Option ℕ). StandsFound image (entries_at all place log) m (Some next))
+        (sym found)
+        (StandsFound-either image (entries_at all place log) written next
         (subst (λ (m : Option ℕ). MayFollow (last_moment (moments_of (entries_at all place log))) m) (sym set) (next-follows place all log disk.each))
-        ((leaves tells).each image (counts_now tells image (leaves tells).later is));
+        ((leaves tells).each image (counts_now tells image (leaves tells).later is)));
   }

@@ -1,5 +1,5 @@
 -- What the volumes of systems hold: of one that is up its log, of one that is down perhaps one record more.
-use Rattle.std.specs.Prelude.{◌≡◌, ◌⊎◌, ℕ, ◌+◌, ◌-◌, ◌≤◌, max, Option, Some, None, List, [], ◌∷◌, ◌++◌, length, map, slice_get}
+use Rattle.std.specs.Prelude.{◌≡◌, ◌⊎◌, ℕ, ◌+◌, ◌-◌, ◌≤◌, max, Option, Some, None, List, [], ◌∷◌, ◌++◌, length, map, slice_get, slice_index_or}
 use Rattle.std.specs.List.{AllByRecursion}
 use Rattle.std.specs.Option.{unwrap_or}
 use Rattle.ale_volumes.specs.declared.volume.Volume.{Volume}
@@ -38,6 +38,10 @@ abbrev pub later : Option ℕ → Option ℕ → Option ℕ
 later None other = other
 later (Some one) None = Some one
 later (Some one) (Some other) = Some (max one other)
+
+-- the moment of the record whose write failed last at a place
+abbrev pub rest_at : SystemJournals → ℕ → Option ℕ
+rest_at all place = slice_index_or all.rests place None
 
 -- the moment of the next record of the log at a place: the larger of the one that is set and the last of that log
 abbrev pub next_moment : SystemJournals → ℕ → Option ℕ
@@ -82,17 +86,16 @@ pub record IsOnDisk {D : Type 0} (told : Type 0) (volume : D → ℕ → Volume)
   pub on : IsOn journal place (entries_at all place log)
   pub settled : told → IsSettled volume vols journal (entries_at all place log)
 
--- the bytes stand for these entries, or for them and one of this record, whose moment may follow the last of theirs
-abbrev pub StandsFound : List ℕ → List Entry → Option Record → Type 0
-StandsFound image entries None = Stands image entries
-StandsFound image entries (Some next) =
-    Stands image entries
-    ⊎ ((moment : Option ℕ) × MayFollow (last_moment (moments_of entries)) moment × Stands image (entries ++ entry_with moment next ∷ []))
+-- the bytes stand for these entries, or for them and one of this record with this moment, which may follow the last of theirs
+abbrev pub StandsFound : List ℕ → List Entry → Option ℕ → Option Record → Type 0
+StandsFound image entries moment None = Stands image entries
+StandsFound image entries moment (Some next) =
+    Stands image entries ⊎ (MayFollow (last_moment (moments_of entries)) moment × Stands image (entries ++ entry_with moment next ∷ []))
 
 -- Of a system that is down: moments are at its place, one for each record, and where the disk tells what it holds, each
--- crash leaves the log, perhaps with this record more.
+-- crash leaves the log, perhaps with this record more, with the moment that is kept of it.
 pub record IsLeftOnDisk {D : Type 0} (told : Type 0) (volume : D → ℕ → Volume) (vols : D) (place : ℕ) (all : SystemJournals) (log : List Record)
     (rest : Option Record) : Type 0 where
   pub noted : slice_get all.moments place ≡ Some (moments_at all place)
   pub each : length (moments_at all place) ≡ length log
-  pub left : told → (image : List ℕ) → IsImage (volume vols place) image → StandsFound image (entries_at all place log) rest
+  pub left : told → (image : List ℕ) → IsImage (volume vols place) image → StandsFound image (entries_at all place log) (rest_at all place) rest

@@ -6,7 +6,8 @@ use crate::UnitJournal;
 use ale_base::{Items, SystemNo};
 use std::alloc::Global;
 
-/// The journals of all systems, the moments of the entries of each log, and the moment that is set for the next.
+/// The journals of all systems, the moments of the entries of each log, the moment that is set for the next, and the moment of a record
+/// whose write failed.
 ///
 /// System i, counted from 1, is at place i - 1, and so is its volume.
 #[derive(Drop)]
@@ -15,6 +16,8 @@ pub struct SystemJournals {
     pub(crate) journals: Items<UnitJournal>,
     pub(crate) moments: Items<Items<Option<u64>>>,
     pub(crate) moment: Option<u64>,
+    // The moment with which a system's last record was written whose write failed.
+    pub(crate) rests: [Option<u64>; 16],
 }
 
 impl SystemJournals {
@@ -32,6 +35,7 @@ impl SystemJournals {
             journals: Items::new(alloc),
             moments: Items::new(alloc),
             moment: None,
+            rests: [None; 16],
         }
     }
 

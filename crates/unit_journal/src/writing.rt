@@ -1,6 +1,6 @@
 //! The write of a record to the journal of a system.
 
-ghost use Rattle.std.specs.Prelude.{◌≡◌, ◌≢◌, ℕ, List, [], ◌∷◌, ◌++◌, ◌+◌, ◌-◌, ◌<◌, ◌↔◌, length, OnOk, OnErr, IsErrOf, Some};
+ghost use Rattle.std.specs.Prelude.{◌≡◌, ◌≢◌, ℕ, List, [], ◌∷◌, ◌++◌, ◌+◌, ◌-◌, ◌<◌, ◌↔◌, length, slice_index_or, OnOk, IsErrOf, None, Some};
 ghost use Rattle.ale_volumes.specs.Clock.{LeavesOnly, KeepsOthers};
 ghost use Rattle.ale_volumes.specs.Faults.{CountsFault};
 ghost use Rattle.byte_journal.specs.Log.{most_bytes};
@@ -8,6 +8,7 @@ ghost use Rattle.unit_core.specs.declared.records.Record.{Record};
 ghost use Rattle.unit_codec.specs.Condition.{IsWritable};
 ghost use Rattle.unit_codec.specs.Entries.{entry_with};
 ghost use Rattle.unit_journal.specs.Settled.{IsBeforeOrAfter};
+ghost use Rattle.unit_journal.specs.steps.Moments.{rests_after};
 
 use crate::SystemJournals;
 use crate::moments::{last, later, note, take_back};
@@ -18,13 +19,13 @@ use unit_core::Record;
 
 impl SystemJournals {
     ghost use Rattle.unit_journal.specs.OnDisk.{next_moment, moments_at, entries_at, length_with, IsOnDisk, IsLeftOnDisk};
-    ghost use Rattle.unit_journal.specs.Changes.{OnlyAt};
+    ghost use Rattle.unit_journal.specs.Changes.{OnlyAt, LeftBy};
 
     /// Adds a record to the log of a system that is up. Its moment is the one that is set, or the last of the log where that
     /// is larger. At `Ok` it is acknowledged: each crash from then on leaves it.
     ///
-    /// After every `Err` the journals are as before. After `Volume` the record may be in the log on the volume or not, and the
-    /// system is to be opened again before further use. `Full` comes where its volume would have more than 67,108,864 bytes,
+    /// After every `Err` the journals are as before, but that after `Volume` the moment of the record is kept: it may be in the log on the
+    /// volume or not, and the system is to be opened again before further use. `Full` comes where its volume would have more than 67,108,864 bytes,
     /// and names that length; then nothing was written. After `OutOfMemory` the log on the volume is as before.
     pub fn write<V: Volumes>(
         &mut self,
@@ -49,8 +50,8 @@ impl SystemJournals {
             ↔ ((place ≡ length_with (entries_at self.old (system - 1) log) (entry_with (next_moment self.old (system - 1)) next.now)) × (most_bytes < place)) }
         ensures full_same { (place : ℕ) → result ≡ Err (AppendFault.Full place) → vols.new ≡ vols.old }
 
-        // What stays: all after an error, and always all that is of other systems.
-        ensures err { OnErr result (self.new ≡ self.old) }
+        // What stays: all after an error but the moment of a record that may be found, and always all that is of other systems.
+        ensures left { LeftBy (system - 1) self.old self.new result }
         ensures one { OnlyAt (system - 1) self.old self.new }
         ensures grown { OnOk result (moments_at self.new (system - 1) ≡ moments_at self.old (system - 1) ++ next_moment self.old (system - 1) ∷ []) }
 
@@ -69,6 +70,7 @@ impl SystemJournals {
             Ok(()) => Ok(()),
             Err(fault) => {
                 take_back(&mut self.moments, place);
+                keep_rest(&mut self.rests, place, moment, fault);
                 Err(fault)
             }
         }
@@ -79,5 +81,16 @@ impl SystemJournals {
         ensures { result ≡ next_moment self.now (system - 1) }
     {
         later(self.moment, last(self.moments(system)))
+    }
+}
+
+/// The moment of a record is kept whose write failed since the volume did.
+fn keep_rest(rests: &mut [Option<u64>; 16], place: usize, moment: Option<u64>, fault: AppendFault)
+    requires { place < 16 }
+    ensures kept { rests.new ≡ rests_after rests.old place moment fault }
+    ensures found { fault ≡ AppendFault.Volume → slice_index_or rests.new place None ≡ moment }
+{
+    if let AppendFault::Volume = fault {
+        rests[place] = moment;
     }
 }

@@ -13,7 +13,6 @@ use Rattle.plain_queues.specs.LogQueues.{HaveOneSender, units_of, through, may_g
 use Rattle.plain_queues.specs.Queues.{unit_of}
 use Rattle.tid_table.specs.LogTids.{is_known}
 use Rattle.plain_queues.specs.Offered.{is_offered, first_offered}
-use Rattle.plain_queues.proofs.OfferedLemmas.{why_not-offered}
 use Rattle.trfc_protocol.specs.declared.world.World.{World}
 use Rattle.trfc_protocol.specs.declared.held.Held.{Held}
 use Rattle.trfc_protocol.specs.declared.held.HeldKind.TheVariants.{Out, In}
@@ -22,13 +21,11 @@ use Rattle.trfc_protocol.specs.Meaning.{Meaning}
 use Rattle.system_tables.specs.Tables.{TablesOf, queues_of}
 use Rattle.system_tables.specs.OfLog.{AreTablesOf, claims_of, is_unconfirmed}
 use Rattle.system_tables.proofs.AskingLemmas.{seen-tables, unconfirmed-tables, outstanding-tables, offered-tables, first_offered-tables}
-use Rattle.unit_landscape.specs.declared.claim_end.ClaimEnd.{ClaimEnd}
-use Rattle.unit_landscape.specs.declared.claim_end.ClaimEnd.TheVariants.{NotOffered, OutOfMemory}
 use Rattle.unit_landscape.specs.Claims.{claim_at, kind_of}
 use Rattle.unit_landscape.specs.InStep.{AreInStep}
-use Rattle.unit_landscape.specs.ClaimAnswers.{IsAnswered}
+use Rattle.unit_landscape.specs.ClaimAnswers.{IsNextUnit}
 use Rattle.unit_landscape.proofs.InStepLemmas.{stands_up}
-use Rattle.unit_landscape.specs.LogAnswers.{may_go_at, first_to_go, AreTablesNow, IsAnsweredBy}
+use Rattle.unit_landscape.specs.LogAnswers.{may_go_at, first_to_go, AreTablesNow}
 
 -- the claims of a direction at a system
 way_claims : (way : Way) (system : ℕ) (claims : List Held) → claims_of way (claim_at Out system claims) (claim_at In system claims)
@@ -77,11 +74,9 @@ module _ {R A : Type 0} (stands : A → List Record → Type 0) (rules : Meaning
         ∙ ap (λ claims. option_map (λ (unit : AleUnit). unit.tid) (find (may_go way (units_of way committed log) log claims) (units_of way committed log)))
         (way_claims way system world.claims)
 
-    -- so a claim is answered by the log and the claims
-    pub answered-at : {T : Type 0} (tid : TidOf) (r : Result T ClaimEnd) → IsAnswered way tid its r → IsAnsweredBy rules world system way tid r
-    answered-at tid (Ok made) is = sym (offered-at tid) ∙ is
-    answered-at tid (Err (NotOffered why)) is = sym (offered-at tid) ∙ sym (why_not-offered tid (queues_of way its)) ∙ ap is_none is
-    answered-at tid (Err OutOfMemory) is = sym (offered-at tid) ∙ is
+    -- the first that may go is next
+    pub next-at : (tid : TidOf) → first_to_go rules world system way ≡ Some tid → may_go_at rules world system way tid ≡ true → IsNextUnit way tid its
+    next-at tid first may = record { first = first-at ∙ first; offered = offered-at tid ∙ may }
 
 module _ {R A : Type 0} (stands : A → List Record → Type 0) (rules : Meaning) (world : World R) (tables : List (TablesOf A))
     (are : AreInStep stands rules world.systems world.claims tables) (system : ℕ) (up : is_up world system ≡ true) where

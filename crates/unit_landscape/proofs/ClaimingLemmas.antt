@@ -1,33 +1,28 @@
 -- The first unit that is offered is found, and claimed.
 use Rattle.std.specs.Prelude.{IfOk, OnErr, Result, Ok, Err}
 use Rattle.std.proofs.Common.{◌≡◌, ℕ, true, false, Option, Some, None, inr, refl, sym, ap, subst, ◌∙◌}
-use Rattle.std.proofs.lemmas.Bool.{both_ways}
 use Rattle.std.proofs.lemmas.Option.{none-some}
 use Rattle.ale_base.specs.Tid.{TidOf}
 use Rattle.ale_base.specs.declared.way.Way.TheVariants.{Outgoing, Incoming}
 use Rattle.unit_core.specs.declared.ale_unit.AleUnit.{AleUnit}
-use Rattle.plain_queues.specs.LogQueues.{HaveOneSender, units_of}
-use Rattle.plain_queues.specs.declared.not_offered.NotOffered.{NotOffered as Why}
 use Rattle.trfc_protocol.specs.declared.world.World.{World}
 use Rattle.trfc_protocol.specs.declared.held.HeldKind.TheVariants.{Out, In}
 use Rattle.trfc_protocol.specs.declared.event.Event.TheVariants as event
 use Rattle.trfc_protocol.specs.Meaning.{Meaning}
 use Rattle.trfc_protocol.specs.Legal.{IsLawful}
-use Rattle.trfc_protocol.specs.Worlds.{log_of, is_up, committed_by, committed_unit, with_claim}
+use Rattle.trfc_protocol.specs.Worlds.{is_up, committed_unit, with_claim}
 use Rattle.trfc_protocol.specs.Offered.{is_offered_outbound}
 use Rattle.trfc_protocol.specs.Safe.{Safe}
 use Rattle.trfc_protocol.proofs.SafeLemmas.{committed_unit-is}
-use Rattle.unit_landscape.specs.declared.claim_end.ClaimEnd.{ClaimEnd}
-use Rattle.unit_landscape.specs.declared.claim_end.ClaimEnd.TheVariants.{NotOffered}
 use Rattle.unit_landscape.specs.KeptWorlds.{KeptOf}
-use Rattle.unit_landscape.specs.LogAnswers.{may_go_at, first_to_go, IsAnsweredBy, KeepsVolumes}
+use Rattle.unit_landscape.specs.LogAnswers.{may_go_at, first_to_go, KeepsVolumes}
 use Rattle.unit_landscape.specs.Kept.{IsLandscape}
 use Rattle.unit_landscape.specs.Claiming.{IsFirstOut, IsNextOut, IsFirstIn, IsNextIn}
 use Rattle.unit_landscape.specs.declared.claims.InClaim.{InClaim}
 use Rattle.unit_landscape.specs.Calls.{ClaimedIn}
 use Rattle.unit_landscape.proofs.HappenedLemmas.{happened-none}
 use Rattle.unit_landscape.proofs.EndsLemmas.{landscape-step, landscape-same}
-use Rattle.unit_landscape.proofs.OfferedLemmas.{one-sender, may_go-outbound, may_go-inbound, first-outbound, none-outbound, first-inbound, none-inbound}
+use Rattle.unit_landscape.proofs.OfferedLemmas.{may_go-outbound, may_go-inbound, first-outbound, none-outbound, first-inbound, none-inbound}
 use Rattle.unit_landscape.proofs.OfferedLemmas.{outbound_unit, claim-after, run-after}
 
 module _ {R : Type 0} (rules : Meaning) (lawful : IsLawful rules) (world : World R) (safe : Safe rules world) where
@@ -63,27 +58,15 @@ module _ {R : Type 0} (rules : Meaning) (lawful : IsLawful rules) (world : World
     offered = first-inbound rules lawful world safe system tid up (sym first);
   }
 
-  -- the first unit that is offered outbound is not refused
-  pub out_not_refused : {T : Type 0} (system : ℕ) (unit : AleUnit) (why : Why) (result : Result T ClaimEnd) → IsFirstOut rules world system unit
-      → result ≡ Err (NotOffered why)
-      → (HaveOneSender Outgoing (units_of Outgoing (committed_by rules world system) (log_of world system))
-      → IsAnsweredBy rules world system Outgoing unit.tid result) → ⊥
-  out_not_refused system unit why result is refused answer =
-      let no : may_go_at rules world system Outgoing unit.tid ≡ false =
-      subst (IsAnsweredBy rules world system Outgoing unit.tid) refused (answer (one-sender rules lawful world safe Outgoing system)) in
+  -- the first unit that is offered outbound may go
+  pub out-may : (system : ℕ) (unit : AleUnit) → IsFirstOut rules world system unit → may_go_at rules world system Outgoing unit.tid ≡ true
+  out-may system unit is =
       let up : is_up world (unit.tid).system ≡ true = ap (is_up world) is.here ∙ is.up in
-      both_ways (may_go_at rules world system Outgoing unit.tid) no
-      (ap (λ s. may_go_at rules world s Outgoing unit.tid) (sym is.here) ∙ may_go-outbound rules lawful world safe unit.tid up ∙ is.offered)
+      ap (λ s. may_go_at rules world s Outgoing unit.tid) (sym is.here) ∙ may_go-outbound rules lawful world safe unit.tid up ∙ is.offered
 
-  -- nor is the first that is offered inbound
-  pub in_not_refused : {T : Type 0} (system : ℕ) (tid : TidOf) (why : Why) (result : Result T ClaimEnd) → IsFirstIn rules world system tid
-      → result ≡ Err (NotOffered why)
-      → (HaveOneSender Incoming (units_of Incoming (committed_by rules world system) (log_of world system))
-      → IsAnsweredBy rules world system Incoming tid result) → ⊥
-  in_not_refused system tid why result is refused answer =
-      let no : may_go_at rules world system Incoming tid ≡ false =
-      subst (IsAnsweredBy rules world system Incoming tid) refused (answer (one-sender rules lawful world safe Incoming system)) in
-      both_ways (may_go_at rules world system Incoming tid) no (may_go-inbound rules lawful world safe system tid is.up ∙ is.offered)
+  -- so may the first that is offered inbound
+  pub in-may : (system : ℕ) (tid : TidOf) → IsFirstIn rules world system tid → may_go_at rules world system Incoming tid ≡ true
+  in-may system tid is = may_go-inbound rules lawful world safe system tid is.up ∙ is.offered
 
 module _ {R A V : Type 0} (meaning : R → Meaning) (lawful : (r : R) → IsLawful (meaning r)) (before after : KeptOf R A V) (system : ℕ)
     (is : IsLandscape meaning (before.world)) where

@@ -1,12 +1,12 @@
 -- Tables that stay in step with a world.
-use Rattle.std.specs.Prelude.{slice_get, slice_set, slice_index_or, drop, is_some, is_none, Result, Ok, Err, OnOk, OnErr}
+use Rattle.std.specs.Prelude.{◌↔◌, IfSome, IsNone, slice_get, slice_set, slice_index_or, drop, is_some, is_none, Result, Ok, Err, OnOk, OnErr}
 use Rattle.std.specs.Result.{is_err}
 use Rattle.std.specs.List.{list_all}
 use Rattle.std.specs.Option.{option_and_then, option_map_or}
 use Rattle.std.proofs.Common.{◌≡◌, ◌≢◌, ℕ, zero, suc, ◌-◌, ◌≤◌, ◌<◌, Bool, true, false, not, cond, ◌==◌, ◌&&◌, Option, Some, None, List, [], ◌∷◌, ◌++◌, length}
 use Rattle.std.proofs.Common.{inl, inr, refl, sym, ap, subst, ◌∙◌, arith}
 use Rattle.std.proofs.lemmas.Bool.{cases_eq, and_parts, and_left, and_right, both_ways, ne_eqb}
-use Rattle.std.proofs.lemmas.Option.{none-some, slice_get_within}
+use Rattle.std.proofs.lemmas.Option.{none-some, same_Some, slice_get_within}
 use Rattle.std.proofs.lemmas.List.{length-set}
 use Rattle.ale_base.specs.Tid.{TidOf, is_tid}
 use Rattle.ale_base.specs.declared.way.Way.{Way}
@@ -18,9 +18,10 @@ use Rattle.unit_core.specs.declared.ale_unit.AleUnit.{AleUnit}
 use Rattle.unit_core.specs.declared.records.Record.{Record}
 use Rattle.unit_core.specs.Queues.{is_listed, unit_named}
 use Rattle.unit_core.proofs.TidLemmas.{unit_named-Some}
+use Rattle.plain_queues.specs.declared.claim.Claim.{Claim}
 use Rattle.plain_queues.specs.declared.queued_unit.QueuedUnit.{QueuedUnit}
 use Rattle.plain_queues.specs.Queues.{QueuesOf, unit_of, claim_of}
-use Rattle.plain_queues.specs.Offered.{is_ready, is_offered, lets_go}
+use Rattle.plain_queues.specs.Offered.{first_offered, is_ready, is_offered, lets_go}
 use Rattle.plain_queues.specs.Changes.{claimed, released}
 use Rattle.plain_queues.specs.LogQueues.{AreQueuesOver, through, queued, units_of, Claims}
 use Rattle.plain_queues.proofs.GoesLemmas.{unit_of-log}
@@ -38,7 +39,7 @@ use Rattle.system_tables.proofs.TablesLemmas.{AreTablesOf-claimed, AreTablesOf-r
 use Rattle.system_tables.proofs.AskingLemmas.{AreTablesOf-queues}
 use Rattle.unit_landscape.specs.Claims.{is_at, claim_at, kind_of, IsClaimed, queues_claimed, tables_claimed}
 use Rattle.unit_landscape.specs.Changed.{ChangedAt}
-use Rattle.unit_landscape.specs.ClaimAnswers.{IsClaimedUnit}
+use Rattle.unit_landscape.specs.ClaimAnswers.{IsClaimedUnit, IsNextUnit}
 use Rattle.unit_landscape.specs.InStep.{AreTablesAt, AreInStep, IsHeldIn}
 use Rattle.unit_landscape.proofs.ClaimsLemmas.{push-other, last-made}
 
@@ -164,6 +165,16 @@ pub ChangedAt-row : {A : Type 0} (Change : A → A → Type 0) (number n : ℕ) 
     → ChangedAt Change (number - 1) xs (slice_set xs (n - 1) new)
 ChangedAt-row Change number n xs old new same at changes =
     subst (λ k. ChangedAt Change (k - 1) xs (slice_set xs (n - 1) new)) same (ChangedAt-set Change (n - 1) xs old new at changes)
+
+-- the unit that is next is the one that is claimed
+pub next-claimed : {A : Type 0} (way : Way) (tid : TidOf) (number : ℕ) (before after : TablesOf A) (result : Option Claim) → IsNextUnit way tid before
+    → IfSome result (λ claim. first_offered (queues_of way before) ≡ Some claim.tid)
+    → IfSome result (λ claim. after ≡ with_queues way (claimed number claim.tid (queues_of way before)) before)
+    → (IsNone result ↔ ((other : TidOf) → is_offered other (queues_of way before) ≡ false)) → IsClaimedUnit way tid number before after
+next-claimed way tid number before after None next first claims none =
+    absurd (both_ways (is_offered tid (queues_of way before)) (none.0 refl tid) next.offered)
+next-claimed way tid number before after (Some claim) next first claims none =
+    claims ∙ ap (λ t. with_queues way (claimed number t (queues_of way before)) before) (same_Some claim.tid tid (sym first ∙ next.first))
 
 -- a change that says more
 pub ChangedAt-weaker : {A : Type 0} (Change Other : A → A → Type 0) (place : ℕ) (before after : List A) → ((x y : A) → Change x y → Other x y)

@@ -14,6 +14,12 @@ pub mod EnteringLemmas
 pub mod OnVolumesLemmas
 -- why each system is down, behind an append and behind a fall
 pub mod CausesLemmas
+-- the sums over all systems are in order, and grow with the logs
+pub mod TotalsLemmas
+-- no event lets a sum fall
+pub mod WorldTotals
+-- what is counted beside the logs is theirs, behind an append and behind a fall
+pub mod CountedLemmas
 -- the tables are in step with the logs: a record that is noted, a system that falls behind it
 pub mod BehindLemmas
 -- how the write of a record ends, by what the journal answered
@@ -36,6 +42,8 @@ pub mod ClaimEndsLemmas
 pub mod JoinsLemmas
 -- how the appending of a record ends
 pub mod EndsLemmas
+-- however a call ends, no sum has fallen
+pub mod CallTotals
 -- the arrival of a unit
 pub mod ArrivingLemmas
 -- the end of a claim's work

@@ -140,7 +140,7 @@ module _ {D : Type 0} (told : Type 0) (volume : D → ℕ → Volume) where
   OnlyAt-same place all = record {
     journals = refl;
     moments = refl;
-    others = λ other differs. record { journal = refl; moments = refl };
+    others = λ other differs. record { journal = refl; moments = refl; rest = refl };
     moment = refl;
   }
 

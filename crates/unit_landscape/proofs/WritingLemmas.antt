@@ -63,9 +63,13 @@ module _ {R A E D : Type 0} (meaning : R → Meaning) (stands : A → List Recor
   abbrev Concluded : Result (Unit {0}) AppendFault → Type 0
   Concluded w = ConcludedAs before entered after system next (ended_by w)
 
-  -- the moments are in order where nothing was noted
-  order : noted ≡ held → AreInOrder (moments_at noted (system - 1))
-  order same = subst (λ j. AreInOrder (moments_at j (system - 1))) (sym same) (kept.on_volumes.order (system - 1))
+  -- the moments are in order where none was noted
+  order : moments_at noted (system - 1) ≡ moments_at held (system - 1) → AreInOrder (moments_at noted (system - 1))
+  order same = subst AreInOrder (sym same) (kept.on_volumes.order (system - 1))
+
+  -- as where nothing was noted, or the moment of a record alone whose write failed
+  moments-left : {all : SystemJournals} → noted ≡ all → moments_at noted (system - 1) ≡ moments_at all (system - 1)
+  moments-left left = ap (λ (j : SystemJournals). moments_at j (system - 1)) left
 
   -- where the journal took the record it is written
   written-ended : (more : List AleUnit) (w : Result (Unit {0}) AppendFault) → Wrote w → Concluded w → IsEntered before entered system next more
@@ -97,38 +101,41 @@ module _ {R A E D : Type 0} (meaning : R → Meaning) (stands : A → List Recor
   stored-ended (Err VolumeFault) wrote concluded in_step = record {
     in_step = in_step;
     on_volumes = subst (λ w. AreOnVolumes told volume new w.systems noted) (sym concluded)
-        (on_volumes-fell told volume old new before.world held noted system (Some next) can.up kept.on_volumes wrote.one (order wrote.err) wrote.others
-        (wrote.torn refl));
+        (on_volumes-fell told volume old new before.world held noted system (Some next) can.up kept.on_volumes wrote.one
+        (order (moments-left wrote.left)) wrote.others (wrote.torn refl));
   }
   stored-ended (Err (FullAt size)) wrote concluded in_step =
+      let same : noted ≡ held = wrote.left in
       let all : kept_of after noted new ≡ kept_of before held old =
-      λ i. kept_of (concluded i) (wrote.err i) (wrote.full_same size refl i) in
+      λ i. kept_of (concluded i) (same i) (wrote.full_same size refl i) in
       subst (IsStored meaning stands told volume) (sym all) kept
   stored-ended (Err OutOfMemory) wrote concluded in_step =
       subst (λ (b : WorldTables R A E). IsStored meaning stands told volume (kept_of b noted new)) (sym concluded)
       (record {
         in_step = kept.in_step;
-        on_volumes = on_volumes-stays told volume old new before.world held noted system can.up kept.on_volumes wrote.one (order wrote.err) wrote.others
-            (wrote.unwritten refl);
+        on_volumes = on_volumes-stays told volume old new before.world held noted system can.up kept.on_volumes wrote.one
+            (order (moments-left wrote.left)) wrote.others (wrote.unwritten refl);
       })
 
   -- the moment of the record stands behind those of its log where it was written
   journals-ended : (w : Result (Unit {0}) AppendFault) → Wrote w → JournalsAs (system - 1) held noted (ended_by w)
   journals-ended (Ok done) wrote = record { one = wrote.one; grown = wrote.grown }
-  journals-ended (Err VolumeFault) wrote = wrote.err
-  journals-ended (Err (FullAt size)) wrote = wrote.err
-  journals-ended (Err OutOfMemory) wrote = wrote.err
+  journals-ended (Err VolumeFault) wrote = wrote.left
+  journals-ended (Err (FullAt size)) wrote = wrote.left
+  journals-ended (Err OutOfMemory) wrote = wrote.left
 
   -- nothing has changed where the volume is full, and where memory ran out nothing but perhaps the volume
   unchanged-ended : (w : Result (Unit {0}) AppendFault) → Wrote w → Concluded w
       → UnchangedAs (kept_of before held old) (kept_of after noted new) (ended_by w)
   unchanged-ended (Ok done) wrote concluded = tt
   unchanged-ended (Err VolumeFault) wrote concluded = tt
-  unchanged-ended (Err (FullAt size)) wrote concluded = λ i. kept_of (concluded i) (wrote.err i) (wrote.full_same size refl i)
+  unchanged-ended (Err (FullAt size)) wrote concluded =
+      let same : noted ≡ held = wrote.left in
+      λ i. kept_of (concluded i) (same i) (wrote.full_same size refl i)
   unchanged-ended (Err OutOfMemory) wrote concluded = (
     ap (λ (b : WorldTables R A E). b.world) concluded,
     ap (λ (b : WorldTables R A E). b.tables) concluded,
-    wrote.err,
+    wrote.left,
   )
 
   -- the volume is told to be full where it is

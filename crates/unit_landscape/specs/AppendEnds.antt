@@ -13,7 +13,7 @@ use Rattle.trfc_protocol.specs.Safe.{AreApart}
 use Rattle.system_tables.specs.Tables.{TablesOf, entered}
 use Rattle.unit_journal.specs.declared.journals.SystemJournals.{SystemJournals}
 use Rattle.unit_journal.specs.OnDisk.{next_moment, moments_at, entries_at, length_with}
-use Rattle.unit_journal.specs.Changes.{OnlyAt}
+use Rattle.unit_journal.specs.Changes.{with_rest, OnlyAt}
 use Rattle.unit_landscape.specs.declared.world_tables.WorldTables.{WorldTables}
 use Rattle.unit_landscape.specs.Changed.{ChangedAt}
 use Rattle.unit_landscape.specs.InStep.{AreInStepWith}
@@ -41,11 +41,12 @@ pub record HasOneMore (place : ℕ) (before after : SystemJournals) : Type 0 whe
   pub one : OnlyAt place before after
   pub grown : moments_at after place ≡ moments_at before place ++ next_moment before place ∷ []
 
--- the moment of a record that was written stands behind those of its log; else the journals are as before
+-- the moment of a record that was written stands behind those of its log; where the volume failed it is kept, since the record may be
+-- found; else the journals are as before
 abbrev pub JournalsAs : {T : Type 0} → ℕ → SystemJournals → SystemJournals → Result T AppendEnd → Type 0
 JournalsAs place before after (Ok done) = HasOneMore place before after
 JournalsAs place before after (Err After) = HasOneMore place before after
-JournalsAs place before after (Err Volume) = after ≡ before
+JournalsAs place before after (Err Volume) = after ≡ with_rest place (next_moment before place) before
 JournalsAs place before after (Err (Full length)) = after ≡ before
 JournalsAs place before after (Err Before) = after ≡ before
 

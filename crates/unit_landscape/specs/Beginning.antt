@@ -8,8 +8,8 @@ use Rattle.trfc_protocol.specs.Worlds.{with_record, with_fall}
 use Rattle.trfc_protocol.specs.Start.{first_state}
 use Rattle.system_tables.specs.Tables.{TablesOf}
 use Rattle.unit_journal.specs.declared.journals.SystemJournals.{SystemJournals}
-use Rattle.unit_journal.specs.OnDisk.{moment_of, moments_at}
-use Rattle.unit_journal.specs.Changes.{OnlyAt}
+use Rattle.unit_journal.specs.OnDisk.{moment_of, moments_at, next_moment}
+use Rattle.unit_journal.specs.Changes.{with_rest, OnlyAt}
 use Rattle.unit_landscape.specs.KeptWorlds.{KeptOf}
 use Rattle.unit_landscape.specs.declared.cause.Cause.TheVariants.{Faulted, Short}
 use Rattle.unit_landscape.specs.Causes.{with_cause}
@@ -40,14 +40,15 @@ pub record Stayed {R A V : Type 0} (before after : KeptOf R A V) : Type 0 where
   pub journals : after.journals ≡ before.journals
   pub causes : after.causes ≡ before.causes
 
--- A system has begun; or its volume failed, and it is down, with its Genesis perhaps on it; or memory was wanting: nothing has changed,
--- or the system is down behind its Genesis.
+-- A system has begun; or its volume failed, and it is down, with its Genesis perhaps on it, whose moment is kept; or memory was wanting:
+-- nothing has changed, or the system is down behind its Genesis.
 abbrev pub BegunAs : {R A V T : Type 0} → KeptOf R A V → KeptOf R A V → ℕ → List ℕ → Result T BeginEnd → Type 0
 BegunAs before after system text (Ok done) =
     (after.world ≡ with_record before.world system (Genesis system text)) × HasFirst (system - 1) before.journals after.journals
     × (after.causes ≡ before.causes)
 BegunAs before after system text (Err Volume) =
-    (after.world ≡ with_fall before.world system (Some (Genesis system text))) × (after.journals ≡ before.journals)
+    (after.world ≡ with_fall before.world system (Some (Genesis system text)))
+    × (after.journals ≡ with_rest (system - 1) (next_moment before.journals (system - 1)) before.journals)
     × (after.causes ≡ with_cause before.causes system Faulted)
 BegunAs before after system text (Err OutOfMemory) =
     Stayed before after

@@ -6,6 +6,8 @@ use Rattle.trfc_protocol.specs.declared.event.Event.TheVariants.{Fall}
 use Rattle.trfc_protocol.specs.Meaning.{Meaning}
 use Rattle.trfc_protocol.specs.RecordOf.{Writing, record_of}
 use Rattle.trfc_protocol.specs.Happens.{happens}
+use Rattle.unit_journal.specs.OnDisk.{next_moment}
+use Rattle.unit_journal.specs.Changes.{with_rest}
 use Rattle.unit_landscape.specs.declared.append_end.AppendEnd.{AppendEnd}
 use Rattle.unit_landscape.specs.declared.append_end.AppendEnd.TheVariants.{Volume, Full, Before, After}
 use Rattle.unit_landscape.specs.KeptWorlds.{KeptOf}
@@ -31,10 +33,11 @@ module _ {R A V : Type 0} (rules : Meaning) (faults : V → ℕ → ℕ) (before
     pub no_faults : NoFaults
     pub causes : after.causes ≡ causes_after e before.causes
 
-  -- a volume failed as it was to take a record that fits: the count of its faults rose, and its system fell by that, and may find the record
+  -- a volume failed as it was to take a record that fits: the count of its faults rose, and its system fell by that, and may find the
+  -- record, whose moment is kept
   pub record Failed (it : Writing) : Type 0 where
     pub world : after.world ≡ happens rules before.world (Fall it.system (Some it.next))
-    pub journals : after.journals ≡ before.journals
+    pub journals : after.journals ≡ with_rest (it.system - 1) (next_moment before.journals (it.system - 1)) before.journals
     pub fits : Fits it
     pub rose : Rose (faults before.vols (it.system - 1)) (faults after.vols (it.system - 1))
     pub others : (place : ℕ) → place ≢ it.system - 1 → faults after.vols place ≡ faults before.vols place

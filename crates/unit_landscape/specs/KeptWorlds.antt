@@ -10,6 +10,8 @@ use Rattle.unit_landscape.specs.declared.world_tables.WorldTables.{WorldTables}
 use Rattle.unit_journal.specs.declared.journals.SystemJournals.{SystemJournals}
 use Rattle.unit_landscape.specs.OnVolumes.{AreOnVolumes}
 use Rattle.unit_landscape.specs.declared.cause.Cause.{Cause}
+use Rattle.unit_landscape.specs.declared.counted.Counted.{Counted}
+use Rattle.unit_landscape.specs.Counted.{AreCounted}
 use Rattle.unit_landscape.specs.Causes.{no_causes, cause_in, AreCausesOf}
 
 -- the world, the tables of its systems, their journals and their volumes
@@ -33,6 +35,14 @@ pub record IsKept {R A V : Type 0} (meaning : R → Meaning) (stands : A → Lis
   pub in_step : AreInStepWith stands meaning kept.world kept.tables
   pub on_volumes : AreOnVolumes told volume kept.vols kept.world.systems kept.journals
   pub causes : AreCausesOf kept.world.systems kept.causes
+
+-- the same, and what is counted beside the logs is theirs
+pub record IsRoom {R A V : Type 0} (meaning : R → Meaning) (stands : A → List Record → Type 0) (told : Type 0) (volume : V → ℕ → Volume)
+    (kept : KeptOf R A V) (counts : Counted) : Type 0 where
+  pub in_step : AreInStepWith stands meaning kept.world kept.tables
+  pub on_volumes : AreOnVolumes told volume kept.vols kept.world.systems kept.journals
+  pub causes : AreCausesOf kept.world.systems kept.causes
+  pub counted : AreCounted kept.world.systems counts
 
 -- a world with its tables, journals and volumes, and no system of which it is told that it is down
 abbrev pub kept_of : {R A E V : Type 0} → WorldTables R A E → SystemJournals → V → KeptOf R A V

@@ -16,6 +16,8 @@ pub mod Entered
 pub mod OnVolumes
 -- why each system is down
 pub mod Causes
+-- how many units the systems received and executed
+pub mod Counted
 -- the world kept with its tables, journals and volumes
 pub mod KeptWorlds
 -- how an append ends

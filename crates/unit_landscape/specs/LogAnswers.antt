@@ -1,5 +1,5 @@
 -- What is answered by the logs and the claims of a world.
-use Rattle.std.specs.Prelude.{List, Option, find, ◌≡◌, ℕ, Bool, true, false, Result, Ok, Err}
+use Rattle.std.specs.Prelude.{List, Option, find, ◌≡◌, ℕ, Bool, false}
 use Rattle.std.specs.Option.{option_map, option_map_or}
 use Rattle.ale_base.specs.Tid.{TidOf}
 use Rattle.ale_base.specs.declared.way.Way.{Way}
@@ -13,8 +13,6 @@ use Rattle.trfc_protocol.specs.declared.held.HeldKind.TheVariants.{Out, In}
 use Rattle.trfc_protocol.specs.declared.world.World.{World}
 use Rattle.trfc_protocol.specs.Meaning.{Meaning}
 use Rattle.trfc_protocol.specs.Worlds.{log_of, committed_by}
-use Rattle.unit_landscape.specs.declared.claim_end.ClaimEnd.{ClaimEnd}
-use Rattle.unit_landscape.specs.declared.claim_end.ClaimEnd.TheVariants.{NotOffered, OutOfMemory}
 use Rattle.unit_landscape.specs.Claims.{claim_at, kind_of}
 use Rattle.unit_landscape.specs.KeptWorlds.{KeptOf}
 
@@ -36,12 +34,6 @@ first_to_go rules world system way =
     option_map (λ (unit : AleUnit). unit.tid)
     (find (may_go way (units_of way (committed_by rules world system) (log_of world system)) (log_of world system) (claim_at (kind_of way) system world.claims))
     (units_of way (committed_by rules world system) (log_of world system)))
-
--- a claim is made where the unit may go, and refused where it may not; memory runs out for one that may go
-abbrev pub IsAnsweredBy : {R T : Type 0} → Meaning → World R → ℕ → Way → TidOf → Result T ClaimEnd → Type 0
-IsAnsweredBy rules world system way tid (Ok made) = may_go_at rules world system way tid ≡ true
-IsAnsweredBy rules world system way tid (Err (NotOffered why)) = may_go_at rules world system way tid ≡ false
-IsAnsweredBy rules world system way tid (Err OutOfMemory) = may_go_at rules world system way tid ≡ true
 
 -- the journals and the volumes are as before
 pub record KeepsDisk {R A V : Type 0} (before after : KeptOf R A V) : Type 0 where

@@ -6,7 +6,8 @@ mod asking;
 
 use crate::adding::add;
 use crate::cause::tell;
-use crate::{AppendEnd, Cause, ClaimEnd, WorldTables};
+use crate::counted::{Adds, Counted};
+use crate::{AppendEnd, Cause, WorldTables};
 use ale_base::{OutOfMemory, SystemNo, Tid, Way};
 use ale_volumes::Volumes;
 use std::alloc::Global;
@@ -24,10 +25,12 @@ pub struct KeptWorld<R: Rules, A: Application, V: Volumes> {
     journals: SystemJournals,
     vols: V,
     causes: [Cause; 16],
+    // No contract sees the counts but by what is asked of them.
+    counted: Counted,
 }
 
 impl<R: Rules, A: Application, V: Volumes> Model for KeptWorld<R, A, V> {
-    ghost use Rattle.unit_landscape.specs.KeptWorlds.{KeptOf, IsKept};
+    ghost use Rattle.unit_landscape.specs.KeptWorlds.{KeptOf, IsRoom};
 
     ghost Value = { KeptOf R A V };
 
@@ -39,13 +42,13 @@ impl<R: Rules, A: Application, V: Volumes> Model for KeptWorld<R, A, V> {
       causes = kept.causes;
     } };
 
-    ghost invariant = { λ kept. IsKept R.meaning A.stands V.told V.volume (record {
+    ghost invariant = { λ kept. IsRoom R.meaning A.stands V.told V.volume (record {
       world = kept.both.world;
       tables = kept.both.tables;
       journals = kept.journals;
       vols = kept.vols;
       causes = kept.causes;
-    }) };
+    }) kept.counted };
 }
 
 impl<R: Rules, A: Application, V: Volumes> KeptWorld<R, A, V> {
@@ -64,8 +67,7 @@ impl<R: Rules, A: Application, V: Volumes> KeptWorld<R, A, V> {
     ghost use Rattle.unit_landscape.specs.InStep.{AreInStepWith};
     ghost use Rattle.unit_journal.specs.OnDisk.{next_moment, moments_at, entries_at};
     ghost use Rattle.unit_journal.specs.Changes.{with_moment};
-    ghost use Rattle.unit_landscape.specs.ClaimAnswers.{IsAnswered};
-    ghost use Rattle.unit_landscape.specs.LogAnswers.{IsAnsweredBy, KeepsVolumes};
+    ghost use Rattle.unit_landscape.specs.LogAnswers.{first_to_go, may_go_at, KeepsVolumes};
     ghost use Rattle.unit_landscape.specs.KeptWorlds.{IsKept, kept_of, cause_at};
     ghost use Rattle.unit_landscape.specs.Causes.{with_cause, told_by, is_of_up};
     ghost use Rattle.unit_landscape.specs.AppendEnds.{AppendedAs, FullAs, JournalsAs, UnchangedAs, IsToAppend};
@@ -80,12 +82,14 @@ impl<R: Rules, A: Application, V: Volumes> KeptWorld<R, A, V> {
         requires { IsKept R.meaning A.stands V.told V.volume (kept_of both journals vols) }
         ensures { result ≡ kept_of both journals vols }
     {
+        let counted = Counted::of(both.world.systems.as_slice());
         KeptWorld {
             alloc,
             both,
             journals,
             vols,
             causes: [Cause::Up; 16],
+            counted,
         }
     }
 
@@ -127,6 +131,7 @@ impl<R: Rules, A: Application, V: Volumes> KeptWorld<R, A, V> {
         ensures others { V.told → KeepsOthers V.volume V.moment V.images_since self.old.vols self.new.vols (system - 1) }
         ensures faults { CountsFault (IsErrOf result AppendEnd.Volume) (V.faults self.old.vols) (V.faults self.new.vols) (system - 1) }
     {
+        let adds = Adds::of(&next);
         let ended = add(
             self.alloc,
             &mut self.both,
@@ -139,6 +144,8 @@ impl<R: Rules, A: Application, V: Volumes> KeptWorld<R, A, V> {
             extra,
         );
         tell(&mut self.causes, system, &ended);
+        let records = self.both.world.log(system).len();
+        self.counted.note(system, adds, records, &ended);
         ended
     }
 
@@ -181,19 +188,24 @@ impl<R: Rules, A: Application, V: Volumes> KeptWorld<R, A, V> {
         self.causes[system.get() as usize - 1]
     }
 
-    /// Claims the unit of an id, which waits in the queues of a direction at a system that is up, and gives the number of the claim.
+    /// Claims the unit of this id, which is the first that may go in a direction at a system that is up, and gives the number of the claim.
     /// After an `Err` nothing has changed.
-    pub(crate) fn claim(&mut self, system: SystemNo, way: Way, tid: Tid) -> Result<u64, ClaimEnd>
+    pub(crate) fn claim_next(
+        &mut self,
+        system: SystemNo,
+        way: Way,
+        tid: Tid,
+    ) -> Result<u64, OutOfMemory>
         requires up { is_up self.old.world system ≡ true }
+        requires one { HaveOneSender way (units_of way (committed_by (R.meaning self.old.world.rules) self.old.world system) (log_of self.old.world system)) }
+        requires first { first_to_go (R.meaning self.old.world.rules) self.old.world system way ≡ Some tid }
+        requires may { may_go_at (R.meaning self.old.world.rules) self.old.world system way tid ≡ true }
         ensures world { IfOk result (λ number. (number ≡ self.old.world.next_number)
             × (self.new.world ≡ with_claim self.old.world tid system (kind_of way))) }
-        ensures answer { HaveOneSender way (units_of way (committed_by (R.meaning self.old.world.rules) self.old.world system) (log_of self.old.world system))
-            → IsAnsweredBy (R.meaning self.old.world.rules) self.old.world system way tid result }
-        ensures why { (its : TablesOf A) → slice_get self.old.tables (system - 1) ≡ Some its → IsAnswered way tid its result }
         ensures err { OnErr result (self.new ≡ self.old) }
         ensures volumes { KeepsVolumes self.old self.new }
     {
-        self.both.claim(system, way, tid)
+        self.both.claim_next(system, way, tid)
     }
 
     /// Claims a unit to be run as it arrives at a system, and gives the number of the claim. After an `Err` nothing has changed.

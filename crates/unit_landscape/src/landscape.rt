@@ -47,6 +47,7 @@ impl<R: Rules, A: Application, V: Volumes> UnitLandscape<R, A, V> {
     ghost use Rattle.unit_journal.specs.OnDisk.{moments_at};
     ghost use Rattle.unit_journal.specs.Changes.{with_moment};
     ghost use Rattle.unit_landscape.specs.KeptWorlds.{IsKept, cause_at};
+    ghost use Rattle.unit_landscape.specs.Counted.{committed_total, received_total, executed_total, AreInOrder};
     ghost use Rattle.unit_landscape.specs.Kept.{IsLandscape};
     ghost use Rattle.unit_landscape.specs.Tables.{AreTablesUp};
 
@@ -86,6 +87,22 @@ impl<R: Rules, A: Application, V: Volumes> UnitLandscape<R, A, V> {
         ensures { result ≡ cause_at self.now system }
     {
         self.kept.cause(system)
+    }
+
+    /// How many units the systems committed, received and executed: each together, those that are down too. It takes no memory, and a time
+    /// by the number of the systems alone.
+    pub fn counts(&self) -> (u64, u64, u64)
+        ensures committed { result.0 ≡ committed_total (R.meaning self.now.world.rules) self.now.world }
+        ensures received { result.1 ≡ received_total (R.meaning self.now.world.rules) self.now.world }
+        ensures executed { result.2 ≡ executed_total (R.meaning self.now.world.rules) self.now.world }
+        ensures order { AreInOrder (R.meaning self.now.world.rules) self.now.world }
+    {
+        let _ = self.kept.world();
+        (
+            self.kept.committed(),
+            self.kept.received(),
+            self.kept.executed(),
+        )
     }
 
     /// The unit of this id, as its sender committed it, in constant time. None exactly where it committed none.

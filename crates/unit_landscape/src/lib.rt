@@ -20,8 +20,8 @@ mod append_end;
 mod appending;
 mod beginning;
 mod cause;
-mod claim_end;
 mod claims;
+mod counted;
 mod kept_world;
 mod landscape;
 mod letting_go;
@@ -36,7 +36,6 @@ pub use answers::{
 pub use append_end::AppendEnd;
 pub use beginning::{BeginEnd, MOST_TEXT, begin, begun};
 pub use cause::Cause;
-pub(crate) use claim_end::ClaimEnd;
 pub use claims::{InClaim, OutClaim, Receipt};
 pub use kept_world::KeptWorld;
 pub use landscape::UnitLandscape;

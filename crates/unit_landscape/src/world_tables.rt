@@ -2,19 +2,16 @@
 
 ghost use Rattle.std.specs.Prelude.{◌≡◌, ◌≤◌, ◌-◌, length, slice_get, Some, true, OnOk, OnErr};
 ghost use Rattle.std.specs.Option.{option_copied};
-ghost use Rattle.plain_queues.specs.Offered.{is_offered, why_not};
 ghost use Rattle.trfc_protocol.specs.Worlds.{last_of};
-ghost use Rattle.system_tables.specs.Tables.{TablesOf, entered, left, queues_of};
+ghost use Rattle.system_tables.specs.Tables.{TablesOf, entered, left};
 ghost use Rattle.system_tables.specs.Noted.{Noted};
 ghost use Rattle.system_tables.specs.CanNote.{CanNote};
 ghost use Rattle.unit_landscape.specs.Changed.{ChangedAt};
 ghost use Rattle.unit_landscape.specs.Claims.{kind_of};
-ghost use Rattle.unit_landscape.specs.ClaimAnswers.{IsClaimedUnit};
+ghost use Rattle.unit_landscape.specs.ClaimAnswers.{IsClaimedUnit, IsNextUnit};
 
-use crate::ClaimEnd;
 use crate::letting_go::{let_all_go, let_go};
 use ale_base::{Items, OutOfMemory, SystemNo, Tid, Way};
-use plain_queues::NotOffered;
 use std::alloc::Global;
 use std::mem;
 use system_tables::{Application, SystemTables};
@@ -44,7 +41,7 @@ impl<R: Rules, A: Application> WorldTables<R, A> {
     ghost use Rattle.unit_landscape.specs.InStep.{AreInStep, AreInStepWith};
     ghost use Rattle.unit_landscape.specs.Joining.{without_named};
     ghost use Rattle.unit_landscape.specs.Noting.{IsToNote};
-    ghost use Rattle.unit_landscape.specs.ClaimAnswers.{IsAnswered};
+    ghost use Rattle.unit_landscape.specs.ClaimAnswers.{IsNextUnit};
 
     /// A record joins the log of a system, and the units that it commits join its table of units, before the record is written.
     /// After an `Err` all is as before.
@@ -126,29 +123,26 @@ impl<R: Rules, A: Application> WorldTables<R, A> {
         Ok(())
     }
 
-    /// Claims the unit of an id, which waits in the queues of a direction at a system, and gives the number of the claim. After an
-    /// `Err` nothing has changed.
-    pub(crate) fn claim(&mut self, system: SystemNo, way: Way, tid: Tid) -> Result<u64, ClaimEnd>
+    /// Claims the unit of this id, which is next in a direction at a system, and gives the number of the claim. After an `Err` nothing has
+    /// changed.
+    pub(crate) fn claim_next(
+        &mut self,
+        system: SystemNo,
+        way: Way,
+        tid: Tid,
+    ) -> Result<u64, OutOfMemory>
         requires up { is_up self.old.world system ≡ true }
         requires in_step { AreInStepWith A.stands R.meaning self.old.world self.old.tables }
+        requires next { (its : TablesOf A) → slice_get self.old.tables (system - 1) ≡ Some its → IsNextUnit way tid its }
         ensures world { IfOk result (λ number. (number ≡ self.old.world.next_number)
             × (self.new.world ≡ with_claim self.old.world tid system (kind_of way))) }
-        ensures answer { (its : TablesOf A) → slice_get self.old.tables (system - 1) ≡ Some its → IsAnswered way tid its result }
         ensures err { OnErr result (self.new ≡ self.old) }
         ensures in_step { AreInStepWith A.stands R.meaning self.new.world self.new.tables }
     {
         let number = self.world.next_number;
-        match why_not(&self.tables, system, way, tid) {
-            Some(why) => return Err(ClaimEnd::NotOffered(why)),
-            None => {}
-        }
-        match self.world.claim(tid, system, kind_of(way)) {
-            Ok(()) => {
-                claim_unit(&mut self.tables, system, way, tid, number);
-                Ok(number)
-            }
-            Err(_) => Err(ClaimEnd::OutOfMemory),
-        }
+        self.world.claim(tid, system, kind_of(way))?;
+        claim_next(&mut self.tables, system, way, tid, number);
+        Ok(number)
     }
 
     /// Claims a unit to be run as it arrives at a system. No table knows of such a claim. After an `Err` nothing has changed.
@@ -275,21 +269,8 @@ fn note_at<A: Application>(
     tables.at_mut(at).note(alloc, next, more, claim, extra)
 }
 
-/// Why a unit is not offered at a system: the first reason that applies.
-fn why_not<A: Application>(
-    tables: &Items<SystemTables<A>>,
-    system: SystemNo,
-    way: Way,
-    tid: Tid,
-) -> Option<NotOffered>
-    requires { system ≤ length tables.now }
-    ensures { (its : TablesOf A) → slice_get tables.now (system - 1) ≡ Some its → result ≡ why_not tid (queues_of way its) }
-{
-    tables[system.get() as usize - 1].why_not(way, tid)
-}
-
-/// A unit that is offered is claimed in the queues of a system.
-fn claim_unit<A: Application>(
+/// The unit that is next in a direction is claimed in the queues of a system; it is the one of this id.
+fn claim_next<A: Application>(
     tables: &mut Items<SystemTables<A>>,
     system: SystemNo,
     way: Way,
@@ -297,12 +278,10 @@ fn claim_unit<A: Application>(
     number: u64,
 )
     requires within { system ≤ length tables.old }
-    requires offered { (its : TablesOf A) → slice_get tables.old (system - 1) ≡ Some its → is_offered tid (queues_of way its) ≡ true }
+    requires next { (its : TablesOf A) → slice_get tables.old (system - 1) ≡ Some its → IsNextUnit way tid its }
     ensures { ChangedAt (IsClaimedUnit way tid number) (system - 1) tables.old tables.new }
 {
+    let _tid = tid;
     let at = system.get() as usize - 1;
-    if tables.at_mut(at).claim(way, tid, number).is_err() {
-        // The unit is offered.
-        unreachable!()
-    }
+    let _claim = tables.at_mut(at).claim_next(way, number);
 }

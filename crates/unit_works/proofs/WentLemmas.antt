@@ -22,8 +22,8 @@ use Rattle.trfc_protocol.proofs.EventLemmas.{Safe-step}
 use Rattle.trfc_protocol.proofs.RecordLemmas.{MayWrite-record}
 use Rattle.trfc_protocol.proofs.WorldLemmas.{is_up-known, state_of-least, state_of-most}
 use Rattle.unit_journal.specs.declared.journals.SystemJournals.{SystemJournals}
-use Rattle.unit_journal.specs.Changes.{OnlyAt}
-use Rattle.unit_journal.specs.OnDisk.{last_moment, later, moment_of, moments_at, next_moment}
+use Rattle.unit_journal.specs.Changes.{with_rest, OnlyAt}
+use Rattle.unit_journal.specs.OnDisk.{last_moment, later, moment_of, moments_at, next_moment, rest_at}
 use Rattle.unit_landscape.specs.AppendEnds.{HasOneMore}
 use Rattle.unit_landscape.specs.KeptWorlds.{KeptOf, cause_at}
 use Rattle.unit_landscape.specs.declared.cause.Cause.{Cause}
@@ -172,7 +172,7 @@ module _ {R A V : Type 0} (meaning : R → Meaning) (faults : V → ℕ → ℕ)
     moments = λ place. (0, refl);
     counts = λ place. inl (omega arith);
     unharmed = λ system least up. refl;
-    stays = λ system least down. record { down = down; rest = refl; log = refl; moments = refl; moment = refl; cause = refl };
+    stays = λ system least down. record { down = down; rest = refl; log = refl; moments = refl; moment = refl; rest_moment = refl; cause = refl };
     falls = λ is system up down. absurd (both_ways (is_up kept.world system) down up);
   }
 
@@ -227,6 +227,7 @@ module _ {R A V : Type 0} (meaning : R → Meaning) (faults : V → ℕ → ℕ)
           log = two.log ∙ one.log;
           moments = two.moments ∙ one.moments;
           moment = two.moment ∙ one.moment;
+          rest_moment = two.rest_moment ∙ one.rest_moment;
           cause = two.cause ∙ one.cause;
         };
     falls = λ is system up down. elim (cases_Bool (is_up between.world system)) [
@@ -260,15 +261,55 @@ module _ {R A V : Type 0} (meaning : R → Meaning) (faults : V → ℕ → ℕ)
 
 -- ---- what became of an event
 
--- the moments of the logs of other systems are as they were
-still-other : (before after : SystemJournals) (place other : ℕ) → OnlyAt place before after → other ≢ place
-    → (moments_at after other ≡ moments_at before other) × (next_moment after other ≡ next_moment before other)
+-- what is kept of the moments of a log is as it was
+record AreStill (before after : SystemJournals) (place : ℕ) : Type 0 where
+  moments : moments_at after place ≡ moments_at before place
+  next : next_moment after place ≡ next_moment before place
+  rest : rest_at after place ≡ rest_at before place
+
+-- so it is where the journals are as they were
+still-same : (before after : SystemJournals) (place : ℕ) → after ≡ before → AreStill before after place
+still-same before after place same = record {
+  moments = ap (λ (j : SystemJournals). moments_at j place) same;
+  next = ap (λ (j : SystemJournals). next_moment j place) same;
+  rest = ap (λ (j : SystemJournals). rest_at j place) same;
+}
+
+-- and at other places than that of a call
+still-other : (before after : SystemJournals) (place other : ℕ) → OnlyAt place before after → other ≢ place → AreStill before after other
 still-other before after place other only differs =
-    let same = only.others other differs in (
-      ap (λ moments. unwrap_or moments []) same.moments,
-      ap (λ m. later m (last_moment (unwrap_or (slice_get after.moments other) []))) only.moment
-          ∙ ap (λ moments. later before.moment (last_moment (unwrap_or moments []))) same.moments,
-    )
+    let same = only.others other differs in
+    record {
+      moments = ap (λ moments. unwrap_or moments []) same.moments;
+      next = ap (λ m. later m (last_moment (unwrap_or (slice_get after.moments other) []))) only.moment
+          ∙ ap (λ moments. later before.moment (last_moment (unwrap_or moments []))) same.moments;
+      rest = same.rest;
+    }
+
+-- no moment of a log has changed, and no other one that is kept but of a record at one place whose write failed
+record NoneNoted (place : ℕ) (before after : SystemJournals) : Type 0 where
+  set : moment_of after ≡ moment_of before
+  moments : (other : ℕ) → moments_at after other ≡ moments_at before other
+  others : (other : ℕ) → other ≢ place → AreStill before after other
+
+none-noted-same : (place : ℕ) (before after : SystemJournals) → after ≡ before → NoneNoted place before after
+none-noted-same place before after same = record {
+  set = ap (λ (j : SystemJournals). moment_of j) same;
+  moments = λ other. ap (λ (j : SystemJournals). moments_at j other) same;
+  others = λ other differs. still-same before after other same;
+}
+
+none-noted-rest : (place : ℕ) (moment : Option ℕ) (before after : SystemJournals) → after ≡ with_rest place moment before
+    → NoneNoted place before after
+none-noted-rest place moment before after left = record {
+  set = ap (λ (j : SystemJournals). moment_of j) left;
+  moments = λ other. ap (λ (j : SystemJournals). moments_at j other) left;
+  others = λ other differs. record {
+    moments = ap (λ (j : SystemJournals). moments_at j other) left;
+    next = ap (λ (j : SystemJournals). next_moment j other) left;
+    rest = ap (λ (j : SystemJournals). rest_at j other) left ∙ get_or-set_other before.rests place other moment None differs;
+  };
+}
 
 module _ {R A V : Type 0} (meaning : R → Meaning) (lawful : (r : R) → IsLawful (meaning r)) (faults : V → ℕ → ℕ) (may : Event → Bool)
     (before after : KeptOf R A V)
@@ -284,15 +325,14 @@ module _ {R A V : Type 0} (meaning : R → Meaning) (lawful : (r : R) → IsLawf
       both_ways (is_up before.world system) (sym (ap (is_up before.world) equal) ∙ down) up
 
   same-state : (other : ℕ) → is_up before.world other ≡ false → state_of after.world.systems other ≡ state_of before.world.systems other
-      → moments_at after.journals (other - 1) ≡ moments_at before.journals (other - 1)
-      → next_moment after.journals (other - 1) ≡ next_moment before.journals (other - 1) → cause_at after other ≡ cause_at before other
-      → StaysDown before after other
-  same-state other down state moments moment cause = record {
+      → AreStill before.journals after.journals (other - 1) → cause_at after other ≡ cause_at before other → StaysDown before after other
+  same-state other down state still cause = record {
     down = ap up_or_not state ∙ down;
     rest = ap rest_or_none state;
     log = ap log_or_none state;
-    moments = moments;
-    moment = moment;
+    moments = still.moments;
+    moment = still.next;
+    rest_moment = still.rest;
     cause = cause;
   }
 
@@ -305,18 +345,11 @@ module _ {R A V : Type 0} (meaning : R → Meaning) (lawful : (r : R) → IsLawf
   other-cause system cause up told other least down =
       ap (λ all. cause_in all other) told ∙ get_or-set_other before.causes (system - 1) (other - 1) cause Up (places-differ system other up least down)
 
-  same-journals : after.journals ≡ before.journals → (other : ℕ)
-      → (moments_at after.journals (other - 1) ≡ moments_at before.journals (other - 1))
-      × (next_moment after.journals (other - 1) ≡ next_moment before.journals (other - 1))
-  same-journals same other = (ap (λ (j : SystemJournals). moments_at j (other - 1)) same, ap (λ (j : SystemJournals). next_moment j (other - 1)) same)
-
   -- a record leaves the journals of systems that are down
   moments-still : (e : Event) (found : Option Writing) → record_of (meaning before.world.rules) before.world e ≡ found
       → MomentsAs before.journals after.journals found
-      → (other : ℕ) → 1 ≤ other → is_up before.world other ≡ false
-      → (moments_at after.journals (other - 1) ≡ moments_at before.journals (other - 1))
-      × (next_moment after.journals (other - 1) ≡ next_moment before.journals (other - 1))
-  moments-still e None writes same other least down = same-journals same other
+      → (other : ℕ) → 1 ≤ other → is_up before.world other ≡ false → AreStill before.journals after.journals (other - 1)
+  moments-still e None writes same other least down = still-same before.journals after.journals (other - 1) same
   moments-still e (Some it) writes more other least down =
       let up = (MayWrite-record (meaning before.world.rules) (lawful before.world.rules) before.world is.safe e it writes).up in
       still-other before.journals after.journals (it.system - 1) (other - 1) more.one (places-differ it.system other up least down)
@@ -370,7 +403,7 @@ module _ {R A V : Type 0} (meaning : R → Meaning) (lawful : (r : R) → IsLawf
         let journals = moments-still e (record_of (meaning before.world.rules) before.world e) refl did.moments other least down in
         same-state other down
         (ap (λ (w : World R). state_of w.systems other) did.world
-        ∙ step-down (meaning before.world.rules) (lawful before.world.rules) before.world is.safe e step other down) journals.0 journals.1
+        ∙ step-down (meaning before.world.rules) (lawful before.world.rules) before.world is.safe e step other down) journals
         (same-cause (did.causes ∙ quiet-step e before.causes step) other);
     falls = λ is_whole other up down.
         absurd (both_ways (is_up before.world other)
@@ -392,8 +425,8 @@ module _ {R A V : Type 0} (meaning : R → Meaning) (lawful : (r : R) → IsLawf
     unharmed = λ other least up. did.no_faults (other - 1);
     counts = counted-same did.no_faults;
     stays = λ other least down.
-        let journals = same-journals did.journals other in
-        same-state other down (ap (λ (w : World R). state_of w.systems other) did.world) journals.0 journals.1 (same-cause did.causes other);
+        same-state other down (ap (λ (w : World R). state_of w.systems other) did.world)
+        (still-same before.journals after.journals (other - 1) did.journals) (same-cause did.causes other);
     falls = λ is_whole other up down. absurd (both_ways (is_up before.world other) (sym (ap (λ (w : World R). is_up w other) did.world) ∙ down) up);
   }
 
@@ -401,7 +434,7 @@ module _ {R A V : Type 0} (meaning : R → Meaning) (lawful : (r : R) → IsLawf
     -- a system fell
     one-fall : (whole : Bool) (system : ℕ) (rest : Option Record) → is_works_rest rest ≡ true → is_up before.world system ≡ true
         → after.world ≡ happens (meaning before.world.rules) before.world (Fall system rest) → after.world ≡ with_fall before.world system rest
-        → after.journals ≡ before.journals
+        → NoneNoted (system - 1) before.journals after.journals
         → ((other : ℕ) → 1 ≤ other → is_up before.world other ≡ false → cause_at after other ≡ cause_at before other)
         → ((place : ℕ) → HasNotFallen (faults before.vols place) (faults after.vols place))
         → ((other : ℕ) → 1 ≤ other → is_up after.world other ≡ true → faults after.vols (other - 1) ≡ faults before.vols (other - 1))
@@ -416,14 +449,13 @@ module _ {R A V : Type 0} (meaning : R → Meaning) (lawful : (r : R) → IsLawf
       committed = by-rules (Safe-step meaning lawful before.world after.world (Fall system rest) is.safe world).0
           (λ tid. ap (λ (w : World R). committed_unit (meaning before.world.rules) w tid) fall
           ∙ fall-committed before.world system up rest (meaning before.world.rules) tid);
-      moment = ap (λ (j : SystemJournals). moment_of j) journals;
-      moments = λ place. (0, ap (λ (j : SystemJournals). moments_at j place) journals);
+      moment = journals.set;
+      moments = λ place. (0, journals.moments place);
       unharmed = unharmed;
       counts = counts;
       stays = λ other least down.
-          let same = same-journals journals other in
-          same-state other down (ap (λ (w : World R). state_of w.systems other) fall ∙ fall-down before.world system up rest other down) same.0 same.1
-          (causes other least down);
+          same-state other down (ap (λ (w : World R). state_of w.systems other) fall ∙ fall-down before.world system up rest other down)
+          (journals.others (other - 1) (places-differ system other up least down)) (causes other least down);
       falls = λ is_whole other was down.
           let its : other ≡ system = fall-only before.world system up rest other was (sym (ap (λ (w : World R). is_up w other) fall) ∙ down) in
           subst (λ s. HasCause meaning faults before after s (rest_of after.world s)) (sym its)
@@ -501,10 +533,12 @@ module _ {R A V : Type 0} (meaning : R → Meaning) (lawful : (r : R) → IsLawf
           | inl failed ↦
               one-fall whole it.system (Some it.next) (works-of e it step did.1) up failed.world
               (fell-failed meaning lawful faults before after is e did failed)
-              failed.journals (other-cause it.system Faulted up failed.causes) (failed-counts it failed)
+              (none-noted-rest (it.system - 1) (next_moment before.journals (it.system - 1)) before.journals after.journals failed.journals)
+              (other-cause it.system Faulted up failed.causes) (failed-counts it failed)
               (failed-unharmed it up failed (fell-failed meaning lawful faults before after is e did failed)) (failed-risen it failed, failed.told)
           | inr full ↦
-              one-fall whole it.system None refl up full.world (fell-full meaning lawful faults before after is e did full) full.journals
+              one-fall whole it.system None refl up full.world (fell-full meaning lawful faults before after is e did full)
+              (none-noted-same (it.system - 1) before.journals after.journals full.journals)
               (other-cause it.system (Overran full.size) up full.causes)
               (λ place. inl (omega (arith, ap (λ (vols : V). faults vols place) full.vols)))
               (λ other least still. ap (λ (vols : V). faults vols (other - 1)) full.vols)
@@ -545,7 +579,7 @@ module _ {R A V : Type 0} (meaning : R → Meaning) (lawful : (r : R) → IsLawf
               same-state other down
               (ap (λ (w : World R). state_of w.systems other) fall
               ∙ fall-down between it.system still None other (step-up rules law before.world is.safe e step other ∙ down)
-              ∙ step-down rules law before.world is.safe e step other down) journals.0 journals.1 (other-cause it.system Short up did.causes other least down);
+              ∙ step-down rules law before.world is.safe e step other down) journals (other-cause it.system Short up did.causes other least down);
           falls = λ is_whole. absurd (cc);
         }
 

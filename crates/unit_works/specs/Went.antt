@@ -11,7 +11,7 @@ use Rattle.trfc_protocol.specs.Happens.{run}
 use Rattle.trfc_protocol.specs.Meaning.{Meaning}
 use Rattle.trfc_protocol.specs.Legal.{may_follow}
 use Rattle.trfc_protocol.specs.Worlds.{committed_unit, is_up, log_of, rest_of}
-use Rattle.unit_journal.specs.OnDisk.{last_moment, later, moment_of, moments_at, next_moment}
+use Rattle.unit_journal.specs.OnDisk.{last_moment, later, moment_of, moments_at, next_moment, rest_at}
 use Rattle.unit_landscape.specs.declared.cause.Cause.TheVariants.{Faulted, Overran}
 use Rattle.unit_landscape.specs.KeptWorlds.{KeptOf, cause_at}
 use Rattle.unit_landscape.specs.Writes.{IsTooLong}
@@ -42,13 +42,14 @@ module _ {R A V : Type 0} (meaning : R → Meaning) (faults : V → ℕ → ℕ)
   HasCause (Some next) = HasRisen (faults before.vols (system - 1)) (faults after.vols (system - 1)) × (cause_at after system ≡ Faulted)
   HasCause None = IsUnfit
 
--- a system is down as it was before, with its log and the moments of that, what it may find, and why it is down
+-- a system is down as it was before, with its log and the moments of that, what it may find and with which moment, and why it is down
 pub record StaysDown {R A V : Type 0} (before after : KeptOf R A V) (system : ℕ) : Type 0 where
   pub down : is_up after.world system ≡ false
   pub rest : rest_of after.world system ≡ rest_of before.world system
   pub log : log_of after.world system ≡ log_of before.world system
   pub moments : moments_at after.journals (system - 1) ≡ moments_at before.journals (system - 1)
   pub moment : next_moment after.journals (system - 1) ≡ next_moment before.journals (system - 1)
+  pub rest_moment : rest_at after.journals (system - 1) ≡ rest_at before.journals (system - 1)
   pub cause : cause_at after system ≡ cause_at before system
 
 -- each log is the one before with records behind it that works append

@@ -8,7 +8,6 @@ use document_state::ModelRules;
 use plain_law::Logs;
 use said_models::Readings;
 use std::alloc::Global;
-use std::sync::Arc;
 use trfc_protocol::{Rules, is_legal};
 use unit_codec::Entry;
 use unit_core::{AleUnit, Record};
@@ -75,12 +74,10 @@ fn rules_of(alloc: Global, logs: &[Items<Record>]) -> Result<Option<ModelRules>,
     let Some(Record::Genesis { text, .. }) = logs[0].get(0) else {
         return Ok(None);
     };
-    let mut readings = Readings::new(alloc);
-    let Some(model) = readings.model(alloc, text.as_slice())? else {
-        return Ok(None);
-    };
-    readings.enter(text.clone()?, model)?;
-    Ok(Some(ModelRules::new(Arc::new(alloc, readings)?, logs.len() as u8)))
+    match Readings::new(alloc).model(alloc, text.as_slice())? {
+        Some(_) => Ok(Some(ModelRules::new(logs.len() as u8))),
+        None => Ok(None),
+    }
 }
 
 /// The units that each system committed. None where a log is not legal.

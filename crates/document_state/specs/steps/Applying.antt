@@ -5,7 +5,7 @@ use Rattle.std.specs.Option.{option_map_or}
 use Rattle.dist_model.specs.declared.lists.Lists.{Lists}
 use Rattle.unit_core.specs.declared.ale_unit.AleUnit.{AleUnit}
 use Rattle.unit_core.specs.declared.records.Record.{Record}
-use Rattle.unit_core.specs.declared.records.Record.TheVariants.{Direct, Execute, Model}
+use Rattle.unit_core.specs.declared.records.Record.TheVariants.{Commit, Dispatch, Direct, Execute, Model}
 use Rattle.unit_core.specs.Queues.{unit_named}
 use Rattle.said_models.specs.Said.{said}
 use Rattle.outbound_build.specs.declared.added.Added.{Added}
@@ -15,8 +15,7 @@ use Rattle.inbound_post.specs.declared.prepared.DocPosting.{DocPosting}
 use Rattle.inbound_post.specs.Prepared.{prepared}
 use Rattle.inbound_post.specs.Application.{Application, application_after, pointers_under}
 use Rattle.document_state.specs.declared.made.Made.{Made}
-use Rattle.document_state.specs.declared.made.Made.TheVariants.{Nothing, Sent, Postings, Executed}
-use Rattle.document_state.specs.Made.{is_noted_alone}
+use Rattle.document_state.specs.declared.made.Made.TheVariants.{Nothing, Brought, Sent, Postings, Executed}
 
 -- the model in force behind a text, by whether there was one before it and the model in force there: what it says, unless a text before
 -- is not known
@@ -42,6 +41,14 @@ abbrev pub AddsAs : Made → Added → Type 0
 AddsAs (Sent made) added = added ≡ made
 AddsAs _ added = added ≡ no_more
 
+-- whether a record neither takes documents from elsewhere nor adds any
+abbrev pub is_plain : Record → Bool
+is_plain (Commit origin docs) = false
+is_plain Dispatch = false
+is_plain (Direct unit) = false
+is_plain (Execute tid) = false
+is_plain _ = true
+
 -- what was made goes with a record, as far as the application is concerned
 abbrev pub MadeUnder : Option Lists → ℕ → Application → Record → Made → Type 0
 MadeUnder found system application next (Sent added) = IsTrue (adds_any next)
@@ -49,5 +56,6 @@ MadeUnder found system application (Direct unit) (Postings postings) = postings 
 MadeUnder found system application (Execute tid) (Executed unit postings) =
     ((model : Lists) → found ≡ Some model → unit_named tid application.received ≡ Some (arc_value unit))
     × (postings ≡ postings_under found system (arc_value unit))
-MadeUnder found system application next Nothing = IsTrue (is_noted_alone next)
+MadeUnder found system application next Nothing = IsTrue (is_plain next)
+MadeUnder found system application next (Brought model) = IsTrue (is_plain next)
 MadeUnder found system application next made = ⊥

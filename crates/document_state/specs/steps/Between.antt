@@ -9,7 +9,10 @@ use Rattle.outbound_build.specs.Tables.{AreTablesOf as AreSent}
 use Rattle.inbound_post.specs.Tables.{AreTablesOf as AreApplied}
 use Rattle.document_state.specs.declared.document_tables.DocumentTables.{DocumentTables}
 use Rattle.document_state.specs.OfLog.{sent_by, applied_by}
-use Rattle.document_state.specs.steps.Applying.{applied_under}
+use Rattle.document_state.specs.declared.made.Made.{Made}
+use Rattle.document_state.specs.declared.made.Made.TheVariants.{Nothing, Brought}
+use Rattle.document_state.specs.Made.{GoesWith}
+use Rattle.document_state.specs.steps.Applying.{applied_under, is_plain}
 
 -- the model in force is that of the log; the outbound side and the application have the record
 pub record IsBetween (log : List Record) (next : Record) (tables : DocumentTables) : Type 0 where
@@ -17,3 +20,9 @@ pub record IsBetween (log : List Record) (next : Record) (tables : DocumentTable
   pub model : option_map arc_value tables.model ≡ model_of log
   pub sent : AreSent (sent_by (log ++ next ∷ [])) tables.outbound
   pub applied : AreApplied (applied_under (model_of log) (applied_by log).system (applied_by log).application next) tables.inbound
+
+-- what was made goes with a record under the model before it; nothing needs to go with one that neither takes documents nor adds any
+abbrev pub GoesUnder : List Record → Record → Made → Type 0
+GoesUnder log next Nothing = IsTrue (is_plain next)
+GoesUnder log next (Brought model) = ⊥
+GoesUnder log next made = GoesWith log next made

@@ -3,36 +3,54 @@
 ghost use Rattle.std.specs.Prelude.{◌≡◌};
 
 use super::Landscape;
-use crate::counts::Counts;
+use crate::counts::{Counts, Sums};
 use ale_base::SystemNo;
 use ale_volumes::Volumes;
 
 impl<V: Volumes> Landscape<V> {
-    ghost use Rattle.landscape.specs.Counted.{counts_at, counts_to};
+    ghost use Rattle.document_state.specs.Meaning.{model_meaning};
+    ghost use Rattle.unit_landscape.specs.Counted.{committed_total, received_total, executed_total, AreInOrder};
+    ghost use Rattle.landscape.specs.Counted.{held_by, sums_to};
 
-    /// How much the logs of the systems that are up hold, together. It goes through each of these logs once; no command asks for it.
-    #[tactic(auto, unfolding(crate::specs::Counted::counts_to))]
-    pub fn counts(&self) -> Counts
-        ensures { result ≡ counts_to self.now.world SystemNo.MAX }
+    /// How many units the systems committed, received and executed: each together, those that are down too. It takes no memory, and a time
+    /// by the number of the systems alone.
+    pub fn counts(&self) -> (u64, u64, u64)
+        ensures committed { result.0 ≡ committed_total (model_meaning self.now.world.rules.systems) self.now.world }
+        ensures received { result.1 ≡ received_total (model_meaning self.now.world.rules.systems) self.now.world }
+        ensures executed { result.2 ≡ executed_total (model_meaning self.now.world.rules.systems) self.now.world }
+        ensures order { AreInOrder (model_meaning self.now.world.rules.systems) self.now.world }
     {
-        let mut all = Counts::of_units(0);
+        self.units.counts()
+    }
+
+    /// How much the logs of all systems hold, of those that are down too. It goes through each log once; no command asks for it.
+    pub fn held(&self) -> Counts
+        ensures { result ≡ held_by self.now.world }
+    {
+        let sums = self.sums();
+        let (units, received, executed) = self.counts();
+        Counts {
+            masters: sums.masters,
+            units,
+            received,
+            executed,
+            ended: sums.ended,
+        }
+    }
+
+    /// What is counted by a walk through all logs.
+    #[tactic(auto, unfolding(crate::specs::Counted::sums_to))]
+    fn sums(&self) -> Sums
+        ensures { result ≡ sums_to self.now.world SystemNo.MAX }
+    {
+        let mut all = Sums::none();
         for number in 0..SystemNo::MAX {
             let Some(system) = SystemNo::of(number + 1) else {
                 // Each number from 1 to 16 is that of a system.
                 unreachable!()
             };
-            all = all.with(self.counts_at(system));
+            all = all.with(Sums::of_log(self.units.log(system)));
         }
         all
-    }
-
-    /// How much the log of a system holds; nothing where it is down.
-    fn counts_at(&self, system: SystemNo) -> Counts
-        ensures { result ≡ counts_at self.now.world system }
-    {
-        match self.shown_by(system) {
-            None => Counts::of_units(0),
-            Some(tables) => Counts::of_log(tables.count() as u64, self.units.log(system)),
-        }
     }
 }

@@ -1,6 +1,6 @@
 //! A landscape is opened over volumes that are empty: each volume is opened, and then each system begins with its Genesis.
 
-ghost use Rattle.std.specs.Prelude.{◌≡◌, ◌≤◌, ◌<◌, ℕ, suc, List, [], Option, Some, OnOk, length, slice_get};
+ghost use Rattle.std.specs.Prelude.{◌≡◌, ◌≤◌, ◌<◌, ℕ, suc, [], Option, Some, List, OnOk, length, slice_get};
 ghost use Rattle.std.specs.Arc.{arc_value};
 ghost use Rattle.said_models.specs.Said.{said};
 ghost use Rattle.unit_core.specs.declared.records.Record.TheVariants.{Genesis};
@@ -16,7 +16,6 @@ use ale_base::{Items, OutOfMemory, SystemNo};
 use ale_volumes::Volumes;
 use dist_model::Model;
 use document_state::{DocumentTables, Made, ModelRules};
-use said_models::Readings;
 use std::alloc::Global;
 use std::sync::Arc;
 use unit_landscape::{BeginEnd, KeptWorld, NotOpened, Opening, begin, begun};
@@ -56,51 +55,30 @@ impl<V: Volumes> Landscape<V> {
         ensures volumes { V.told → LeavesOpening V.volume (length (arc_value model).systems) text moment vols (vols_after result) V.moment V.images_since }
     {
         let systems = model.as_lists().systems.len() as u8;
-        let readings = match readings_of(alloc, &text, model) {
-            Ok(readings) => readings,
-            Err(_) => {
-                return Err(OpenEnd {
-                    why: OpenWhy::OutOfMemory,
-                    vols,
-                });
-            }
-        };
-        match begin_over(alloc, readings, systems, text.as_slice(), moment, vols) {
+        match begin_over(alloc, &model, systems, text.as_slice(), moment, vols) {
             Ok(kept) => Ok(Landscape::new(alloc, begun(alloc, kept))),
             Err(end) => Err(end),
         }
     }
 }
 
-/// The text with its model, which need not be read again.
-fn readings_of(
-    alloc: Global,
-    text: &Items<u8>,
-    model: Arc<Model>,
-) -> Result<Arc<Readings>, OutOfMemory>
-    requires { said text.now ≡ Some (arc_value model) }
-{
-    let mut readings = Readings::new(alloc);
-    readings.enter(text.clone()?, model)?;
-    Ok(Arc::new(alloc, readings)?)
-}
-
 /// Opens the volumes of so many systems, and begins each system.
 fn begin_over<V: Volumes>(
     alloc: Global,
-    readings: Arc<Readings>,
+    model: &Arc<Model>,
     systems: u8,
     text: &[u8],
     moment: Option<u64>,
     vols: V,
 ) -> Result<Kept<V>, OpenEnd<V>>
+    requires said { said text.now ≡ Some (arc_value model.now) }
     requires least { 1 ≤ systems }
     requires most { systems ≤ 16 }
     requires short { length text.now ≤ MOST_TEXT }
     ensures { BeginsAs V.told V.volume V.moment V.images_since V.faults systems text.now moment vols systems result }
 {
-    match open_all(alloc, readings, systems, moment, vols) {
-        Ok(kept) => begin_all(alloc, kept, systems, text),
+    match open_all(alloc, systems, moment, vols) {
+        Ok(kept) => begin_all(alloc, kept, model, systems, text),
         Err(end) => Err(end),
     }
 }
@@ -108,7 +86,6 @@ fn begin_over<V: Volumes>(
 /// Opens the volumes of so many systems.
 fn open_all<V: Volumes>(
     alloc: Global,
-    readings: Arc<Readings>,
     systems: u8,
     moment: Option<u64>,
     vols: V,
@@ -117,19 +94,9 @@ fn open_all<V: Volumes>(
     requires most { systems ≤ 16 }
     ensures { (text : List ℕ) → BeginsAs V.told V.volume V.moment V.images_since V.faults systems text moment vols 0 result }
 {
-    let known = match Arc::try_clone(&readings) {
-        Ok(known) => known,
-        Err(_) => {
-            return Err(OpenEnd {
-                why: OpenWhy::OutOfMemory,
-                vols,
-            });
-        }
-    };
-    let rules = ModelRules::new(known, systems);
-    let mut opening = Opening::new(alloc, rules, moment, vols);
+    let mut opening = Opening::new(alloc, ModelRules::new(systems), moment, vols);
     for _number in 0..systems {
-        opening = match open_next(alloc, opening, &readings) {
+        opening = match open_next(alloc, opening) {
             Ok(next) => next,
             Err(end) => return Err(end),
         };
@@ -141,20 +108,13 @@ fn open_all<V: Volumes>(
 fn open_next<V: Volumes>(
     alloc: Global,
     opening: Opening<ModelRules, DocumentTables, V>,
-    readings: &Arc<Readings>,
 ) -> Result<Opening<ModelRules, DocumentTables, V>, OpenEnd<V>>
     requires next { length opening.world.systems < opening.world.rules.systems }
     ensures { (text : List ℕ) (set : Option ℕ) (before : V)
         → AreOpened V.told V.volume V.moment V.images_since V.faults opening.world.rules.systems text set before (length opening.world.systems) opening
         → OpensAs V.told V.volume V.moment V.images_since V.faults opening.world.rules.systems text set before (suc (length opening.world.systems)) result }
 {
-    match Arc::try_clone(readings) {
-        Ok(readings) => opened(opening.system(DocumentTables::new(alloc, readings))),
-        Err(_) => Err(OpenEnd {
-            why: OpenWhy::OutOfMemory,
-            vols: opening.into_volumes(),
-        }),
-    }
+    opened(opening.system(DocumentTables::new(alloc)))
 }
 
 /// A volume that was opened, or why no landscape is.
@@ -174,9 +134,11 @@ fn opened<T, V>(end: Result<T, NotOpened<V>>) -> Result<T, OpenEnd<V>>
 fn begin_all<V: Volumes>(
     alloc: Global,
     kept: Kept<V>,
+    model: &Arc<Model>,
     systems: u8,
     text: &[u8],
 ) -> Result<Kept<V>, OpenEnd<V>>
+    requires said { said text.now ≡ Some (arc_value model.now) }
     requires most { systems ≤ 16 }
     requires short { length text.now ≤ MOST_TEXT }
     requires begins { kept.world ≡ begun_world kept.world.rules [] systems }
@@ -186,7 +148,7 @@ fn begin_all<V: Volumes>(
 {
     let mut kept = kept;
     for number in 0..systems {
-        match begin_next(alloc, &mut kept, number, text) {
+        match begin_next(alloc, &mut kept, model, number, text) {
             Ok(()) => {}
             Err(why) => {
                 return Err(OpenEnd {
@@ -203,9 +165,11 @@ fn begin_all<V: Volumes>(
 fn begin_next<V: Volumes>(
     alloc: Global,
     kept: &mut Kept<V>,
+    model: &Arc<Model>,
     number: u8,
     text: &[u8],
 ) -> Result<(), OpenWhy>
+    requires said { said text.now ≡ Some (arc_value model.now) }
     requires short { length text.now ≤ MOST_TEXT }
     requires few { number < 16 }
     requires empty { slice_get kept.old.world.systems number ≡ Some (first_state []) }
@@ -222,7 +186,10 @@ fn begin_next<V: Volumes>(
     let Ok(text) = Items::from_slice(alloc, text) else {
         return Err(OpenWhy::OutOfMemory);
     };
-    begun_as(begin(kept, system, text, Made::Nothing))
+    let Ok(model) = Arc::try_clone(model) else {
+        return Err(OpenWhy::OutOfMemory);
+    };
+    begun_as(begin(kept, system, text, Made::Brought(Some(model))))
 }
 
 /// That a system has begun, or why no landscape is opened.

@@ -1,5 +1,5 @@
 -- (a step of `EndedAs` and `IsWritten`) What the write of a record on a volume gives, and how it ends.
-use Rattle.std.specs.Prelude.{◌≡◌, ◌≢◌, ◌↔◌, ◌<◌, ℕ, ◌-◌, true, Some, List, [], ◌∷◌, ◌++◌, Result, Ok, Err, OnOk, OnErr, IsErrOf}
+use Rattle.std.specs.Prelude.{◌≡◌, ◌≢◌, ◌↔◌, ◌<◌, ℕ, ◌-◌, true, Some, List, [], ◌∷◌, ◌++◌, Result, Ok, Err, OnOk, IsErrOf}
 use Rattle.ale_volumes.specs.declared.volume.Volume.{Volume as OneVolume}
 use Rattle.unit_core.specs.declared.ale_unit.AleUnit.{AleUnit}
 use Rattle.unit_core.specs.declared.records.Record.{Record}
@@ -12,7 +12,7 @@ use Rattle.trfc_protocol.specs.Worlds.{is_up, with_fall}
 use Rattle.trfc_protocol.specs.Safe.{AreApart}
 use Rattle.unit_journal.specs.declared.journals.SystemJournals.{SystemJournals}
 use Rattle.unit_journal.specs.OnDisk.{next_moment, moments_at, entries_at, length_with, IsOnDisk, IsLeftOnDisk}
-use Rattle.unit_journal.specs.Changes.{OnlyAt}
+use Rattle.unit_journal.specs.Changes.{LeftBy, OnlyAt}
 use Rattle.unit_landscape.specs.declared.world_tables.WorldTables.{WorldTables}
 use Rattle.unit_landscape.specs.Entered.{IsEntered, HasCount}
 use Rattle.unit_landscape.specs.InStep.{AreInStepWith}
@@ -35,7 +35,7 @@ pub record IsWriteOf {D T : Type 0} (told : Type 0) (volume : D → ℕ → OneV
   pub unwritten : IsErrOf result OutOfMemory → IsOnDisk told volume new place after log
   pub full : IsFullAs place before log next result
   pub full_same : (size : ℕ) → result ≡ Err (FullAt size) → new ≡ old
-  pub err : OnErr result (after ≡ before)
+  pub left : LeftBy place before after result
   pub one : OnlyAt place before after
   pub grown : OnOk result (moments_at after place ≡ moments_at before place ++ next_moment before place ∷ [])
   pub others : (other : ℕ) → other ≢ place → told → volume new other ≡ volume old other

@@ -8,7 +8,7 @@ use trfc_protocol::Rules;
 use unit_core::AleUnit;
 
 impl<R: Rules, A: Application, V: Volumes> KeptWorld<R, A, V> {
-    ghost use Rattle.std.specs.Prelude.{◌≡◌, ◌-◌, true, false, length, slice_get, Some};
+    ghost use Rattle.std.specs.Prelude.{◌≡◌, ◌-◌, ◌<◌, ◌^◌, true, false, length, slice_get, Some};
     ghost use Rattle.std.specs.Option.{option_copied, option_map_or};
     ghost use Rattle.unit_core.specs.Queues.{unit_named, is_outstanding};
     ghost use Rattle.tid_table.specs.LogTids.{is_known};
@@ -16,6 +16,7 @@ impl<R: Rules, A: Application, V: Volumes> KeptWorld<R, A, V> {
     ghost use Rattle.trfc_protocol.specs.Legal.{IsLegal};
     ghost use Rattle.trfc_protocol.specs.Worlds.{log_of, is_up, committed_by, committed_unit};
     ghost use Rattle.system_tables.specs.OfLog.{is_unconfirmed};
+    ghost use Rattle.unit_landscape.specs.Counted.{committed_total, received_total, executed_total};
     ghost use Rattle.unit_landscape.specs.LogAnswers.{may_go_at, first_to_go, AreTablesNow};
 
     /// The unit of this id, as its sender committed it, in constant time. None exactly where it committed none.
@@ -36,6 +37,37 @@ impl<R: Rules, A: Application, V: Volumes> KeptWorld<R, A, V> {
         ensures { result ≡ length (committed_by (R.meaning self.now.world.rules) self.now.world system) }
     {
         self.tables(system).count()
+    }
+
+    /// How many units all systems committed, those that are down too. It takes a time by their number alone.
+    pub(crate) fn committed(&self) -> u64
+        requires all { length self.now.world.systems ≡ (R.meaning self.now.world.rules).systems }
+        requires few { committed_total (R.meaning self.now.world.rules) self.now.world < 2 ^ 64 }
+        ensures { result ≡ committed_total (R.meaning self.now.world.rules) self.now.world }
+    {
+        let mut all = 0;
+        for its in self.both.tables.as_slice() {
+            all += its.count() as u64;
+        }
+        all
+    }
+
+    /// How many units all systems received, those that are down too.
+    pub(crate) fn received(&self) -> u64
+        requires all { length self.now.world.systems ≡ (R.meaning self.now.world.rules).systems }
+        requires few { received_total (R.meaning self.now.world.rules) self.now.world < 2 ^ 64 }
+        ensures { result ≡ received_total (R.meaning self.now.world.rules) self.now.world }
+    {
+        self.counted.received(self.both.tables.len())
+    }
+
+    /// How many units all systems executed, those that are down too.
+    pub(crate) fn executed(&self) -> u64
+        requires all { length self.now.world.systems ≡ (R.meaning self.now.world.rules).systems }
+        requires few { executed_total (R.meaning self.now.world.rules) self.now.world < 2 ^ 64 }
+        ensures { result ≡ executed_total (R.meaning self.now.world.rules) self.now.world }
+    {
+        self.counted.executed(self.both.tables.len())
     }
 
     /// Whether a system received the unit of this id and has not forgotten the id.

@@ -1,7 +1,7 @@
 //! Claims that are made, looked up and given up, and a system that falls. Nothing here appends a record.
 
 use super::UnitLandscape;
-use crate::{Cause, ClaimEnd, InClaim, OutClaim};
+use crate::{Cause, InClaim, OutClaim};
 use ale_base::{OutOfMemory, SystemNo, Tid, Way};
 use ale_volumes::Volumes;
 use system_tables::Application;
@@ -31,17 +31,13 @@ impl<R: Rules, A: Application, V: Volumes> UnitLandscape<R, A, V> {
         };
         let (tid, receiver) = (unit.tid, unit.receiver);
         let opening = self.kept.world().falls;
-        match self.kept.claim(system, Way::Outgoing, tid) {
-            Ok(number) => Ok(Some(OutClaim {
-                number,
-                tid,
-                receiver,
-                opening,
-            })),
-            // What is claimed is the first unit that is offered.
-            Err(ClaimEnd::NotOffered(_)) => unreachable!(),
-            Err(ClaimEnd::OutOfMemory) => Err(OutOfMemory),
-        }
+        let number = self.kept.claim_next(system, Way::Outgoing, tid)?;
+        Ok(Some(OutClaim {
+            number,
+            tid,
+            receiver,
+            opening,
+        }))
     }
 
     /// Claims the first unit that is offered inbound at a system, to be executed. None exactly where the system is down or nothing is
@@ -55,17 +51,13 @@ impl<R: Rules, A: Application, V: Volumes> UnitLandscape<R, A, V> {
             return Ok(None);
         };
         let opening = self.kept.world().falls;
-        match self.kept.claim(system, Way::Incoming, tid) {
-            Ok(number) => Ok(Some(InClaim {
-                number,
-                tid,
-                system,
-                opening,
-            })),
-            // What is claimed is the first unit that is offered.
-            Err(ClaimEnd::NotOffered(_)) => unreachable!(),
-            Err(ClaimEnd::OutOfMemory) => Err(OutOfMemory),
-        }
+        let number = self.kept.claim_next(system, Way::Incoming, tid)?;
+        Ok(Some(InClaim {
+            number,
+            tid,
+            system,
+            opening,
+        }))
     }
 
     /// Whether a claim stands. It takes no memory.

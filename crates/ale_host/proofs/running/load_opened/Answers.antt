@@ -30,8 +30,8 @@ returns-clause-ended g c = λ not_6.
           run = ran.1;
           line = last.0;
           ends = subst (λ (counts : Counts). EndsCounting counts (arc_value c.args.inputs.now.model) ends c.close_load-status.result last.0)
-              c.counts-counts.ensures
-              (subst (λ (model : Lists). EndsCounting c.counts-counts.result model ends c.close_load-status.result last.0) c.deref.ensures last.1);
+              c.held-counts.ensures
+              (subst (λ (model : Lists). EndsCounting c.held-counts.result model ends c.close_load-status.result last.0) c.deref.ensures last.1);
           printed_is = refl;
           sure_is = refl;
           volumes = c.into_volumes.ensures;
@@ -63,8 +63,8 @@ returns-clause-write_fault g c = λ is_6.
             left = c.run_script-stage.result.stage;
             run = ran.1;
             line = last.1.0;
-            ends = subst (λ (counts : Counts). EndsCounting counts (arc_value c.args.inputs.now.model) ends last.0 last.1.0) c.counts-counts.ensures
-                (subst (λ (model : Lists). EndsCounting c.counts-counts.result model ends last.0 last.1.0) c.deref.ensures last.1.1);
+            ends = subst (λ (counts : Counts). EndsCounting counts (arc_value c.args.inputs.now.model) ends last.0 last.1.0) c.held-counts.ensures
+                (subst (λ (model : Lists). EndsCounting c.held-counts.result model ends last.0 last.1.0) c.deref.ensures last.1.1);
             printed_is = refl;
             sure_is = refl;
             volumes = c.into_volumes.ensures;

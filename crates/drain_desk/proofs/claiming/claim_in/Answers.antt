@@ -6,7 +6,7 @@ use Rattle.unit_works.specs.Events.{is_run}
 use Rattle.unit_works.specs.Claiming.{IsExecuted}
 use Rattle.unit_works.proofs.WorkedLemmas.{meaning}
 use Rattle.drain_desk.specs.Work.{IsBasis}
-use Rattle.drain_desk.proofs.ClaimingLemmas.{claims-in, claims-same, may-in, whole-or-not}
+use Rattle.drain_desk.proofs.ClaimingLemmas.{claims-in, claims-same, may-in, whole-or-not, to_do-in}
 use Rattle.drain_desk.proofs.claiming.claim_in.Goals as goal
 
 pub returns-in_err-claim_to_execute-clause-claims : goal.returns-in_err-claim_to_execute-clause-claims
@@ -45,6 +45,7 @@ returns-in_ok-basis-in-Some-clause-offer g c =
     c.args.system))
     c.in-Some.is c.in_ok-claim_to_execute.ensures.claim in
     record {
+      to_do = to_do-in g.V.Volumes.faults c.args.landscape.now c.claim_to_execute.new.landscape c.args.system c.in-Some.claim is;
       may = may-in g.V.Volumes.faults c.args.landscape.now c.claim_to_execute.new.landscape c.args.system c.in-Some.claim c.world.ensures.safe
           c.in_ok-claim_to_execute.ensures.only is;
       base = subst (λ t. IsBasis c.claim_to_execute.new.landscape.world t c.in_ok-basis-in-Some.basis) c.tid.ensures c.in_ok-basis-in-Some.ensures;

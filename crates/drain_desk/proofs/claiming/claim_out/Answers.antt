@@ -42,6 +42,7 @@ returns-in_ok-basis-in-Some-clause-offer g c =
     c.args.system))
     c.in-Some.is c.in_ok-claim_to_ship.ensures.claim in
     record {
+      to_do = is.stands;
       may = may-out g.V.Volumes.faults c.args.landscape.now c.claim_to_ship.new.landscape c.args.system c.in-Some.claim c.in_ok-claim_to_ship.ensures.only is;
       base = subst (λ t. IsBasis c.claim_to_ship.new.landscape.world t c.in_ok-basis-in-Some.basis) c.tid.ensures c.in_ok-basis-in-Some.ensures;
     }

@@ -4,5 +4,5 @@ use Rattle.document_state.proofs.document_tables.DocumentTables.new.Goals as goa
 
 pub returns : goal.returns
 returns c =
-    tables-nothing (record { readings = c.args.readings; has_begun = false; model = None; outbound = c.new.result; inbound = c.new-2.result }) refl refl
+    tables-nothing (record { has_begun = false; model = None; outbound = c.new.result; inbound = c.new-2.result }) refl refl
     c.new.ensures c.new-2.ensures

@@ -9,7 +9,6 @@ returns c log are goes =
     on_ok c.take.result (c.take.ensures (sent_by log) are.sent)
     (between-noted log c.args.next.now c.args.made c.args.self.now
     (record {
-      readings = c.args.self.now.readings;
       has_begun = c.args.self.now.has_begun;
       model = c.args.self.now.model;
       outbound = c.take.new.self;

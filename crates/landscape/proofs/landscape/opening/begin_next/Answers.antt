@@ -1,5 +1,6 @@
 use Rattle.std.specs.Prelude.{slice_get}
-use Rattle.std.proofs.Common.{◌≡◌, ℕ, ◌-◌, suc, Some, [], ap, arith, List, length, refl, sym, subst}
+use Rattle.std.proofs.Common.{◌≡◌, ℕ, ◌-◌, suc, Some, [], ap, arith, List, length, sym, subst, ◌∙◌}
+use Rattle.said_models.specs.Said.{said}
 use Rattle.trfc_protocol.specs.Start.{first_state}
 use Rattle.landscape.specs.steps.Opening.{AreBegunSoFar, BeginsNext, begun_of}
 use Rattle.landscape.proofs.OpeningLemmas.{begins-next, begun-on_ok}
@@ -12,7 +13,7 @@ begin-requires g c =
       empty = subst (λ k. slice_get c.args.kept.now.world.systems k ≡ Some (first_state [])) next c.requires.empty;
       no_claims = c.requires.no_claims;
       text_most = (let same = ap (λ (l : List ℕ). length l) c.in-Ok.ensures in let short = c.requires.short in omega arith);
-      goes = λ its at begins. refl;
+      goes = λ its at begins. ap Some c.in-Ok-try_clone.ensures ∙ sym c.requires.said ∙ ap said (sym c.in-Ok.ensures);
     }
 
 pub returns-clause-world : goal.returns-clause-world

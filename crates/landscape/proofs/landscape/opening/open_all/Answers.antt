@@ -8,10 +8,10 @@ open_next-requires g c =
     let so_far = c.loop-number.invariant [] in
     record { next = (let all = so_far.all in let here = so_far.opened in let test = c.loop-number-test.true in omega arith) }
 
-pub returns-in-Err-open_next : goal.returns-in-Err-open_next
-returns-in-Err-open_next g c text =
+pub returns-in-Err : goal.returns-in-Err
+returns-in-Err g c text =
     subst (OpensAs g.V.Volumes.told g.V.Volumes.volume g.V.Volumes.moment g.V.Volumes.images_since g.V.Volumes.faults c.args.systems text c.args.moment
-    c.args.vols (suc c.loop-number._number)) c.in-Err-open_next.is
+    c.args.vols (suc c.loop-number._number)) c.in-Err.is
     (opens-at g.V.Volumes.told g.V.Volumes.volume g.V.Volumes.moment g.V.Volumes.images_since g.V.Volumes.faults c.loop-number.opening c.open_next.result
     c.open_next.ensures c.args.systems c.loop-number._number text c.args.moment c.args.vols
     (c.loop-number.invariant text))
@@ -20,9 +20,9 @@ pub loop-number-preserved : goal.loop-number-preserved
 loop-number-preserved g c text =
     let more : suc c.loop-number._number ≡ c.loop-number._number + 1 = omega arith in
     subst (λ k. AreOpened g.V.Volumes.told g.V.Volumes.volume g.V.Volumes.moment g.V.Volumes.images_since g.V.Volumes.faults c.args.systems text c.args.moment
-    c.args.vols k c.in-Ok-open_next.next) more
+    c.args.vols k c.in-Ok.next) more
     (subst (OpensAs g.V.Volumes.told g.V.Volumes.volume g.V.Volumes.moment g.V.Volumes.images_since g.V.Volumes.faults c.args.systems text c.args.moment
-    c.args.vols (suc c.loop-number._number)) c.in-Ok-open_next.is
+    c.args.vols (suc c.loop-number._number)) c.in-Ok.is
     (opens-at g.V.Volumes.told g.V.Volumes.volume g.V.Volumes.moment g.V.Volumes.images_since g.V.Volumes.faults c.loop-number.opening c.open_next.result
     c.open_next.ensures c.args.systems c.loop-number._number text c.args.moment c.args.vols
     (c.loop-number.invariant text)))

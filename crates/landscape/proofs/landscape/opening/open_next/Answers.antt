@@ -3,8 +3,8 @@ use Rattle.std.proofs.Common.{sym, subst}
 use Rattle.landscape.specs.steps.Opening.{OpensAs}
 use Rattle.landscape.proofs.landscape.opening.open_next.Goals as goal
 
-pub returns-in-Ok : goal.returns-in-Ok
-returns-in-Ok g c text set before so_far =
+pub returns : goal.returns
+returns g c text set before so_far =
     subst (OpensAs g.V.Volumes.told g.V.Volumes.volume g.V.Volumes.moment g.V.Volumes.images_since g.V.Volumes.faults c.args.opening.world.rules.systems text
     set before _) (sym c.opened.ensures)
     (opens-next g.V.Volumes.told g.V.Volumes.volume g.V.Volumes.moment g.V.Volumes.images_since g.V.Volumes.faults c.args.opening.world.rules.systems text set

@@ -1,6 +1,9 @@
-use Rattle.std.specs.Prelude.{slice_get, slice_set}
+use Rattle.std.specs.Prelude.{Err, slice_get, slice_index_or, slice_set}
 use Rattle.std.specs.Option.{unwrap_or}
-use Rattle.std.proofs.Common.{◌≡◌, ◌-◌, ◌<◌, inl, ℕ, Option, Some, List, [], ◌∷◌, ◌++◌, sym, ap, ◌∙◌, subst}
+use Rattle.std.proofs.Common.{◌≡◌, ◌-◌, ◌<◌, inl, ℕ, Option, Some, None, List, [], ◌∷◌, ◌++◌, refl, sym, ap, ◌∙◌, subst}
+use Rattle.byte_journal.specs.declared.fault.AppendFault.TheVariants as AppendFault
+use Rattle.std.specs.Result.{result_err}
+use Rattle.std.proofs.lemmas.Option.{same_Some}
 use Rattle.ale_volumes.specs.Clock.{LeavesOnly}
 use Rattle.ale_volumes.proofs.ClockLemmas.{started}
 use Rattle.unit_codec.specs.Entries.{entry_with}
@@ -8,10 +11,12 @@ use Rattle.unit_journal.specs.declared.journal.UnitJournal.{UnitJournal}
 use Rattle.unit_journal.specs.Settled.{IsBeforeOrAfter, IsSettled}
 use Rattle.unit_journal.specs.declared.journals.SystemJournals.{SystemJournals}
 use Rattle.unit_journal.specs.OnDisk.{moments_at, next_moment, entries_at, IsOnDisk, IsLeftOnDisk}
-use Rattle.unit_journal.specs.Changes.{OnlyAt}
+use Rattle.unit_journal.specs.Changes.{LeftBy, OnlyAt}
+use Rattle.unit_journal.specs.steps.Moments.{rests_after}
 use Rattle.unit_journal.proofs.PlaceLemmas.{got-set_at, set-got, noted-here, length-noted}
 use Rattle.unit_journal.proofs.KeptLemmas.{IsOnDisk-stands}
-use Rattle.unit_journal.proofs.WriteLemmas.{OnlyAt-none, OnlyAt-written, unchanged, within-place, on-here, settled-here}
+use Rattle.unit_journal.proofs.WriteLemmas.{LeftBy-failed, OnlyAt-failed, OnlyAt-written, left-unless, unchanged-but}
+use Rattle.unit_journal.proofs.WriteLemmas.{within-place, on-here, settled-here}
 use Rattle.unit_journal.proofs.WriteLemmas.{IsOnDisk-written, IsOnDisk-unwritten, IsLeft-torn, full-here}
 use Rattle.unit_journal.proofs.journals.SystemJournals.write.Goals as goal
 
@@ -110,9 +115,9 @@ returns-in-Err-clause-torn g c = λ log disk is.
     let up = c.requires.on_disk.1 in
     let within = within-place all.moments k place (moments_at all place) at up.noted in
     let same =
-    unchanged all (slice_set all.journals k c.append.new.self) c.take_back.new.moments
+    unchanged-but all (slice_set all.journals k c.append.new.self) c.take_back.new.moments c.keep_rest.new.rests c.keep_rest.new.rests
     (set-got all.journals k was c.append.new.self c.at_mut.ensures.value c.in-Err.ensures.moves_on)
-    (c.take_back.ensures all.moments moment within c.in_ok-note.ensures.ok) in
+    (c.take_back.ensures all.moments moment within c.in_ok-note.ensures.ok) refl in
     let entries = entries_at all place log in
     let settled = settled-here V.told V.volume old place all log was here disk in
     let entry = entry_with moment c.args.next.now in
@@ -120,9 +125,12 @@ returns-in-Err-clause-torn g c = λ log disk is.
     λ tells. subst (λ (n : ℕ). LeavesOnly V.moment V.images_since old new n (IsBeforeOrAfter entries entry))
     (on-here V.told V.volume old place all log was here disk).volume
     (c.append.ensures.any_moment tells entries (settled tells)) in
+    let fault : c.in-Err.fault ≡ AppendFault.Volume = same_Some c.in-Err.fault AppendFault.Volume (ap result_err is) in
+    let found : slice_index_or c.keep_rest.new.rests place None ≡ moment =
+    ap (λ (i : ℕ). slice_index_or c.keep_rest.new.rests i None) (sym at) ∙ c.keep_rest.ensures.found fault in
     subst (λ (after : SystemJournals). IsLeftOnDisk V.told V.volume new place after log (Some c.args.next.now)) (sym same)
     (IsLeft-torn V.told V.volume old place all log was here disk V.moment V.images_since new c.args.next.now moment c.next_moment-moment.ensures
-    (λ tells image later image_is. g.met.V.Volumes.counts_now tells new place (V.moment old) image later image_is) leaves)
+    (λ tells image later image_is. g.met.V.Volumes.counts_now tells new place (V.moment old) image later image_is) leaves c.keep_rest.new.rests found)
 
 pub returns-in-Err-clause-unwritten : goal.returns-in-Err-clause-unwritten
 returns-in-Err-clause-unwritten g c = λ log disk is.
@@ -139,12 +147,15 @@ returns-in-Err-clause-unwritten g c = λ log disk is.
     let up = c.requires.on_disk.1 in
     let within = within-place all.moments k place (moments_at all place) at up.noted in
     let same =
-    unchanged all (slice_set all.journals k c.append.new.self) c.take_back.new.moments
+    unchanged-but all (slice_set all.journals k c.append.new.self) c.take_back.new.moments c.keep_rest.new.rests
+    (rests_after all.rests k moment c.in-Err.fault)
     (set-got all.journals k was c.append.new.self c.at_mut.ensures.value c.in-Err.ensures.moves_on)
-    (c.take_back.ensures all.moments moment within c.in_ok-note.ensures.ok) in
+    (c.take_back.ensures all.moments moment within c.in_ok-note.ensures.ok) c.keep_rest.ensures.kept in
+    let fault : c.in-Err.fault ≡ AppendFault.OutOfMemory = same_Some c.in-Err.fault AppendFault.OutOfMemory (ap result_err is) in
+    let all_same = same ∙ left-unless all place k moment at c.next_moment-moment.ensures c.in-Err.fault fault in
     let entries = entries_at all place log in
     let settled = settled-here V.told V.volume old place all log was here disk in
-    subst (λ (after : SystemJournals). IsOnDisk V.told V.volume new place after log) (sym same)
+    subst (λ (after : SystemJournals). IsOnDisk V.told V.volume new place after log) (sym all_same)
     (IsOnDisk-unwritten V.told V.volume old place all log was here disk new
     (λ tells. subst (λ (journal : UnitJournal). IsSettled V.volume new journal entries) c.in-Err.ensures.moves_on
     (c.in-Err.ensures.no_memory tells entries (settled tells) is)))
@@ -163,8 +174,8 @@ returns-in-Err-clause-full g c = λ log disk length not_memory.
     full-here was (entries_at all place log) moment (next_moment all place) c.args.next.now length
     (on-here V.told V.volume old place all log was here disk).at_end c.next_moment-moment.ensures (c.in-Err.ensures.full length not_memory)
 
-pub returns-in-Err-clause-err : goal.returns-in-Err-clause-err
-returns-in-Err-clause-err g c =
+pub returns-in-Err-clause-left : goal.returns-in-Err-clause-left
+returns-in-Err-clause-left g c =
     let all = c.args.self.now in
     let moment = c.next_moment-moment.result in
     let place = c.args.system - 1 in
@@ -174,10 +185,12 @@ returns-in-Err-clause-err g c =
     let up = c.requires.on_disk.1 in
     let within = within-place all.moments k place (moments_at all place) at up.noted in
     let same =
-    unchanged all (slice_set all.journals k c.append.new.self) c.take_back.new.moments
+    unchanged-but all (slice_set all.journals k c.append.new.self) c.take_back.new.moments c.keep_rest.new.rests
+    (rests_after all.rests k moment c.in-Err.fault)
     (set-got all.journals k was c.append.new.self c.at_mut.ensures.value c.in-Err.ensures.moves_on)
-    (c.take_back.ensures all.moments moment within c.in_ok-note.ensures.ok) in
-    same
+    (c.take_back.ensures all.moments moment within c.in_ok-note.ensures.ok) c.keep_rest.ensures.kept in
+    subst (λ (after : SystemJournals). LeftBy {T = Unit {0}} place all after (Err c.in-Err.fault)) (sym same)
+    (LeftBy-failed all place k moment at c.next_moment-moment.ensures (Unit {0}) c.in-Err.fault)
 
 pub returns-in-Err-clause-one : goal.returns-in-Err-clause-one
 returns-in-Err-clause-one g c =
@@ -190,7 +203,9 @@ returns-in-Err-clause-one g c =
     let up = c.requires.on_disk.1 in
     let within = within-place all.moments k place (moments_at all place) at up.noted in
     let same =
-    unchanged all (slice_set all.journals k c.append.new.self) c.take_back.new.moments
+    unchanged-but all (slice_set all.journals k c.append.new.self) c.take_back.new.moments c.keep_rest.new.rests
+    (rests_after all.rests k moment c.in-Err.fault)
     (set-got all.journals k was c.append.new.self c.at_mut.ensures.value c.in-Err.ensures.moves_on)
-    (c.take_back.ensures all.moments moment within c.in_ok-note.ensures.ok) in
-    subst (λ (after : SystemJournals). OnlyAt place all after) (sym same) (OnlyAt-none place all)
+    (c.take_back.ensures all.moments moment within c.in_ok-note.ensures.ok) c.keep_rest.ensures.kept in
+    subst (λ (after : SystemJournals). OnlyAt place all after) (sym same)
+    (OnlyAt-failed all place k moment at c.next_moment-moment.ensures c.in-Err.fault)

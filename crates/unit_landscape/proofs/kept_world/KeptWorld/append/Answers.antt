@@ -1,11 +1,15 @@
-use Rattle.std.proofs.Common.{◌≤◌, ◌-◌, List, sym, subst, arith}
+use Rattle.std.proofs.Common.{◌≤◌, ◌-◌, List, length, sym, ap, subst, ◌∙◌, arith}
 use Rattle.trfc_protocol.specs.Worlds.{log_of}
 use Rattle.unit_landscape.specs.AppendEnds.{IsToAppend, FullAs, UnchangedAs}
+use Rattle.unit_core.specs.Filters.{executed_by, taken_by}
 use Rattle.unit_landscape.specs.declared.cause.Cause.{Cause}
+use Rattle.unit_landscape.specs.declared.counted.Adds.{Adds}
 use Rattle.unit_landscape.specs.Causes.{AreCausesOf}
+use Rattle.unit_landscape.specs.Counted.{AreCounted, counted_by}
 use Rattle.unit_landscape.specs.KeptWorlds.{KeptOf, kept_of}
 use Rattle.unit_landscape.proofs.InStepLemmas.{stands_up}
 use Rattle.unit_landscape.proofs.CausesLemmas.{causes-appended, unchanged-told}
+use Rattle.unit_landscape.proofs.CountedLemmas.{counted-appended, one_if-most, room-appended}
 use Rattle.unit_landscape.proofs.kept_world.KeptWorld.append.Goals as goal
 
 pub add-ended-requires-clause-stored : goal.add-ended-requires-clause-stored
@@ -21,17 +25,35 @@ pub invariant_of-self : goal.invariant_of-self
 invariant_of-self g c =
     let can = subst (λ k. IsToAppend g.R.Rules.meaning g.A.Application.goes_with k c.args.system c.args.next c.args.more.now c.args.claim c.args.extra)
     (sym c.self.view_is) c.requires.can in
-    let most : c.args.system ≤ 16 =
-    let few = c.self.invariant.on_volumes.few in
-    let within = (stands_up c.self.inside.both.world.systems c.args.system can.writes.up).most in
-    omega arith in
+    let standing = stands_up c.self.inside.both.world.systems c.args.system can.writes.up in
+    let least = standing.least in
+    let most : c.args.system ≤ 16 = let few = c.self.invariant.on_volumes.few in let within = standing.most in omega arith in
     record {
       in_step = c.add-ended.ensures.stored.in_step;
       on_volumes = c.add-ended.ensures.stored.on_volumes;
       causes = subst (AreCausesOf c.add-ended.new.both.world.systems) (sym c.tell.ensures)
           (causes-appended c.self.inside.both.world c.add-ended.new.both.world c.args.system c.args.next c.args.claim c.self.inside.causes c.add-ended.result can.writes.up
           most c.add-ended.ensures.did c.self.invariant.causes);
+      counted = subst (AreCounted c.add-ended.new.both.world.systems) (sym c.note.ensures)
+          (subst (λ adds. AreCounted c.add-ended.new.both.world.systems
+          (counted_by c.self.inside.counted (c.args.system - 1) adds c.add-ended.result)) (sym c.of-adds.ensures)
+          (counted-appended c.self.inside.both.world c.add-ended.new.both.world c.args.system c.args.next c.args.claim c.self.inside.counted
+          c.add-ended.result can.writes.up least most c.add-ended.ensures.did c.self.invariant.counted));
     }
+
+pub note-requires-clause-one : goal.note-requires-clause-one
+note-requires-clause-one g c =
+    subst (λ (adds : Adds). (adds.received ≤ 1) × (adds.executed ≤ 1)) (sym c.of-adds.ensures)
+    (one_if-most (taken_by c.args.next), one_if-most (executed_by c.args.next))
+
+pub note-requires-clause-room : goal.note-requires-clause-room
+note-requires-clause-room g c =
+    let can = subst (λ k. IsToAppend g.R.Rules.meaning g.A.Application.goes_with k c.args.system c.args.next c.args.more.now c.args.claim c.args.extra)
+    (sym c.self.view_is) c.requires.can in
+    let standing = stands_up c.self.inside.both.world.systems c.args.system can.writes.up in
+    let most : c.args.system ≤ 16 = let few = c.self.invariant.on_volumes.few in let within = standing.most in omega arith in
+    room-appended c.self.inside.both.world c.add-ended.new.both.world c.args.system c.args.next c.args.claim c.self.inside.counted (length c.log-records.result.now)
+    c.add-ended.result can.writes.up standing.least most c.add-ended.ensures.did c.self.invariant.counted (ap length c.log-records.ensures)
 
 pub returns-clause-unchanged : goal.returns-clause-unchanged
 returns-clause-unchanged g c =

@@ -3,6 +3,8 @@ use Rattle.trfc_protocol.specs.Worlds.{log_of, is_up}
 use Rattle.unit_journal.proofs.KeptLemmas.{IsLeft-of}
 use Rattle.unit_landscape.specs.OnVolumes.{AreOnVolumes}
 use Rattle.unit_landscape.specs.Causes.{with_cause, AreCausesOf}
+use Rattle.unit_landscape.specs.Counted.{AreCounted}
+use Rattle.unit_landscape.proofs.CountedLemmas.{counted-fell}
 use Rattle.unit_landscape.proofs.InStepLemmas.{stands_up}
 use Rattle.unit_landscape.proofs.CausesLemmas.{causes-fell}
 use Rattle.unit_landscape.proofs.OnVolumesLemmas.{OnlyAt-same, on_disk-up, on_volumes-fell}
@@ -34,4 +36,6 @@ invariant_of-self g c =
           (causes-fell world c.args.system None c.args.cause c.self.inside.causes up
           (let few = c.self.invariant.on_volumes.few in let most = (stands_up world.systems c.args.system up).most in omega arith)
           c.requires.cause c.self.invariant.causes));
+      counted = subst (λ w. AreCounted w.systems c.self.inside.counted) (sym c.fall.ensures.world)
+          (counted-fell world c.args.system up None c.self.inside.counted c.self.invariant.counted);
     }

@@ -10,4 +10,5 @@ invariant_of-self g c = record {
       (on_volumes-with_moment g.V.Volumes.told g.V.Volumes.volume c.self.inside.vols c.self.inside.both.world.systems c.self.inside.journals c.args.moment
       c.self.invariant.on_volumes);
   causes = c.self.invariant.causes;
+  counted = c.self.invariant.counted;
 }
