@@ -5,6 +5,7 @@ use Rattle.std.specs.List.{range_with_len}
 use Rattle.std.proofs.Common.{◌≡◌, ◌≤◌, ◌⊎◌, ℕ, zero, suc, false, Option, None, Some, Ok, List, [], ◌∷◌, ◌++◌, length, map, inl, inr, refl, sym, ap, subst, ◌∙◌}
 use Rattle.std.proofs.lemmas.Bool.{leb-true}
 use Rattle.std.specs.Arc.{arc_value}
+use Rattle.ale_volumes.specs.Disk.{Disk}
 use Rattle.said_models.specs.Said.{said, of_answer}
 use Rattle.model_text.specs.Text.{answer_to}
 use Rattle.model_text.specs.declared.reading.TheConstants.{MAX_BYTES}
@@ -34,7 +35,7 @@ use Rattle.ale_io.specs.Told.{Told}
 use Rattle.ale_host.specs.declared.running.Report.{Report}
 use Rattle.ale_host.specs.declared.running.Report.TheVariants.{Commands, Counts}
 use Rattle.ale_host.specs.LoadModel.{load_model}
-use Rattle.ale_host.specs.Running.{AskFor, Disk, Opened, RanFrom, RunsTo}
+use Rattle.ale_host.specs.Running.{AskFor, Opened, RanFrom, RunsTo}
 
 -- a text that is answered by a model says it
 pub said-of : (text : List ℕ) (model : Lists) → answer_to text ≡ Ok model → said text ≡ Some model

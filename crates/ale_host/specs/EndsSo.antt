@@ -1,6 +1,7 @@
 -- What the program does for its words, from the files that it reads to the text that it puts and the volumes that it leaves.
 use Rattle.std.specs.Prelude.{◌≡◌, ◌⊎◌, ℕ, ◌≤◌, List, [], Option, length, take}
 use Rattle.std.specs.Io.KnownBytes.{Appends}
+use Rattle.ale_volumes.specs.Disk.{Disk}
 use Rattle.ale_base.specs.Faults.{Rose}
 use Rattle.ale_io.specs.Told.{Told}
 use Rattle.idoc_file.specs.declared.raw_doc.RawDoc.{RawDoc}
@@ -9,7 +10,7 @@ use Rattle.script_text.specs.declared.command.Command.{Command}
 use Rattle.ale_host.specs.declared.ending.Ending.{Ending}
 use Rattle.ale_host.specs.declared.running.Report.{Report}
 use Rattle.ale_host.specs.Ending.{Ends, IsQuiet, status_of, text_of}
-use Rattle.ale_host.specs.Running.{AskFor, Disk, RunsTo, masters_of}
+use Rattle.ale_host.specs.Running.{AskFor, RunsTo, masters_of}
 
 -- a write failed: a front of a text was put, and of that at least a front that is sure
 pub record IsFront (before after : Option (List ℕ)) (faults faults_after : ℕ) (printed sure : List ℕ) : Type 0 where

@@ -4,6 +4,7 @@ use Rattle.std.specs.Prelude.{◌≡◌, ◌⊎◌, ⊤, ℕ, ◌<◌, List, [],
 use Rattle.std.specs.Arc.{arc_value}
 use Rattle.ale_base.specs.Tid.{TidOf}
 use Rattle.ale_io.specs.Told.{Told}
+use Rattle.ale_volumes.specs.Disk.{Disk}
 use Rattle.ale_volumes.specs.declared.volume.Volume.{Volume as OneVolume}
 use Rattle.idoc_file.specs.declared.raw_doc.RawDoc.{RawDoc}
 use Rattle.dist_model.specs.declared.lists.Lists.{Lists}
@@ -138,15 +139,6 @@ IsSureOf report.Counts its turns sure = sure ≡ []
 
 -- ---- the run
 
--- what a run needs of its volumes and of its clock: whether the volumes tell what they hold, what is known of each, how many calls on each
--- failed, the moment by their clock, and what a crash may leave of each
-pub record Disk (V : Type 0) : Type 1 where
-  pub told : Type 0
-  pub volume : V → ℕ → OneVolume
-  pub faults : V → ℕ → ℕ
-  pub moment : V → ℕ
-  pub images_since : V → ℕ → ℕ → List ℕ → Type 0
-
 -- Commands were carried out from systems that had begun. The report is that of the turns, or of a load that of the logs that it leaves;
 -- the volumes hold the logs that the last turn left, these are safe, and a system is down exactly where its cause says so.
 pub record RanFrom {V : Type 0} (disk : Disk V) (report : Report) (model : Lists) (inputs : Inputs) (commands : List Command)
@@ -158,14 +150,14 @@ pub record RanFrom {V : Type 0} (disk : Disk V) (report : Report) (model : Lists
   pub turns : List (Turn V)
   pub its_end : RunEnd
   pub left : Stage V
-  pub run : Run disk.faults inputs commands first left its_end turns
+  pub run : Run disk inputs commands first left its_end turns
   pub line : List ℕ
   pub ends : EndsReporting report left model its_end status line
   pub printed_is : printed ≡ reported report turns ++ line
   pub sure_is : IsSureOf report its_end turns sure
   pub volumes : after ≡ left.landscape.vols
   pub safe : IsLandscape (λ (rules : ModelRules). model_meaning rules.systems) left.landscape.world
-  pub on_volumes : AreOnVolumes disk.told disk.volume left.landscape.vols left.landscape.world.systems left.landscape.journals
+  pub on_volumes : AreOnVolumes disk left.landscape.vols left.landscape.world.systems left.landscape.journals
   pub causes : AreCausesOf left.landscape.world.systems left.landscape.causes
   pub asked : AreAsked clock given given_after turns run.halted
 
@@ -175,16 +167,16 @@ module _ {V : Type 0} (disk : Disk V) (text : List ℕ) (model : Lists) (masters
 
   -- the systems were not opened
   pub record NotOpened (moment : ℕ) (why : OpenWhy) : Type 0 where
-    pub whys : WhyEnded disk.volume many text (Some moment) before after disk.told why
-    pub faulted : EndedByFault many disk.faults before after why
-    pub left : disk.told → LeavesOpening disk.volume many text (Some moment) before after disk.moment disk.images_since
+    pub whys : WhyEnded disk many text (Some moment) before after why
+    pub faulted : EndedByFault many disk before after why
+    pub left : disk.told → LeavesOpening disk many text (Some moment) before after
 
   -- the systems were opened: all are up, and the log of each is its Genesis alone
   pub record Opened (moment : ℕ) (begun : KeptOf ModelRules DocumentTables V) : Type 0 where
     pub world : HasOpened many text (Some moment) begun
     pub empty : disk.told → (place : ℕ) → place < many → Stands (disk.volume before place).contents []
-    pub still : NoneFailed many disk.faults before begun.vols
-    pub left : disk.told → LeavesOpening disk.volume many text (Some moment) before begun.vols disk.moment disk.images_since
+    pub still : NoneFailed many disk before begun.vols
+    pub left : disk.told → LeavesOpening disk many text (Some moment) before begun.vols
 
   module _ (report : Report) (clock : Type 0) (given given_after : List ℕ) (status : ℕ) (printed sure : List ℕ) where
     -- the systems were not opened, and no command was carried out

@@ -76,13 +76,13 @@ pub fn aleflow<
     gate: &G,
 ) -> Ended<V>
     ensures ended { result.status ≢ 6 → (printed : List ℕ) × ((sure : List ℕ)
-        × EndsSo (record { told = V.told; volume = V.volume; faults = V.faults; moment = V.moment; images_since = V.images_since })
+        × EndsSo V.disk
         (map string_bytes words.now) (F.told files.old) (F.faults files.old) (F.faults files.new) vols result.vols
         (C.told clock.new) (C.given clock.old) (C.given clock.new) result.status printed sure
         × Appends (K.contents out.old) (K.contents out.new) printed
         × (K.faults out.new ≡ K.faults out.old)) }
     ensures write_fault { result.status ≡ 6 → (status : ℕ) × ((printed : List ℕ) × ((sure : List ℕ)
-        × EndsSo (record { told = V.told; volume = V.volume; faults = V.faults; moment = V.moment; images_since = V.images_since })
+        × EndsSo V.disk
         (map string_bytes words.now) (F.told files.old) (F.faults files.old) (F.faults files.new) vols result.vols
         (C.told clock.new) (C.given clock.old) (C.given clock.new) status printed sure
         × IsFront (K.contents out.old) (K.contents out.new) (K.faults out.old) (K.faults out.new) printed sure)) }

@@ -55,11 +55,11 @@ pub(crate) fn run<R: Threads + Wait + Sync, G: Gate + Sync, V: Volumes + Send, K
     requires short { length prepared.text ≤ MOST_TEXT }
     requires names { arc_value prepared.inputs.model ≡ arc_value prepared.model }
     ensures ended { result.status ≢ 6 → (printed : List ℕ) × ((sure : List ℕ)
-        × RunsTo (record { told = V.told; volume = V.volume; faults = V.faults; moment = V.moment; images_since = V.images_since })
+        × RunsTo V.disk
         prepared.text (arc_value prepared.model) prepared.inputs.masters prepared.commands vols result.vols report (C.told clock.new) (C.given clock.old) (C.given clock.new) result.status printed sure
         × IsPut (K.contents out.old) (K.contents out.new) (K.faults out.old) (K.faults out.new) printed) }
     ensures write_fault { result.status ≡ 6 → (status : ℕ) × ((printed : List ℕ) × ((sure : List ℕ)
-        × RunsTo (record { told = V.told; volume = V.volume; faults = V.faults; moment = V.moment; images_since = V.images_since })
+        × RunsTo V.disk
         prepared.text (arc_value prepared.model) prepared.inputs.masters prepared.commands vols result.vols report (C.told clock.new) (C.given clock.old) (C.given clock.new) status printed sure
         × IsFront (K.contents out.old) (K.contents out.new) (K.faults out.old) (K.faults out.new) printed sure)) }
     ensures counted { K.faults out.old ≤ K.faults out.new }
@@ -116,11 +116,11 @@ fn run_opened<R: Threads + Wait + Sync, G: Gate + Sync, V: Volumes + Send, K: Si
 ) -> Ended<V>
     requires up { first_down landscape.world ≡ None }
     ensures ended { result.status ≢ 6 → (printed : List ℕ) × ((sure : List ℕ)
-        × RanFrom (record { told = V.told; volume = V.volume; faults = V.faults; moment = V.moment; images_since = V.images_since })
+        × RanFrom V.disk
         report_of.Commands (arc_value inputs.now.model) inputs.now commands.now landscape result.vols (C.told clock.new) (C.given clock.old) (C.given clock.new) result.status printed sure
         × IsPut (K.contents out.old) (K.contents out.new) (K.faults out.old) (K.faults out.new) printed) }
     ensures write_fault { result.status ≡ 6 → (status : ℕ) × ((printed : List ℕ) × ((sure : List ℕ)
-        × RanFrom (record { told = V.told; volume = V.volume; faults = V.faults; moment = V.moment; images_since = V.images_since })
+        × RanFrom V.disk
         report_of.Commands (arc_value inputs.now.model) inputs.now commands.now landscape result.vols (C.told clock.new) (C.given clock.old) (C.given clock.new) status printed sure
         × IsFront (K.contents out.old) (K.contents out.new) (K.faults out.old) (K.faults out.new) printed sure)) }
     ensures told { C.told clock.new → C.told clock.old }
@@ -176,11 +176,11 @@ fn load_opened<R: Threads + Wait + Sync, G: Gate + Sync, V: Volumes + Send, K: S
 ) -> Ended<V>
     requires up { first_down landscape.world ≡ None }
     ensures ended { result.status ≢ 6 → (printed : List ℕ) × ((sure : List ℕ)
-        × RanFrom (record { told = V.told; volume = V.volume; faults = V.faults; moment = V.moment; images_since = V.images_since })
+        × RanFrom V.disk
         report_of.Counts (arc_value inputs.now.model) inputs.now commands.now landscape result.vols (C.told clock.new) (C.given clock.old) (C.given clock.new) result.status printed sure
         × IsPut (K.contents out.old) (K.contents out.new) (K.faults out.old) (K.faults out.new) printed) }
     ensures write_fault { result.status ≡ 6 → (status : ℕ) × ((printed : List ℕ) × ((sure : List ℕ)
-        × RanFrom (record { told = V.told; volume = V.volume; faults = V.faults; moment = V.moment; images_since = V.images_since })
+        × RanFrom V.disk
         report_of.Counts (arc_value inputs.now.model) inputs.now commands.now landscape result.vols (C.told clock.new) (C.given clock.old) (C.given clock.new) status printed sure
         × IsFront (K.contents out.old) (K.contents out.new) (K.faults out.old) (K.faults out.new) printed sure)) }
     ensures told { C.told clock.new → C.told clock.old }

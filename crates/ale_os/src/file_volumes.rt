@@ -37,7 +37,7 @@ pub struct FileVolumes<'a, R: rt::Files<File = File>> {
 impl<'a, R: rt::Files<File = File>> FileVolumes<'a, R> {
     /// No file is open, and no call has failed yet. It takes no memory, and touches no file.
     pub fn new(rt: &'a R, alloc: Global, first_bytes: [u8; 2]) -> FileVolumes<'a, R>
-        ensures { (n : ℕ) → n < 16 → ⟦<FileVolumes<'a, R> as Volumes>⟧.faults result n ≡ 0 }
+        ensures { (n : ℕ) → n < 16 → ⟦<FileVolumes<'a, R> as Volumes>⟧.disk.faults result n ≡ 0 }
     {
         FileVolumes {
             rt,
@@ -52,7 +52,7 @@ impl<'a, R: rt::Files<File = File>> FileVolumes<'a, R> {
     /// How many calls on a volume have failed.
     pub fn faults(&self, n: u8) -> u64
         requires { n < 16 }
-        ensures { result ≡ ⟦<FileVolumes<'a, R> as Volumes>⟧.faults self.now n }
+        ensures { result ≡ ⟦<FileVolumes<'a, R> as Volumes>⟧.disk.faults self.now n }
     {
         self.faults[usize::from(n)]
     }
@@ -148,15 +148,14 @@ impl<R: rt::Files<File = File>> Volumes for FileVolumes<'_, R> {
     ghost use Rattle.std.specs.Prelude.{[], slice_index};
     ghost use Rattle.ale_volumes.specs.Volume.{settled};
 
-    ghost told = { ⊥ };
-
-    ghost volume = { λ _ _. settled [] };
-
-    ghost moment = { λ _. 0 };
-
-    ghost images_since = { λ _ _ _ _. ⊥ };
-
-    ghost faults = { λ volumes n. slice_index volumes.faults n };
+    // What files hold is told by no contract, since others may write them; how many calls on each failed is.
+    ghost disk = { record {
+      told = ⊥;
+      volume = λ _ _. settled [];
+      moment = λ _. 0;
+      images_since = λ _ _ _ _. ⊥;
+      faults = λ volumes n. slice_index volumes.faults n;
+    } };
 
     ghost read_is_image = { λ told _ _. absurd told };
 

@@ -5,7 +5,8 @@ use Rattle.ale_volumes.specs.declared.step.Step.TheVariants.{Write, Sync}
 use Rattle.ale_volumes.specs.Volume.{IsImage, settled, written, FailsToWrite}
 use Rattle.ale_volumes.specs.Clock.{Elapses, KeepsOthers}
 use Rattle.ale_volumes.specs.Memory.{MemoryOf, AddsSync, half_written, after_step}
-use Rattle.ale_volumes.specs.MemoryLemmas.{volume_now, moment_of, images_of, volume_step, volume_same, elapses_step, elapses_still, others_stay, others_same}
+use Rattle.ale_volumes.specs.MemoryLemmas.{memory, volume_now, moment_of, images_of, volume_step, volume_same, elapses_step, elapses_still, others_stay}
+use Rattle.ale_volumes.specs.MemoryLemmas.{others_same}
 use Rattle.ale_volumes.specs.MemoryLemmas.{after_step-sync, after_step-write, after_step-half, after_steps-clean, half_written-torn}
 
 module _ (old new : MemoryOf) (n : ℕ) (start : new.start ≡ old.start) where
@@ -17,7 +18,7 @@ module _ (old new : MemoryOf) (n : ℕ) (start : new.start ≡ old.start) where
   sync-time (inl more) = elapses_step old new (Sync n) n start more.0
   sync-time (inr same) = elapses_still old new n start same.0
 
-  pub sync-others : AddsSync old new n → KeepsOthers volume_now moment_of images_of old new n
+  pub sync-others : AddsSync old new n → KeepsOthers memory old new n
   sync-others (inl more) = others_stay old new (Sync n) n refl start more.0
   sync-others (inr same) = others_same old new n start same.0
 
@@ -25,7 +26,7 @@ module _ (old new : MemoryOf) (n : ℕ) (start : new.start ≡ old.start) where
     pub write-time : Elapses (moment_of old) (moment_of new) (images_of old n) (images_of new n) (IsImage (volume_now new n))
     write-time = elapses_step old new (Write n at bytes failed) n start more
 
-    pub write-others : KeepsOthers volume_now moment_of images_of old new n
+    pub write-others : KeepsOthers memory old new n
     write-others = others_stay old new (Write n at bytes failed) n refl start more
 
     pub write-written : failed ≡ false → at ≤ length (volume_now old n).contents → volume_now new n ≡ written (volume_now old n) at bytes

@@ -1,5 +1,7 @@
 -- What is known of a volume, and what a crash may leave of it.
 pub mod Volume
+-- What volumes let others know.
+pub mod Disk
 -- What a crash at any moment leaves, and what the other volumes keep.
 pub mod Clock
 -- Counts of faults.

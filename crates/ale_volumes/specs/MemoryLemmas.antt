@@ -1,5 +1,5 @@
 -- Laws of volumes in memory.
-use Rattle.std.specs.Prelude.{slice_index_or, fold}
+use Rattle.std.specs.Prelude.{slice_index, slice_index_or, fold}
 use Rattle.std.proofs.Common.{◌≡◌, ◌≢◌, ◌⊎◌, ◌↔◌, inl, inr, ℕ, ◌+◌, ◌-◌, ◌/◌, ◌<◌, ◌≤◌, min, max, Bool, true, false, cond, eqb, List, [], ◌∷◌, ◌++◌, length}
 use Rattle.std.proofs.Common.{take, drop, get_or, refl, sym, ◌∙◌, ap, subst, arith, length-append, append_assoc, rules}
 use Rattle.std.specs.List.{Contains}
@@ -14,6 +14,7 @@ use Rattle.ale_volumes.specs.declared.step.Step.{Step}
 use Rattle.ale_volumes.specs.declared.step.Step.TheVariants.{Write, Sync}
 use Rattle.ale_volumes.specs.Volume.{IsImage, IsCovered, settled, written, overwritten, FailsToWrite}
 use Rattle.ale_volumes.specs.Clock.{Elapses, KeepsOthers}
+use Rattle.ale_volumes.specs.Disk.{Disk}
 use Rattle.ale_volumes.specs.Memory.{MemoryOf, place_in, left_of, half_written, after_step, after_steps, LeftSince}
 
 -- what is written keeps the bytes before and behind it
@@ -284,8 +285,18 @@ moment_of memory = length memory.steps
 abbrev pub images_of : MemoryOf → ℕ → ℕ → List ℕ → Type 0
 images_of memory n t image = LeftSince memory.start memory.steps n t image
 
+-- what is known of volumes in memory
+abbrev pub memory : Disk MemoryOf
+memory = record {
+  told = Unit {0};
+  volume = volume_now;
+  moment = moment_of;
+  images_since = images_of;
+  faults = λ vols n. slice_index vols.calls.faults n;
+}
+
 -- with no step all is as it was
-pub others_same : (old new : MemoryOf) (n : ℕ) → new.start ≡ old.start → new.steps ≡ old.steps → KeepsOthers volume_now moment_of images_of old new n
+pub others_same : (old new : MemoryOf) (n : ℕ) → new.start ≡ old.start → new.steps ≡ old.steps → KeepsOthers memory old new n
 others_same old new n start steps = record {
   known = λ m other. cc;
   images = λ m t image other le. (
@@ -318,7 +329,7 @@ others_push old start steps step n own same more m t image other le =
 
 -- a step of one volume leaves all others alone
 pub others_stay : (old new : MemoryOf) (step : Step) (n : ℕ) → n ≡ volume_of step → new.start ≡ old.start → new.steps ≡ old.steps ++ step ∷ [] →
-    KeepsOthers volume_now moment_of images_of old new n
+    KeepsOthers memory old new n
 others_stay old new step n own start steps = record {
   known = λ m other. let more : after_steps new.start new.steps m ≡ after_steps old.start (old.steps ++ step ∷ []) m = cc in
       more ∙ after_steps-push old.start old.steps step m ∙ after_step-other m _ step (λ is. other (is ∙ sym own));

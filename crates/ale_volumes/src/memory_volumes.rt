@@ -253,17 +253,9 @@ impl Volumes for MemoryVolumes {
     ghost use Rattle.ale_volumes.specs.Clock.{Elapses, KeepsOthers};
     ghost use Rattle.ale_volumes.specs.Faults.{CountsFault};
     ghost use Rattle.ale_volumes.specs.Calls.{CountsCall, NextFails};
-    ghost use Rattle.ale_volumes.specs.MemoryLemmas.{volume_now, moment_of, images_of, counts_now, only_now, after_steps-read};
+    ghost use Rattle.ale_volumes.specs.MemoryLemmas.{memory, volume_now, moment_of, images_of, counts_now, only_now, after_steps-read};
 
-    ghost told = { Unit {0} };
-
-    ghost volume = { volume_now };
-
-    ghost moment = { moment_of };
-
-    ghost images_since = { images_of };
-
-    ghost faults = { λ memory n. slice_index memory.calls.faults n };
+    ghost disk = { memory };
 
     ghost read_is_image = { λ told memory n. after_steps-read memory.start memory.steps n };
 
@@ -278,7 +270,7 @@ impl Volumes for MemoryVolumes {
         ensures kept { self.new ≡ record self.old { calls = self.new.calls } }
         ensures time { Elapses (moment_of self.old) (moment_of self.new)
             (images_of self.old n) (images_of self.new n) (IsImage (volume_now self.new n)) }
-        ensures others { KeepsOthers volume_now moment_of images_of self.old self.new n }
+        ensures others { KeepsOthers memory self.old self.new n }
         ensures faults { CountsFault (IsErr result)
             (slice_index self.old.calls.faults) (slice_index self.new.calls.faults) n }
 
@@ -300,7 +292,7 @@ impl Volumes for MemoryVolumes {
         ensures kept { self.new ≡ record self.old { calls = self.new.calls } }
         ensures time { Elapses (moment_of self.old) (moment_of self.new)
             (images_of self.old n) (images_of self.new n) (IsImage (volume_now self.new n)) }
-        ensures others { KeepsOthers volume_now moment_of images_of self.old self.new n }
+        ensures others { KeepsOthers memory self.old self.new n }
         ensures faults { CountsFault (IsErr result)
             (slice_index self.old.calls.faults) (slice_index self.new.calls.faults) n }
 
@@ -326,7 +318,7 @@ impl Volumes for MemoryVolumes {
         ensures unwritten { IsErrOf result VolumeEnd.OutOfMemory → volume_now self.new n ≡ volume_now self.old n }
         ensures time { Elapses (moment_of self.old) (moment_of self.new)
             (images_of self.old n) (images_of self.new n) (IsImage (volume_now self.new n)) }
-        ensures others { KeepsOthers volume_now moment_of images_of self.old self.new n }
+        ensures others { KeepsOthers memory self.old self.new n }
         ensures faults { CountsFault (IsErrOf result VolumeEnd.Failed)
             (slice_index self.old.calls.faults) (slice_index self.new.calls.faults) n }
 
@@ -359,7 +351,7 @@ impl Volumes for MemoryVolumes {
         ensures err { OnErr result (volume_now self.new n ≡ volume_now self.old n) }
         ensures time { Elapses (moment_of self.old) (moment_of self.new)
             (images_of self.old n) (images_of self.new n) (IsImage (volume_now self.new n)) }
-        ensures others { KeepsOthers volume_now moment_of images_of self.old self.new n }
+        ensures others { KeepsOthers memory self.old self.new n }
         ensures faults { CountsFault (IsErr result)
             (slice_index self.old.calls.faults) (slice_index self.new.calls.faults) n }
 

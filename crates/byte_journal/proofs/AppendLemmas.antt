@@ -3,6 +3,7 @@ use Rattle.std.proofs.Common.{◌≡◌, ◌≢◌, inl, inr, ℕ, ◌+◌, ◌<
 use Rattle.std.proofs.Common.{length-append, append_assoc, take-append-drop}
 use Rattle.std.proofs.lemmas.Bool.{cases_eq}
 use Rattle.std.proofs.lemmas.List.{take_at, drop_at, drop_more}
+use Rattle.ale_volumes.specs.Disk.{Disk}
 use Rattle.ale_volumes.specs.declared.volume.Volume.{Volume}
 use Rattle.ale_volumes.specs.Volume.{settled, overwritten, Torn}
 use Rattle.byte_journal.specs.declared.journal.Journal.{Journal}
@@ -148,10 +149,10 @@ module _ (log : List (List ℕ)) (body : List ℕ) (some : 0 < length body) (fit
       ∙ append_assoc (records log) (open_gate ∷ []) (framed body ++ 0 ∷ is.behind))
 
 -- The same of a journal that stands at the end of the log, in the words of the two writes.
-module _ {D : Type 0} (volume : D → ℕ → Volume) (old mid new : D) (journal : Journal) (log : List (List ℕ)) (body block : List ℕ)
-    (s : IsSettled volume old journal log) (is_block : block ≡ framed body ++ 0 ∷ []) where
+module _ {D : Type 0} (disk : Disk D) (old mid new : D) (journal : Journal) (log : List (List ℕ)) (body block : List ℕ)
+    (s : IsSettled disk old journal log) (is_block : block ≡ framed body ++ 0 ∷ []) where
   abbrev held : D → List ℕ
-  held vols = (volume vols journal.volume).contents
+  held vols = (disk.volume vols journal.volume).contents
 
   first_torn : (image : List ℕ) → Torn (journal.gate + 1) (length block) (held old) image → IsClosed image log
   first_torn image torn = torn_block (held old) image log (length block) s.closed (subst (λ (p : ℕ). Torn (p + 1) (length block) (held old) image) s.place torn)
@@ -160,7 +161,7 @@ module _ {D : Type 0} (volume : D → ℕ → Volume) (old mid new : D) (journal
   pub first_before : (image : List ℕ) → Torn (journal.gate + 1) (length block) (held old) image → IsBeforeOrAfter log body image
   first_before image torn = inl (closed_stands image log (first_torn image torn))
 
-  module _ (wrote : volume mid journal.volume ≡ settled (overwritten (held old) (journal.gate + 1) block)) where
+  module _ (wrote : disk.volume mid journal.volume ≡ settled (overwritten (held old) (journal.gate + 1) block)) where
     contents_mid : held mid ≡ overwritten (held old) (length (records log) + 1) (framed body ++ 0 ∷ [])
     contents_mid =
         ap (λ (v : Volume). v.contents) wrote
@@ -170,11 +171,11 @@ module _ {D : Type 0} (volume : D → ℕ → Volume) (old mid new : D) (journal
     staged : IsStaged (held mid) log body
     staged = subst (λ (b : List ℕ). IsStaged b log body) (sym contents_mid) (block_written (held old) log body s.closed)
 
-    durable_mid : volume mid journal.volume ≡ settled (held mid)
+    durable_mid : disk.volume mid journal.volume ≡ settled (held mid)
     durable_mid = wrote ∙ ap settled (ap (λ (v : Volume). v.contents) (sym wrote))
 
     -- the journal is as before, with more behind its last gate
-    pub still_settled : volume new journal.volume ≡ volume mid journal.volume → IsSettled volume new journal log
+    pub still_settled : disk.volume new journal.volume ≡ disk.volume mid journal.volume → IsSettled disk new journal log
     still_settled same =
         let kept : IsClosed (held new) log = subst (λ (v : Volume). IsClosed v.contents log) (sym same) (staged_closed (held mid) log body staged) in
         record {
@@ -191,20 +192,20 @@ module _ {D : Type 0} (volume : D → ℕ → Volume) (old mid new : D) (journal
       second_torn image torn =
           torn_gate log body some fits_log (held mid) image staged (subst (λ (p : ℕ). Torn p 1 (held mid) image) s.place torn)
 
-      pub mid_durable : volume mid journal.volume ≡ settled (held mid)
+      pub mid_durable : disk.volume mid journal.volume ≡ settled (held mid)
       mid_durable = durable_mid
 
       -- and the next one has the body
       pub added : (after : Journal) → after.volume ≡ journal.volume → after.gate ≡ journal.gate + 5 + length body
-          → volume new journal.volume ≡ settled (overwritten (held mid) journal.gate (open_gate ∷ [])) → IsSettled volume new after (log ++ body ∷ [])
+          → disk.volume new journal.volume ≡ settled (overwritten (held mid) journal.gate (open_gate ∷ [])) → IsSettled disk new after (log ++ body ∷ [])
       added after same_volume next opens =
           let is : held new ≡ overwritten (held mid) (length (records log)) (open_gate ∷ []) =
           ap (λ (v : Volume). v.contents) opens ∙ ap (λ (p : ℕ). overwritten (held mid) p (open_gate ∷ [])) s.place in
           let closed : IsClosed (held new) (log ++ body ∷ []) =
           subst (λ (b : List ℕ). IsClosed b (log ++ body ∷ [])) (sym is) (gate_opened log body some fits_log (held mid) staged) in
-          let durable : volume new journal.volume ≡ settled (held new) = opens ∙ ap settled (ap (λ (v : Volume). v.contents) (sym opens)) in
+          let durable : disk.volume new journal.volume ≡ settled (held new) = opens ∙ ap settled (ap (λ (v : Volume). v.contents) (sym opens)) in
           record {
-            closed = subst (λ (n : ℕ). IsClosed (volume new n).contents (log ++ body ∷ [])) (sym same_volume) closed;
+            closed = subst (λ (n : ℕ). IsClosed (disk.volume new n).contents (log ++ body ∷ [])) (sym same_volume) closed;
             place = omega (arith, next, s.place, length-records-push log body);
-            durable = subst (λ (n : ℕ). volume new n ≡ settled (volume new n).contents) (sym same_volume) durable;
+            durable = subst (λ (n : ℕ). disk.volume new n ≡ settled (disk.volume new n).contents) (sym same_volume) durable;
           }

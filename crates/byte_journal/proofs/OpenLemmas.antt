@@ -1,6 +1,7 @@
 -- What a crash leaves while a journal is opened: bytes are read, and then the last gate is closed.
 use Rattle.std.specs.Prelude.{Result, Ok, Err, IsErrOf}
 use Rattle.std.proofs.Common.{◌≡◌, ◌⊎◌, inl, inr, ⊎_elim, ℕ, List, subst, arith}
+use Rattle.ale_volumes.specs.Disk.{Disk}
 use Rattle.ale_volumes.specs.declared.volume.Volume.{Volume}
 use Rattle.ale_volumes.specs.Volume.{IsImage, settled}
 use Rattle.ale_volumes.specs.Clock.{LeavesOnly}
@@ -13,22 +14,22 @@ use Rattle.byte_journal.specs.Bytes.{IsAsBeforeButForTheGate}
 use Rattle.byte_journal.specs.steps.Reading.{ReadsTo, Reads}
 use Rattle.byte_journal.proofs.FrontLemmas.{ReadsTo-front, DamagedAt-front}
 
-module _ {D : Type 0} (volume : D → ℕ → Volume) (moment : D → ℕ) (images_since : D → ℕ → ℕ → List ℕ → Type 0) (old mid new : D) (n : ℕ)
+module _ {D : Type 0} (disk : Disk D) (old mid new : D) (n : ℕ)
     (log : List (List ℕ)) where
   abbrev before : List ℕ
-  before = (volume old n).contents
+  before = (disk.volume old n).contents
 
-  module _ (stands : Stands before log) (closes : LeavesOnly moment images_since mid new n (λ image. Stands image log)) where
+  module _ (stands : Stands before log) (closes : LeavesOnly disk mid new n (λ image. Stands image log)) where
     reads : (image : List ℕ) → Stands image log → ReadsAs before image
     reads image also = inr (log, stands, also)
 
-    pub open-any_moment : LeavesOnly moment images_since old mid n (IsImage (volume old n)) →
-        LeavesOnly moment images_since old new n (λ image. IsImage (volume old n) image ⊎ ReadsAs before image)
+    pub open-any_moment : LeavesOnly disk old mid n (IsImage (disk.volume old n)) →
+        LeavesOnly disk old new n (λ image. IsImage (disk.volume old n) image ⊎ ReadsAs before image)
     open-any_moment first =
-        joined moment images_since old mid new n _ (weaker moment images_since old mid n _ _ (λ image is. inl is) first)
-        (weaker moment images_since mid new n _ _ (λ image also. inr (reads image also)) closes)
+        joined disk old mid new n _ (weaker disk old mid n _ _ (λ image is. inl is) first)
+        (weaker disk mid new n _ _ (λ image also. inr (reads image also)) closes)
 
-    later : LeavesOnlyLater moment images_since old mid n (λ image. image ≡ before) → LeavesOnlyLater moment images_since old new n (ReadsAs before)
+    later : LeavesOnlyLater disk old mid n (λ image. image ≡ before) → LeavesOnlyLater disk old new n (ReadsAs before)
     later first = record {
       from = first.from;
       not_before = first.not_before;
@@ -37,8 +38,8 @@ module _ {D : Type 0} (volume : D → ℕ → Volume) (moment : D → ℕ) (imag
     }
 
     pub open-from_sync : {T : Type 0} (result : Result T OpenFault) (value : T) → result ≡ Ok value
-        → (IsErrOf result VolumeFault × (volume mid n ≡ volume old n)) ⊎ LeavesOnlyLater moment images_since old mid n (λ image. image ≡ before) →
-        LeavesOnlyLater moment images_since old new n (ReadsAs before)
+        → (IsErrOf result VolumeFault × (disk.volume mid n ≡ disk.volume old n)) ⊎ LeavesOnlyLater disk old mid n (λ image. image ≡ before) →
+        LeavesOnlyLater disk old new n (ReadsAs before)
     open-from_sync result value is (inl failed) = let refused = failed.0 in absurd (cc)
     open-from_sync result value is (inr first) = later first
 

@@ -1,5 +1,6 @@
 -- Journals through calls on other volumes, for who builds on them.
 use Rattle.std.proofs.Common.{◌≡◌, ◌+◌, ℕ, List, [], ◌∷◌, ◌++◌, length, sym, ◌∙◌, ap, subst, arith}
+use Rattle.ale_volumes.specs.Disk.{Disk}
 use Rattle.ale_volumes.specs.declared.volume.Volume.{Volume}
 use Rattle.ale_volumes.specs.Volume.{IsImage, settled}
 use Rattle.ale_volumes.specs.Clock.{LeavesOnly, KeepsVolume}
@@ -16,28 +17,27 @@ pub IsAtEnd-push : (old new : Journal) (log : List (List ℕ)) (body : List ℕ)
     IsAtEnd new (log ++ body ∷ [])
 IsAtEnd-push old new log body moved at_end = omega (arith, moved, at_end, length-records-push log body)
 
-module _ {D : Type 0} (volume : D → ℕ → Volume) where
+module _ {D : Type 0} (disk : Disk D) where
   -- Each image of a settled journal's volume stands for its log.
-  pub IsSettled-stands : (vols : D) (journal : Journal) (log : List (List ℕ)) → IsSettled volume vols journal log → (image : List ℕ) →
-      IsImage (volume vols journal.volume) image → Stands image log
+  pub IsSettled-stands : (vols : D) (journal : Journal) (log : List (List ℕ)) → IsSettled disk vols journal log → (image : List ℕ) →
+      IsImage (disk.volume vols journal.volume) image → Stands image log
   IsSettled-stands vols journal log s image is =
-      let same = settled-image (volume vols journal.volume).contents image (subst (λ (v : Volume). IsImage v image) s.durable is) in
-      subst (λ (b : List ℕ). Stands b log) (sym same) (closed_stands (volume vols journal.volume).contents log s.closed)
+      let same = settled-image (disk.volume vols journal.volume).contents image (subst (λ (v : Volume). IsImage v image) s.durable is) in
+      subst (λ (b : List ℕ). Stands b log) (sym same) (closed_stands (disk.volume vols journal.volume).contents log s.closed)
 
-  module _ (moment : D → ℕ) (images_since : D → ℕ → ℕ → List ℕ → Type 0) where
-    -- A journal that is settled stays so through calls on other volumes.
-    pub IsSettled-kept : (old new : D) (journal : Journal) (log : List (List ℕ)) → KeepsVolume volume moment images_since old new journal.volume →
-        IsSettled volume old journal log → IsSettled volume new journal log
-    IsSettled-kept old new journal log kept s = record {
-      closed = subst (λ (v : Volume). IsClosed v.contents log) (sym kept.known) s.closed;
-      place = s.place;
-      durable = kept.known ∙ s.durable ∙ ap (λ (v : Volume). settled v.contents) (sym kept.known);
-    }
+  -- A journal that is settled stays so where its volume is known as before.
+  pub IsSettled-kept : (old new : D) (journal : Journal) (log : List (List ℕ)) → disk.volume new journal.volume ≡ disk.volume old journal.volume →
+      IsSettled disk old journal log → IsSettled disk new journal log
+  IsSettled-kept old new journal log known s = record {
+    closed = subst (λ (v : Volume). IsClosed v.contents log) (sym known) s.closed;
+    place = s.place;
+    durable = known ∙ s.durable ∙ ap (λ (v : Volume). settled v.contents) (sym known);
+  }
 
-    -- While other volumes are called, a crash leaves of a settled journal's volume bytes that stand for its log.
-    pub IsSettled-any_moment : (old new : D) (journal : Journal) (log : List (List ℕ)) →
-        ((image : List ℕ) → images_since old journal.volume (moment old) image → IsImage (volume old journal.volume) image)
-        → KeepsVolume volume moment images_since old new journal.volume → IsSettled volume old journal log →
-        LeavesOnly moment images_since old new journal.volume (λ image. Stands image log)
-    IsSettled-any_moment old new journal log only_now kept s =
-        LeavesOnly-kept moment images_since volume old new journal.volume _ (λ image left. IsSettled-stands old journal log s image (only_now image left)) kept
+  -- While other volumes are called, a crash leaves of a settled journal's volume bytes that stand for its log.
+  pub IsSettled-any_moment : (old new : D) (journal : Journal) (log : List (List ℕ)) →
+      ((image : List ℕ) → disk.images_since old journal.volume (disk.moment old) image → IsImage (disk.volume old journal.volume) image)
+      → KeepsVolume disk old new journal.volume → IsSettled disk old journal log →
+      LeavesOnly disk old new journal.volume (λ image. Stands image log)
+  IsSettled-any_moment old new journal log only_now kept s =
+      LeavesOnly-kept disk old new journal.volume _ (λ image left. IsSettled-stands old journal log s image (only_now image left)) kept

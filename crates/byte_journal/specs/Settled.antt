@@ -1,5 +1,6 @@
 -- A journal that is ready for appends, and what opening one answers.
 use Rattle.std.specs.Prelude.{◌≡◌, ◌≢◌, ◌⊎◌, ℕ, ◌<◌, ◌≤◌, List, [], ◌∷◌, ◌++◌, length, Result, Ok, Err}
+use Rattle.ale_volumes.specs.Disk.{Disk}
 use Rattle.ale_volumes.specs.declared.volume.Volume.{Volume}
 use Rattle.ale_volumes.specs.Volume.{IsImage, settled}
 use Rattle.byte_journal.specs.declared.journal.Journal.{Journal}
@@ -32,10 +33,10 @@ MovesOn old new body (Ok done) = (new.volume ≡ old.volume) × ((log : List (Li
 MovesOn old new body (Err fault) = new ≡ old
 
 -- The journal stands at the end of this log, whose last gate is closed, and all of it is on the disk for good.
-pub record IsSettled {D : Type 0} (volume : D → ℕ → Volume) (vols : D) (journal : Journal) (log : List (List ℕ)) : Type 0 where
-  pub closed : IsClosed (volume vols journal.volume).contents log
+pub record IsSettled {D : Type 0} (disk : Disk D) (vols : D) (journal : Journal) (log : List (List ℕ)) : Type 0 where
+  pub closed : IsClosed (disk.volume vols journal.volume).contents log
   pub place : IsAtEnd journal log
-  pub durable : volume vols journal.volume ≡ settled (volume vols journal.volume).contents
+  pub durable : disk.volume vols journal.volume ≡ settled (disk.volume vols journal.volume).contents
 
 -- What opening these bytes answers: the log that they stand for, or the place where they are damaged. The volume may
 -- fail, and memory may run out.
@@ -50,15 +51,15 @@ abbrev pub IsBeforeOrAfter : List (List ℕ) → List ℕ → List ℕ → Type 
 IsBeforeOrAfter log body bytes = Stands bytes log ⊎ Stands bytes (log ++ body ∷ [])
 
 -- from some moment between old and new on, a crash leaves of volume n only what has P
-pub record LeavesOnlyLater {D : Type 0} (moment : D → ℕ) (images_since : D → ℕ → ℕ → List ℕ → Type 0) (old new : D) (n : ℕ) (P : List ℕ → Type 0) : Type 0 where
+pub record LeavesOnlyLater {D : Type 0} (disk : Disk D) (old new : D) (n : ℕ) (P : List ℕ → Type 0) : Type 0 where
   pub from : ℕ
-  pub not_before : moment old ≤ from
-  pub not_after : from ≤ moment new
-  pub each : (image : List ℕ) → images_since new n from image → P image
+  pub not_before : disk.moment old ≤ from
+  pub not_after : from ≤ disk.moment new
+  pub each : (image : List ℕ) → disk.images_since new n from image → P image
 
 -- The first call failed, and volume n is as before; or from some moment on a crash leaves of it only what has P.
-abbrev pub LeavesOnlyFromSync : {D : Type 0} → (D → ℕ → Volume) → (D → ℕ) → (D → ℕ → ℕ → List ℕ → Type 0) → D → D → ℕ → Type 0 → (List ℕ → Type 0) → Type 0
-LeavesOnlyFromSync volume moment images_since old new n failed P = (failed × (volume new n ≡ volume old n)) ⊎ LeavesOnlyLater moment images_since old new n P
+abbrev pub LeavesOnlyFromSync : {D : Type 0} → Disk D → D → D → ℕ → Type 0 → (List ℕ → Type 0) → Type 0
+LeavesOnlyFromSync disk old new n failed P = (failed × (disk.volume new n ≡ disk.volume old n)) ⊎ LeavesOnlyLater disk old new n P
 
 -- while a volume is opened, a crash leaves what it left of it before, or what reads as it
 abbrev pub IsLeftByOpening : Volume → List ℕ → Type 0

@@ -22,16 +22,16 @@ pub(crate) fn close_gate<V: Volumes>(
 ) -> Result<(), VolumeEnd>
     requires number { n < 16 }
     requires reads { (log : List (List ℕ)) × ReadsTo bytes.now log gate }
-    requires front { V.told → bytes.now ≡ front_of (V.volume vols.old n).contents }
-    requires held { V.told → V.volume vols.old n ≡ settled (V.volume vols.old n).contents }
-    ensures closed { V.told → (log : List (List ℕ)) → ReadsTo bytes.now log gate →
-        OnOk result (IsClosed (V.volume vols.new n).contents log) }
-    ensures durable { V.told → OnOk result (V.volume vols.new n ≡ settled (V.volume vols.new n).contents) }
-    ensures leaves { V.told → LeavesClosed (V.volume vols.old n) (V.volume vols.new n) result }
-    ensures any_moment { V.told → (log : List (List ℕ)) → ReadsTo bytes.now log gate →
-        LeavesOnly V.moment V.images_since vols.old vols.new n (λ image. Stands image log) }
-    ensures others { V.told → KeepsOthers V.volume V.moment V.images_since vols.old vols.new n }
-    ensures faults { CountsFault (IsErrOf result VolumeEnd.Failed) (V.faults vols.old) (V.faults vols.new) n }
+    requires front { V.disk.told → bytes.now ≡ front_of (V.disk.volume vols.old n).contents }
+    requires held { V.disk.told → V.disk.volume vols.old n ≡ settled (V.disk.volume vols.old n).contents }
+    ensures closed { V.disk.told → (log : List (List ℕ)) → ReadsTo bytes.now log gate →
+        OnOk result (IsClosed (V.disk.volume vols.new n).contents log) }
+    ensures durable { V.disk.told → OnOk result (V.disk.volume vols.new n ≡ settled (V.disk.volume vols.new n).contents) }
+    ensures leaves { V.disk.told → LeavesClosed (V.disk.volume vols.old n) (V.disk.volume vols.new n) result }
+    ensures any_moment { V.disk.told → (log : List (List ℕ)) → ReadsTo bytes.now log gate →
+        LeavesOnly V.disk vols.old vols.new n (λ image. Stands image log) }
+    ensures others { V.disk.told → KeepsOthers V.disk vols.old vols.new n }
+    ensures faults { CountsFault (IsErrOf result VolumeEnd.Failed) (V.disk.faults vols.old) (V.disk.faults vols.new) n }
 {
     if is_closed(bytes, gate) {
         return Ok(());

@@ -57,30 +57,30 @@ impl Journal {
     /// nothing was written. After `Volume` the journal is to be opened again before further use.
     pub fn append<V: Volumes>(&mut self, vols: &mut V, body: &[u8]) -> Result<(), AppendFault>
         requires body { 0 < length body.now }
-        requires settled { V.told → (log : List (List ℕ)) × IsSettled V.volume vols.old self.old log }
+        requires settled { V.disk.told → (log : List (List ℕ)) × IsSettled V.disk vols.old self.old log }
 
         // The log has one body more.
-        ensures added { V.told → (log : List (List ℕ)) → IsSettled V.volume vols.old self.old log →
-            OnOk result (IsSettled V.volume vols.new self.new (log ++ body.now ∷ [])) }
+        ensures added { V.disk.told → (log : List (List ℕ)) → IsSettled V.disk vols.old self.old log →
+            OnOk result (IsSettled V.disk vols.new self.new (log ++ body.now ∷ [])) }
         ensures moves_on { MovesOn self.old self.new body.now result }
 
         // The volume holds what it held, the gate open, length, body, a closed gate, and what lay further back.
-        ensures leaves { V.told → LeavesAppended (V.volume vols.old self.old.volume).contents self.old.gate body.now
-            (V.volume vols.new self.old.volume).contents result }
+        ensures leaves { V.disk.told → LeavesAppended (V.disk.volume vols.old self.old.volume).contents self.old.gate body.now
+            (V.disk.volume vols.new self.old.volume).contents result }
 
         // A crash at any moment of the call leaves the log from before it, with the new body or without.
-        ensures any_moment { V.told → (log : List (List ℕ)) → IsSettled V.volume vols.old self.old log →
-            LeavesOnly V.moment V.images_since vols.old vols.new self.old.volume (IsBeforeOrAfter log body.now) }
-        ensures others { V.told → KeepsOthers V.volume V.moment V.images_since vols.old vols.new self.old.volume }
+        ensures any_moment { V.disk.told → (log : List (List ℕ)) → IsSettled V.disk vols.old self.old log →
+            LeavesOnly V.disk vols.old vols.new self.old.volume (IsBeforeOrAfter log body.now) }
+        ensures others { V.disk.told → KeepsOthers V.disk vols.old vols.new self.old.volume }
 
         // When each error comes, and what is then as it was.
         ensures full { (place : ℕ) → (result ≡ Err (AppendFault.Full place))
             ↔ ((place ≡ self.old.gate + 6 + length body.now) × (Journal.MOST_BYTES < place)) }
         ensures full_unwritten { (place : ℕ) → result ≡ Err (AppendFault.Full place) → vols.new ≡ vols.old }
-        ensures no_memory { V.told → (log : List (List ℕ)) → IsSettled V.volume vols.old self.old log →
-            IsErrOf result AppendFault.OutOfMemory → IsSettled V.volume vols.new self.new log }
+        ensures no_memory { V.disk.told → (log : List (List ℕ)) → IsSettled V.disk vols.old self.old log →
+            IsErrOf result AppendFault.OutOfMemory → IsSettled V.disk vols.new self.new log }
         ensures faults { CountsFault (IsErrOf result AppendFault.Volume)
-            (V.faults vols.old) (V.faults vols.new) self.old.volume }
+            (V.disk.faults vols.old) (V.disk.faults vols.new) self.old.volume }
     {
         let next = self.gate + 5 + body.len() as u64;
         if next >= Journal::MOST_BYTES {

@@ -30,24 +30,24 @@ pub fn open<V: Volumes>(
     requires { n < 16 }
 
     // The log that the bytes stand for, or the place of the damage.
-    ensures read { V.told → Answers (V.volume vols.old n).contents result }
-    ensures settled { V.told → IfOk result (λ opened. IsSettled V.volume vols.new opened.0 opened.1) }
-    ensures durable { V.told → IfOk result (λ opened.
-        (image : List ℕ) → IsImage (V.volume vols.new n) image → Stands image opened.1) }
+    ensures read { V.disk.told → Answers (V.disk.volume vols.old n).contents result }
+    ensures settled { V.disk.told → IfOk result (λ opened. IsSettled V.disk vols.new opened.0 opened.1) }
+    ensures durable { V.disk.told → IfOk result (λ opened.
+        (image : List ℕ) → IsImage (V.disk.volume vols.new n) image → Stands image opened.1) }
     ensures one_answer { (bytes : List ℕ) → HasOneAnswer bytes }
     ensures at_end { IfOk result (λ opened. IsOn opened.0 n opened.1) }
 
     // What a read gives is as before, but for a gate that was closed.
-    ensures leaves { V.told → LeavesOpened (V.volume vols.old n) (V.volume vols.new n) result }
+    ensures leaves { V.disk.told → LeavesOpened (V.disk.volume vols.old n) (V.disk.volume vols.new n) result }
 
     // A crash at any moment of the call leaves what was handed in, or what reads as it; from some moment on only the latter.
-    ensures any_moment { V.told → LeavesOnly V.moment V.images_since vols.old vols.new n
-        (IsLeftByOpening (V.volume vols.old n)) }
-    ensures from_sync { V.told → LeavesOnlyFromSync V.volume V.moment V.images_since vols.old vols.new n
-        (IsErrOf result OpenFault.Volume) (ReadsAs (V.volume vols.old n).contents) }
-    ensures others { V.told → KeepsOthers V.volume V.moment V.images_since vols.old vols.new n }
+    ensures any_moment { V.disk.told → LeavesOnly V.disk vols.old vols.new n
+        (IsLeftByOpening (V.disk.volume vols.old n)) }
+    ensures from_sync { V.disk.told → LeavesOnlyFromSync V.disk vols.old vols.new n
+        (IsErrOf result OpenFault.Volume) (ReadsAs (V.disk.volume vols.old n).contents) }
+    ensures others { V.disk.told → KeepsOthers V.disk vols.old vols.new n }
 
-    ensures faults { CountsFault (IsErrOf result OpenFault.Volume) (V.faults vols.old) (V.faults vols.new) n }
+    ensures faults { CountsFault (IsErrOf result OpenFault.Volume) (V.disk.faults vols.old) (V.disk.faults vols.new) n }
 {
     let bytes = read_durable(alloc, vols, n)?;
     let (log, gate) = read_log(alloc, &bytes)?;

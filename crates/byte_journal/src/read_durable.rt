@@ -18,16 +18,16 @@ pub(crate) fn read_durable<V: Volumes>(
     n: u8,
 ) -> Result<Vec<u8>, OpenFault>
     requires { n < 16 }
-    ensures read { V.told → IfOk result (λ bytes. bytes.items ≡ front_of (V.volume vols.old n).contents) }
-    ensures durable { V.told → result ≢ Err OpenFault.Volume →
-        V.volume vols.new n ≡ settled (V.volume vols.old n).contents }
-    ensures kept { V.told → (V.volume vols.new n).contents ≡ (V.volume vols.old n).contents }
-    ensures any_moment { V.told → LeavesOnly V.moment V.images_since vols.old vols.new n (IsImage (V.volume vols.old n)) }
-    ensures from_sync { V.told → LeavesOnlyFromSync V.volume V.moment V.images_since vols.old vols.new n
-        (IsErrOf result OpenFault.Volume) (λ image. image ≡ (V.volume vols.old n).contents) }
-    ensures others { V.told → KeepsOthers V.volume V.moment V.images_since vols.old vols.new n }
+    ensures read { V.disk.told → IfOk result (λ bytes. bytes.items ≡ front_of (V.disk.volume vols.old n).contents) }
+    ensures durable { V.disk.told → result ≢ Err OpenFault.Volume →
+        V.disk.volume vols.new n ≡ settled (V.disk.volume vols.old n).contents }
+    ensures kept { V.disk.told → (V.disk.volume vols.new n).contents ≡ (V.disk.volume vols.old n).contents }
+    ensures any_moment { V.disk.told → LeavesOnly V.disk vols.old vols.new n (IsImage (V.disk.volume vols.old n)) }
+    ensures from_sync { V.disk.told → LeavesOnlyFromSync V.disk vols.old vols.new n
+        (IsErrOf result OpenFault.Volume) (λ image. image ≡ (V.disk.volume vols.old n).contents) }
+    ensures others { V.disk.told → KeepsOthers V.disk vols.old vols.new n }
     ensures undamaged { (place : ℕ) → result ≡ Err (OpenFault.Damaged place) → ⊥ }
-    ensures faults { CountsFault (IsErrOf result OpenFault.Volume) (V.faults vols.old) (V.faults vols.new) n }
+    ensures faults { CountsFault (IsErrOf result OpenFault.Volume) (V.disk.faults vols.old) (V.disk.faults vols.new) n }
 {
     vols.sync(n)?;
     read_front(alloc, vols, n)
@@ -36,12 +36,12 @@ pub(crate) fn read_durable<V: Volumes>(
 /// The bytes of a volume that decide its log: as many as gates may lie in, and one more.
 fn read_front<V: Volumes>(alloc: Global, vols: &mut V, n: u8) -> Result<Vec<u8>, OpenFault>
     requires { n < 16 }
-    ensures read { V.told → IfOk result (λ bytes. bytes.items ≡ front_of (V.volume vols.old n).contents) }
-    ensures same { V.told → V.volume vols.new n ≡ V.volume vols.old n }
-    ensures any_moment { V.told → LeavesOnly V.moment V.images_since vols.old vols.new n (IsImage (V.volume vols.old n)) }
-    ensures others { V.told → KeepsOthers V.volume V.moment V.images_since vols.old vols.new n }
+    ensures read { V.disk.told → IfOk result (λ bytes. bytes.items ≡ front_of (V.disk.volume vols.old n).contents) }
+    ensures same { V.disk.told → V.disk.volume vols.new n ≡ V.disk.volume vols.old n }
+    ensures any_moment { V.disk.told → LeavesOnly V.disk vols.old vols.new n (IsImage (V.disk.volume vols.old n)) }
+    ensures others { V.disk.told → KeepsOthers V.disk vols.old vols.new n }
     ensures undamaged { (place : ℕ) → result ≡ Err (OpenFault.Damaged place) → ⊥ }
-    ensures faults { CountsFault (IsErrOf result OpenFault.Volume) (V.faults vols.old) (V.faults vols.new) n }
+    ensures faults { CountsFault (IsErrOf result OpenFault.Volume) (V.disk.faults vols.old) (V.disk.faults vols.new) n }
 {
     let mut bytes = Vec::new(alloc);
     read_on(vols, n, &mut bytes)?;
@@ -54,13 +54,13 @@ fn read_front<V: Volumes>(alloc: Global, vols: &mut V, n: u8) -> Result<Vec<u8>,
 /// that it has written since the length was asked for; so the length is asked for again, and that record read.
 fn read_on<V: Volumes>(vols: &mut V, n: u8, bytes: &mut Vec<u8>) -> Result<(), OpenFault>
     requires { n < 16 }
-    ensures read { V.told → bytes.old.items ≡ take (length bytes.old.items) (front_of (V.volume vols.old n).contents) →
-        OnOk result (bytes.new.items ≡ front_of (V.volume vols.old n).contents) }
-    ensures same { V.told → V.volume vols.new n ≡ V.volume vols.old n }
-    ensures any_moment { V.told → LeavesOnly V.moment V.images_since vols.old vols.new n (IsImage (V.volume vols.old n)) }
-    ensures others { V.told → KeepsOthers V.volume V.moment V.images_since vols.old vols.new n }
+    ensures read { V.disk.told → bytes.old.items ≡ take (length bytes.old.items) (front_of (V.disk.volume vols.old n).contents) →
+        OnOk result (bytes.new.items ≡ front_of (V.disk.volume vols.old n).contents) }
+    ensures same { V.disk.told → V.disk.volume vols.new n ≡ V.disk.volume vols.old n }
+    ensures any_moment { V.disk.told → LeavesOnly V.disk vols.old vols.new n (IsImage (V.disk.volume vols.old n)) }
+    ensures others { V.disk.told → KeepsOthers V.disk vols.old vols.new n }
     ensures undamaged { (place : ℕ) → result ≡ Err (OpenFault.Damaged place) → ⊥ }
-    ensures faults { CountsFault (IsErrOf result OpenFault.Volume) (V.faults vols.old) (V.faults vols.new) n }
+    ensures faults { CountsFault (IsErrOf result OpenFault.Volume) (V.disk.faults vols.old) (V.disk.faults vols.new) n }
 {
     let length = vols.length(n)?.min(Journal::MOST_BYTES + 1) as usize;
     let so_far = bytes.len();

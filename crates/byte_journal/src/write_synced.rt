@@ -15,21 +15,21 @@ pub(crate) fn write_synced<V: Volumes>(
     bytes: &[u8],
 ) -> Result<(), VolumeEnd>
     requires number { n < 16 }
-    requires place { V.told → at ≤ length (V.volume vols.old n).contents }
-    ensures written { V.told → OnOk result
-        (V.volume vols.new n ≡ settled (overwritten (V.volume vols.old n).contents at bytes.now)) }
+    requires place { V.disk.told → at ≤ length (V.disk.volume vols.old n).contents }
+    ensures written { V.disk.told → OnOk result
+        (V.disk.volume vols.new n ≡ settled (overwritten (V.disk.volume vols.old n).contents at bytes.now)) }
     // However it ended, a read gives what it gave, torn at this length at most.
-    ensures torn { V.told →
-        Torn at (length bytes.now) (V.volume vols.old n).contents (V.volume vols.new n).contents }
-    ensures no_memory { V.told → IsErrOf result VolumeEnd.OutOfMemory → V.volume vols.new n ≡ V.volume vols.old n }
+    ensures torn { V.disk.told →
+        Torn at (length bytes.now) (V.disk.volume vols.old n).contents (V.disk.volume vols.new n).contents }
+    ensures no_memory { V.disk.told → IsErrOf result VolumeEnd.OutOfMemory → V.disk.volume vols.new n ≡ V.disk.volume vols.old n }
 
     // At any moment a crash leaves what was there, torn at this length at most.
-    ensures any_moment { V.told → V.volume vols.old n ≡ settled (V.volume vols.old n).contents →
-        LeavesOnly V.moment V.images_since vols.old vols.new n
-        (Torn at (length bytes.now) (V.volume vols.old n).contents) }
-    ensures others { V.told → KeepsOthers V.volume V.moment V.images_since vols.old vols.new n }
+    ensures any_moment { V.disk.told → V.disk.volume vols.old n ≡ settled (V.disk.volume vols.old n).contents →
+        LeavesOnly V.disk vols.old vols.new n
+        (Torn at (length bytes.now) (V.disk.volume vols.old n).contents) }
+    ensures others { V.disk.told → KeepsOthers V.disk vols.old vols.new n }
 
-    ensures faults { CountsFault (IsErrOf result VolumeEnd.Failed) (V.faults vols.old) (V.faults vols.new) n }
+    ensures faults { CountsFault (IsErrOf result VolumeEnd.Failed) (V.disk.faults vols.old) (V.disk.faults vols.new) n }
 {
     vols.write_at(n, at, bytes)?;
     vols.sync(n)?;

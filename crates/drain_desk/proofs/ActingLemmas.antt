@@ -1,9 +1,11 @@
 -- Works are done: the unit of a claim is shipped or executed, or its claim does not stand.
 use Rattle.std.specs.Prelude.{OnOk, filter}
 use Rattle.std.specs.List.{list_all}
-use Rattle.std.proofs.Common.{◌≡◌, ◌==◌, ◌&&◌, ℕ, not, Bool, true, false, Option, Some, None, List, [], ◌∷◌, Result, Ok, Err, inl, inr, refl, sym, ap, subst, ◌∙◌}
+use Rattle.std.proofs.Common.{◌≡◌, ◌==◌, ◌&&◌, ℕ, not, Bool, true, false, Option, Some, None, List, [], ◌∷◌, Result, Ok, Err, inl, inr, refl, sym, ap, subst}
+use Rattle.std.proofs.Common.{◌∙◌}
 use Rattle.std.proofs.lemmas.Bool.{and_parts, both_ways, cases_Bool, not-true}
 use Rattle.std.proofs.lemmas.Option.{same_Some}
+use Rattle.ale_volumes.specs.Disk.{Disk}
 use Rattle.ale_base.specs.declared.out_of_memory.OutOfMemory.{OutOfMemory}
 use Rattle.unit_core.specs.declared.ale_unit.AleUnit.{AleUnit}
 use Rattle.unit_core.specs.Filters.{executed, is_marked, received}
@@ -96,18 +98,18 @@ gone-in before after claim left = elim left [
   | inr gone ↦ stands-gone_in after claim gone.0
 ]
 
-module _ {V : Type 0} (faults : V → ℕ → ℕ) (before after : KeptOf ModelRules DocumentTables V) (lines lines_after : Lines) where
+module _ {V : Type 0} (disk : Disk V) (before after : KeptOf ModelRules DocumentTables V) (lines lines_after : Lines) where
   -- nothing was done
-  pub acted-none : after ≡ before → lines_after ≡ lines → HasActed faults before after lines lines_after 0
+  pub acted-none : after ≡ before → lines_after ≡ lines → HasActed disk before after lines lines_after 0
   acted-none same same_lines =
-      let none = worked-same faults before after lines lines_after same same_lines in
+      let none = worked-same disk before after lines lines_after same same_lines in
       record {
         went = none.went;
         taken = none.taken;
         count = none.finished;
         runs = λ runs. ap (λ (k : KeptOf ModelRules DocumentTables V). list_all (λ (held : Held). not (is_kind held.kind Direct)) k.world.claims) same ∙ runs;
         acts = [];
-        did = (only-same faults before after same, same_lines);
+        did = (only-same disk before after same, same_lines);
         ships = refl;
         once = λ runs tid. inl refl;
       }
@@ -121,28 +123,28 @@ module _ {V : Type 0} (faults : V → ℕ → ℕ) (before after : KeptOf ModelR
 
   -- the unit of a claim was shipped
   pub acted-shipped : (claim : OutClaim) (n : ℕ) → MayGo before.world (Ship claim)
-      → ClaimShippedAs faults before after lines lines_after claim (Ok (Some n)) → HasActed faults before after lines lines_after n
+      → ClaimShippedAs disk before after lines lines_after claim (Ok (Some n)) → HasActed disk before after lines lines_after n
   acted-shipped claim n may did =
       let tid = claim.tid in
       let letter = next_letter (letters_left lines tid) in
       let moves = moves-out claim may in
       let was = did.2 in
-      let shipped : HasShipped faults before after lines lines_after tid letter did.1 = record { may = did.3 moves; was = was } in
+      let shipped : HasShipped disk before after lines lines_after tid letter did.1 = record { may = did.3 moves; was = was } in
       record {
-        went = wider faults (is_shipping letter) is_work true before after (shipping-works letter) was.went;
+        went = wider disk (is_shipping letter) is_work true before after (shipping-works letter) was.went;
         taken = taken-one tid lines lines_after was.taken;
         count = did.4;
         runs = runs-without before.world after.world claim.number did.5;
         acts = ship tid letter did.1 ∷ [];
-        did = (before, after, lines_after, only-same faults before before refl, shipped, (only-same faults after after refl, refl));
+        did = (before, after, lines_after, only-same disk before before refl, shipped, (only-same disk after after refl, refl));
         ships = refl;
-        once = λ runs other. once-shipped faults before after lines lines_after tid letter did.1 shipped runs other;
+        once = λ runs other. once-shipped disk before after lines lines_after tid letter did.1 shipped runs other;
       }
 
   -- the unit of a claim that stood was executed
   executed-held : (claim : InClaim) (n : ℕ) → IsLandscape meaning before.world → MayGo before.world (Execute claim) → NoneRuns before.world.claims
-      → ClaimExecutedAs faults before after claim (Ok n) → (held : Held) → HoldsIn before.world claim held
-      → (whole : Bool) × HasExecuted faults before after held.system held.tid whole
+      → ClaimExecutedAs disk before after claim (Ok n) → (held : Held) → HoldsIn before.world claim held
+      → (whole : Bool) × HasExecuted disk before after held.system held.tid whole
   executed-held claim n is may runs did held holds =
       let rules = meaning before.world.rules in
       let law = is_lawful before.world.rules in
@@ -172,7 +174,7 @@ module _ {V : Type 0} (faults : V → ℕ → ℕ) (before after : KeptOf ModelR
 
   -- the unit of a claim was executed, or the claim does not stand
   pub acted-executed : (claim : InClaim) (n : ℕ) → IsLandscape meaning before.world → MayGo before.world (Execute claim) → NoneRuns before.world.claims
-      → lines_after ≡ lines → ClaimExecutedAs faults before after claim (Ok n) → HasActed faults before after lines lines_after n
+      → lines_after ≡ lines → ClaimExecutedAs disk before after claim (Ok n) → HasActed disk before after lines lines_after n
   acted-executed claim n is may runs same_lines did = elim (cases_Bool (stands_in before.world claim)) [
     | inr stale ↦
         let none = acted-none (did.0 stale) same_lines in
@@ -191,12 +193,12 @@ module _ {V : Type 0} (faults : V → ℕ → ℕ) (before after : KeptOf ModelR
         let held = there.0 in
         let executed_so = executed-held claim n is may runs did held there.1 in
         record {
-          went = wider faults is_execution is_work true before after execution-works did.1;
+          went = wider disk is_execution is_work true before after execution-works did.1;
           taken = subst (HaveTaken lines) (sym same_lines) (taken-none lines);
           count = did.4;
           runs = runs-without before.world after.world claim.number (did.5 stands);
           acts = execute held.system held.tid executed_so.0 ∷ [];
-          did = (before, after, lines, only-same faults before before refl, (executed_so.1, refl), (only-same faults after after refl, same_lines));
+          did = (before, after, lines, only-same disk before before refl, (executed_so.1, refl), (only-same disk after after refl, same_lines));
           ships = refl;
           once = λ none tid. inl refl;
         }
@@ -204,11 +206,11 @@ module _ {V : Type 0} (faults : V → ℕ → ℕ) (before after : KeptOf ModelR
 
   -- ---- what else was to be done
 
-  pub others-shipped : (claim : OutClaim) (n : ℕ) → ClaimShippedAs faults before after lines lines_after claim (Ok (Some n))
+  pub others-shipped : (claim : OutClaim) (n : ℕ) → ClaimShippedAs disk before after lines lines_after claim (Ok (Some n))
       → OthersStay before.world after.world (Ship claim)
   others-shipped claim n did = others-left before.world after.world (Ship claim) did.5
 
-  pub others-executed : (claim : InClaim) (result : Result ℕ OutOfMemory) → ClaimExecutedAs faults before after claim result
+  pub others-executed : (claim : InClaim) (result : Result ℕ OutOfMemory) → ClaimExecutedAs disk before after claim result
       → OnOk result (OthersStay before.world after.world (Execute claim))
   others-executed claim (Err short) did = tt
   others-executed claim (Ok n) did = elim (cases_Bool (stands_in before.world claim)) [
@@ -220,15 +222,15 @@ module _ {V : Type 0} (faults : V → ℕ → ℕ) (before after : KeptOf ModelR
   -- ---- the work of a task was done
 
   pub done-shipped : (claim : OutClaim) (n : ℕ) → MayGo before.world (Ship claim)
-      → ClaimShippedAs faults before after lines lines_after claim (Ok (Some n)) → HasDone faults before after lines lines_after (Ship claim)
+      → ClaimShippedAs disk before after lines lines_after claim (Ok (Some n)) → HasDone disk before after lines lines_after (Ship claim)
   done-shipped claim n may did = (
     λ stands. (did.1, record { may = did.3 (moves-out claim may); was = did.2 }),
     λ stale. absurd (both_ways (stands_out before.world claim) stale did.0),
     gone-out before.world after.world claim did.5,
   )
 
-  pub done-none : (claim : OutClaim) → ClaimShippedAs faults before after lines lines_after claim (Ok None)
-      → HasDone faults before after lines lines_after (Ship claim)
+  pub done-none : (claim : OutClaim) → ClaimShippedAs disk before after lines lines_after claim (Ok None)
+      → HasDone disk before after lines lines_after (Ship claim)
   done-none claim did = (
     λ stands. absurd (both_ways (stands_out before.world claim) did.2 stands),
     λ stale. (did.0, did.1),
@@ -236,7 +238,7 @@ module _ {V : Type 0} (faults : V → ℕ → ℕ) (before after : KeptOf ModelR
   )
 
   done-executed : (claim : InClaim) (n : ℕ) → IsLandscape meaning before.world → MayGo before.world (Execute claim) → NoneRuns before.world.claims
-      → lines_after ≡ lines → ClaimExecutedAs faults before after claim (Ok n) → HasDone faults before after lines lines_after (Execute claim)
+      → lines_after ≡ lines → ClaimExecutedAs disk before after claim (Ok n) → HasDone disk before after lines lines_after (Execute claim)
   done-executed claim n is may runs same_lines did = (
     executed-held claim n is may runs did,
     λ stale. (did.0 stale, same_lines),
@@ -248,13 +250,13 @@ module _ {V : Type 0} (faults : V → ℕ → ℕ) (before after : KeptOf ModelR
 
   -- the same of a call
   pub executed-as : (claim : InClaim) (result : Result ℕ OutOfMemory) → IsLandscape meaning before.world → MayGo before.world (Execute claim)
-      → NoneRuns before.world.claims → lines_after ≡ lines → ClaimExecutedAs faults before after claim result
-      → ActedAs faults before after lines lines_after result
+      → NoneRuns before.world.claims → lines_after ≡ lines → ClaimExecutedAs disk before after claim result
+      → ActedAs disk before after lines lines_after result
   executed-as claim (Ok n) is may runs same_lines did = acted-executed claim n is may runs same_lines did
-  executed-as claim (Err short) is may runs same_lines did = wider faults is_execution is_work false before after execution-works did
+  executed-as claim (Err short) is may runs same_lines did = wider disk is_execution is_work false before after execution-works did
 
   pub done-as : (claim : InClaim) (result : Result ℕ OutOfMemory) → IsLandscape meaning before.world → MayGo before.world (Execute claim)
-      → NoneRuns before.world.claims → lines_after ≡ lines → ClaimExecutedAs faults before after claim result
-      → OnOk result (HasDone faults before after lines lines_after (Execute claim))
+      → NoneRuns before.world.claims → lines_after ≡ lines → ClaimExecutedAs disk before after claim result
+      → OnOk result (HasDone disk before after lines lines_after (Execute claim))
   done-as claim (Ok n) is may runs same_lines did = done-executed claim n is may runs same_lines did
   done-as claim (Err short) is may runs same_lines did = tt

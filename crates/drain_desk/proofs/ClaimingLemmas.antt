@@ -5,6 +5,7 @@ use Rattle.std.proofs.Common.{◌≡◌, ◌&&◌, ℕ, not, Bool, true, false, 
 use Rattle.std.proofs.lemmas.Bool.{and_from, and_parts, not-true}
 use Rattle.std.proofs.lemmas.List.Folds.{list_all-append}
 use Rattle.std.proofs.lemmas.Option.{same_Some}
+use Rattle.ale_volumes.specs.Disk.{Disk}
 use Rattle.ale_base.specs.Tid.{TidOf}
 use Rattle.unit_core.specs.declared.ale_unit.AleUnit.{AleUnit}
 use Rattle.unit_core.specs.Filters.{received}
@@ -75,35 +76,35 @@ moves-there is_stopped None moves = cc
 moves-there is_stopped (Some unit) moves = (unit, refl)
 
 -- whole work is work
-pub whole-or-not : {V : Type 0} (may : Event → Bool) (faults : V → ℕ → ℕ) (before after : KeptOf ModelRules DocumentTables V) (whole : Bool)
-    → Worked faults before after may true → Worked faults before after may whole
-whole-or-not may faults before after whole went = went-whole meaning faults may whole before after went
+pub whole-or-not : {V : Type 0} (may : Event → Bool) (disk : Disk V) (before after : KeptOf ModelRules DocumentTables V) (whole : Bool)
+    → Worked disk before after may true → Worked disk before after may whole
+whole-or-not may disk before after whole went = went-whole meaning disk may whole before after went
 
-module _ {V : Type 0} (faults : V → ℕ → ℕ) (before after : KeptOf ModelRules DocumentTables V) where
+module _ {V : Type 0} (disk : Disk V) (before after : KeptOf ModelRules DocumentTables V) where
   -- nothing was claimed
-  pub claims-same : (whole : Bool) → after ≡ before → Claims faults before after whole
+  pub claims-same : (whole : Bool) → after ≡ before → Claims disk before after whole
   claims-same whole same = record {
-    went = still faults is_work whole before after same;
+    went = still disk is_work whole before after same;
     only = subst (HaveOnlyClaimed before) (sym same) (record { world = refl; journals = refl; vols = refl; causes = refl });
     runs = λ none. ap (λ (k : KeptOf ModelRules DocumentTables V). list_all (λ (h : Held). not (is_kind h.kind Direct)) k.world.claims) same ∙ none;
     stay = λ other stands. subst (λ (k : KeptOf ModelRules DocumentTables V). IsToDo k.world other) (sym same) stands;
   }
 
   -- a unit was claimed to be shipped
-  pub claims-out : (whole : Bool) (system : ℕ) (claim : OutClaim) → Worked faults before after is_claim whole → HaveOnlyClaimed before after
-      → IsShipped (meaning before.world.rules) before.world after.world system claim → Claims faults before after whole
+  pub claims-out : (whole : Bool) (system : ℕ) (claim : OutClaim) → Worked disk before after is_claim whole → HaveOnlyClaimed before after
+      → IsShipped (meaning before.world.rules) before.world after.world system claim → Claims disk before after whole
   claims-out whole system claim went only is = record {
-    went = wider faults is_claim is_work whole before after claim-works went;
+    went = wider disk is_claim is_work whole before after claim-works went;
     only = only;
     runs = λ none. subst NoneRuns (sym is.claims) (runs-more before.world.claims _ refl none);
     stay = stay-claimed before.world after.world (out_held claim ∷ []) is.claims;
   }
 
   -- and to be executed
-  pub claims-in : (whole : Bool) (system : ℕ) (claim : InClaim) → Worked faults before after is_run whole → HaveOnlyClaimed before after
-      → IsExecuted (meaning before.world.rules) before.world after.world system claim → Claims faults before after whole
+  pub claims-in : (whole : Bool) (system : ℕ) (claim : InClaim) → Worked disk before after is_run whole → HaveOnlyClaimed before after
+      → IsExecuted (meaning before.world.rules) before.world after.world system claim → Claims disk before after whole
   claims-in whole system claim went only is = record {
-    went = wider faults is_run is_work whole before after (λ e it. execution-works e (run-executes e it)) went;
+    went = wider disk is_run is_work whole before after (λ e it. execution-works e (run-executes e it)) went;
     only = only;
     runs = λ none. subst NoneRuns (sym is.claims) (runs-more before.world.claims _ refl none);
     stay = stay-claimed before.world after.world (in_held claim ∷ []) is.claims;

@@ -29,8 +29,8 @@ pub(crate) fn perform<V: Volumes>(
     requires may { MayGo landscape.old.world task }
     requires runs { NoneRuns landscape.old.world.claims }
     requires prepared { IfSome prepared (λ its. IsPreparedFor landscape.old.world (tid_of task) its.postings) }
-    ensures acted { ActedAs V.faults landscape.old landscape.new wires.old wires.new result }
-    ensures done { OnOk result (HasDone V.faults landscape.old landscape.new wires.old wires.new task) }
+    ensures acted { ActedAs V.disk landscape.old landscape.new wires.old wires.new result }
+    ensures done { OnOk result (HasDone V.disk landscape.old landscape.new wires.old wires.new task) }
     ensures others { OnOk result (OthersStay landscape.old.world landscape.new.world task) }
 {
     match task {
@@ -49,8 +49,8 @@ fn ship<V: Volumes>(
 ) -> Result<u64, OutOfMemory>
     requires may { MayGo landscape.old.world (Ship claim) }
     requires prepared { IfSome prepared (λ its. IsPreparedFor landscape.old.world claim.tid its.postings) }
-    ensures acted { ActedAs V.faults landscape.old landscape.new wires.old wires.new result }
-    ensures done { OnOk result (HasDone V.faults landscape.old landscape.new wires.old wires.new (Ship claim)) }
+    ensures acted { ActedAs V.disk landscape.old landscape.new wires.old wires.new result }
+    ensures done { OnOk result (HasDone V.disk landscape.old landscape.new wires.old wires.new (Ship claim)) }
     ensures others { OnOk result (OthersStay landscape.old.world landscape.new.world (Ship claim)) }
 {
     match ship_claimed(alloc, landscape, wires, claim, prepared)? {
@@ -70,8 +70,8 @@ fn execute<V: Volumes>(
     requires may { MayGo landscape.old.world (Execute claim) }
     requires runs { NoneRuns landscape.old.world.claims }
     requires prepared { IfSome prepared (λ its. IsPreparedFor landscape.old.world claim.tid its.postings) }
-    ensures acted { ActedAs V.faults landscape.old landscape.new wires.old wires.new result }
-    ensures done { OnOk result (HasDone V.faults landscape.old landscape.new wires.old wires.new (Execute claim)) }
+    ensures acted { ActedAs V.disk landscape.old landscape.new wires.old wires.new result }
+    ensures done { OnOk result (HasDone V.disk landscape.old landscape.new wires.old wires.new (Execute claim)) }
     ensures others { OnOk result (OthersStay landscape.old.world landscape.new.world (Execute claim)) }
 {
     let _ = wires;

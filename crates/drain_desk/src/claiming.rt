@@ -27,7 +27,7 @@ pub(crate) struct Offer {
 pub(crate) fn claim_any<V: Volumes>(
     landscape: &mut Landscape<V>,
 ) -> Result<Option<Offer>, OutOfMemory>
-    ensures claims { Claims V.faults landscape.old landscape.new (is_ok result) }
+    ensures claims { Claims V.disk landscape.old landscape.new (is_ok result) }
     ensures offer { IfOk result (λ found. IfSome found (IsOffer landscape.new.world)) }
     ensures none { IfOk result (λ found. IsNone found → (landscape.new ≡ landscape.old) × IsIdle landscape.old.world) }
     ensures busy { IfOk result (λ found. IfSome found (λ offer. IsBusy landscape.old.world)) }
@@ -39,7 +39,7 @@ pub(crate) fn claim_any<V: Volumes>(
 
 /// Claims the first unit that is offered at the first system at which one is. None exactly where none is offered at any.
 fn claim_first<V: Volumes>(landscape: &mut Landscape<V>) -> Result<Option<Offer>, OutOfMemory>
-    ensures claims { Claims V.faults landscape.old landscape.new (is_ok result) }
+    ensures claims { Claims V.disk landscape.old landscape.new (is_ok result) }
     ensures offer { IfOk result (λ found. IfSome found (IsOffer landscape.new.world)) }
     ensures none { IfOk result (λ found. IsNone found → (landscape.new ≡ landscape.old) × NothingTo landscape.old.world 16) }
     ensures busy { IfOk result (λ found. IfSome found (λ offer. IsBusy landscape.old.world)) }
@@ -62,7 +62,7 @@ fn claim_at<V: Volumes>(
     landscape: &mut Landscape<V>,
     system: SystemNo,
 ) -> Result<Option<Offer>, OutOfMemory>
-    ensures claims { Claims V.faults landscape.old landscape.new (is_ok result) }
+    ensures claims { Claims V.disk landscape.old landscape.new (is_ok result) }
     ensures offer { IfOk result (λ found. IfSome found (IsOffer landscape.new.world)) }
     ensures none { IfOk result (λ found. IsNone found → (landscape.new ≡ landscape.old) × NothingAt landscape.old.world system) }
     ensures busy { IfOk result (λ found. IfSome found (λ offer. IsBusy landscape.old.world)) }
@@ -78,7 +78,7 @@ fn claim_out<V: Volumes>(
     landscape: &mut Landscape<V>,
     system: SystemNo,
 ) -> Result<Option<Offer>, OutOfMemory>
-    ensures claims { Claims V.faults landscape.old landscape.new (is_ok result) }
+    ensures claims { Claims V.disk landscape.old landscape.new (is_ok result) }
     ensures offer { IfOk result (λ found. IfSome found (IsOffer landscape.new.world)) }
     ensures none { IfOk result (λ found. IsNone found → (landscape.new ≡ landscape.old) × NothingOut landscape.old.world system) }
     ensures busy { IfOk result (λ found. IfSome found (λ offer. IsBusy landscape.old.world)) }
@@ -101,7 +101,7 @@ fn claim_in<V: Volumes>(
     landscape: &mut Landscape<V>,
     system: SystemNo,
 ) -> Result<Option<Offer>, OutOfMemory>
-    ensures claims { Claims V.faults landscape.old landscape.new (is_ok result) }
+    ensures claims { Claims V.disk landscape.old landscape.new (is_ok result) }
     ensures offer { IfOk result (λ found. IfSome found (IsOffer landscape.new.world)) }
     ensures none { IfOk result (λ found. IsNone found → (landscape.new ≡ landscape.old) × NothingIn landscape.old.world system) }
     ensures busy { IfOk result (λ found. IfSome found (λ offer. IsBusy landscape.old.world)) }

@@ -36,7 +36,7 @@ impl<V: Volumes> Model for DrainDesk<V> {
       is_short = desk.parts.is_short;
     } };
 
-    ghost invariant = { λ desk. IsKeeping V.faults (record {
+    ghost invariant = { λ desk. IsKeeping V.disk (record {
       origin = desk.origin;
       landscape = desk.parts.landscape;
       lines = desk.parts.wires;
@@ -56,7 +56,7 @@ impl<V: Volumes> DrainDesk<V> {
         landscape: Landscape<V>,
         wires: Wires,
     ) -> DrainDesk<V>
-        requires { AreGoingOn V.faults origin.landscape.value landscape origin.wires.value wires 0 }
+        requires { AreGoingOn V.disk origin.landscape.value landscape origin.wires.value wires 0 }
         ensures { result.origin ≡ origin }
     {
         DrainDesk {
@@ -73,7 +73,7 @@ impl<V: Volumes> DrainDesk<V> {
 
     /// The parts of a desk, once its workers have ended.
     pub(crate) fn end(self) -> Parts<V>
-        ensures { Keeps V.faults self.origin.landscape.value result.landscape self.origin.wires.value result.wires result.is_short result.finished }
+        ensures { Keeps V.disk self.origin.landscape.value result.landscape self.origin.wires.value result.wires result.is_short result.finished }
     {
         let DrainDesk {
             alloc: _,
@@ -125,7 +125,7 @@ impl<V: Volumes> Desk for DrainDesk<V> {
 
     ghost has_lost = { λ desk after. OneFell desk.landscape.world after.landscape.world };
 
-    ghost has_done = { λ desk work after. HasDone V.faults desk.landscape after.landscape desk.lines after.lines work.task };
+    ghost has_done = { λ desk work after. HasDone V.disk desk.landscape after.landscape desk.lines after.lines work.task };
 
     ghost finishes = { λ desk. desk.finished };
 

@@ -50,7 +50,7 @@ pub fn drain<R: Threads + Wait + Sync, V: Volumes + Send, G: Gate + Sync>(
     gate: &G,
 ) -> Drained<V>
     requires workers { (1 ≤ workers) × (workers ≤ 16) }
-    ensures { DrainedAs V.faults landscape wires result.landscape result.wires result.end }
+    ensures { DrainedAs V.disk landscape wires result.landscape result.wires result.end }
 {
     let mut landscape = landscape;
     let mut wires = wires;
@@ -81,7 +81,7 @@ fn work<R: Threads + Wait + Sync, V: Volumes + Send, G: Gate + Sync>(
 ) -> Drained<V>
     requires workers { (1 ≤ workers) × (workers ≤ 16) }
     requires bare { landscape.world.claims ≡ [] }
-    ensures { RoundsAs V.faults landscape wires result.landscape result.wires result.end }
+    ensures { RoundsAs V.disk landscape wires result.landscape result.wires result.end }
 {
     let origin = Began::of(&landscape, &wires);
     let desk = DrainDesk::of(alloc, origin, landscape, wires);
@@ -93,7 +93,7 @@ fn work<R: Threads + Wait + Sync, V: Volumes + Send, G: Gate + Sync>(
 
 /// Workers have ended: the claims that are left are given up, and what is still offered is shipped and executed.
 fn close<V: Volumes>(alloc: Global, desk: DrainDesk<V>) -> Drained<V>
-    ensures { RoundsAs V.faults desk.origin.landscape.value desk.origin.wires.value result.landscape result.wires result.end }
+    ensures { RoundsAs V.disk desk.origin.landscape.value desk.origin.wires.value result.landscape result.wires result.end }
 {
     let Parts {
         landscape,
@@ -118,7 +118,7 @@ fn close_going<V: Volumes>(
     wires: Wires,
     finished: u64,
 ) -> Drained<V>
-    ensures { ClosedAs V.faults landscape wires finished result.landscape result.wires result.end }
+    ensures { ClosedAs V.disk landscape wires finished result.landscape result.wires result.end }
 {
     let mut left = landscape;
     let mut wires = wires;
@@ -145,7 +145,7 @@ fn added(finished: u64, more: Result<u64, OutOfMemory>) -> Result<u64, OutOfMemo
 
 /// Memory was wanting.
 fn give_up<V: Volumes>(desk: DrainDesk<V>) -> Drained<V>
-    ensures { RoundsAs V.faults desk.origin.landscape.value desk.origin.wires.value result.landscape result.wires result.end }
+    ensures { RoundsAs V.disk desk.origin.landscape.value desk.origin.wires.value result.landscape result.wires result.end }
 {
     let Parts {
         landscape,

@@ -81,7 +81,7 @@ fn append_all<V: Volumes>(
     bodies: &[Vec<u8>],
     text: &mut Text,
 ) -> Result<(), LineEnd>
-    requires { V.told → (log : List (List ℕ)) × IsSettled V.volume vols.old journal.old log }
+    requires { V.disk.told → (log : List (List ℕ)) × IsSettled V.disk vols.old journal.old log }
 {
     'bodies: for body in bodies {
         if body.is_empty() {

@@ -1,6 +1,7 @@
 -- Logs that begin with a model begin so for good, since logs only grow.
 use Rattle.std.specs.Prelude.{Result, Ok, Err, IfOk, OnErr}
 use Rattle.std.proofs.Common.{◌≡◌, Bool, true, false, ℕ, ◌≤◌, inl, inr, Option, Some, None, List, ◌++◌, refl, sym, ap, subst, ◌∙◌}
+use Rattle.ale_volumes.specs.Disk.{Disk}
 use Rattle.ale_base.specs.Prefix.{IsPrefix}
 use Rattle.ale_base.specs.declared.out_of_memory.OutOfMemory.{OutOfMemory}
 use Rattle.ale_base.specs.Tid.{TidOf}
@@ -102,28 +103,28 @@ begun-steps world after first second is begun same =
     begun-step between (landscape-step meaning is_lawful world between first is refl) (begun-step world is begun between first refl) after second
     (same ∙ ap (λ (r : ModelRules). happens (meaning r) between second) (sym step.0))
 
-module _ {V : Type 0} (faults : V → ℕ → ℕ) (before after : KeptOf ModelRules DocumentTables V) (is : IsLandscape meaning before.world)
+module _ {V : Type 0} (disk : Disk V) (before after : KeptOf ModelRules DocumentTables V) (is : IsLandscape meaning before.world)
     (begun : AreBegun before.world) where
-  pub begun-happened : (e : Event) → Happened (meaning before.world.rules) faults before after e → AreBegun after.world
+  pub begun-happened : (e : Event) → Happened (meaning before.world.rules) disk before after e → AreBegun after.world
   begun-happened e did = begun-step before.world is begun after.world e did.world
 
-  pub begun-failed : (it : Writing) → Failed (meaning before.world.rules) faults before after it → AreBegun after.world
+  pub begun-failed : (it : Writing) → Failed (meaning before.world.rules) disk before after it → AreBegun after.world
   begun-failed it did = begun-step before.world is begun after.world (Fall it.system (Some it.next)) did.world
 
-  pub begun-overflowed : (it : Writing) → Overflowed (meaning before.world.rules) faults before after it → AreBegun after.world
+  pub begun-overflowed : (it : Writing) → Overflowed (meaning before.world.rules) disk before after it → AreBegun after.world
   begun-overflowed it did = begun-step before.world is begun after.world (Fall it.system None) did.world
 
-  pub begun-stays : Stays (meaning before.world.rules) faults before after → AreBegun after.world
+  pub begun-stays : Stays (meaning before.world.rules) disk before after → AreBegun after.world
   begun-stays did = begun-same before.world is begun after.world did.world
 
-  pub begun-behind : (e : Event) (it : Writing) → FellBehind (meaning before.world.rules) faults before after e it → AreBegun after.world
+  pub begun-behind : (e : Event) (it : Writing) → FellBehind (meaning before.world.rules) disk before after e it → AreBegun after.world
   begun-behind e it did = begun-steps before.world after.world e (Fall it.system None) is begun did.world
 
   pub begun-as_before : after ≡ before → AreBegun after.world
   begun-as_before same = begun-same before.world is begun after.world (ap (λ (k : KeptOf ModelRules DocumentTables V). k.world) same)
 
   -- however a record was appended
-  pub begun-appends : {T : Type 0} (e : Event) (it : Writing) (result : Result T AppendEnd) → AppendsAs (meaning before.world.rules) faults before after e it
+  pub begun-appends : {T : Type 0} (e : Event) (it : Writing) (result : Result T AppendEnd) → AppendsAs (meaning before.world.rules) disk before after e it
       result
       → AreBegun after.world
   begun-appends e it (Ok done) did = begun-happened e did
@@ -132,27 +133,27 @@ module _ {V : Type 0} (faults : V → ℕ → ℕ) (before after : KeptOf ModelR
   begun-appends e it (Err Before) did = begun-stays did
   begun-appends e it (Err After) did = begun-behind e it did
 
-  pub begun-fell : (e : Event) → FellInstead (meaning before.world.rules) faults before after e → AreBegun after.world
+  pub begun-fell : (e : Event) → FellInstead (meaning before.world.rules) disk before after e → AreBegun after.world
   begun-fell e did = elim did.2 [
     | inl failed ↦ begun-failed did.0 failed
     | inr full ↦ begun-overflowed did.0 full
   ]
 
-  pub begun-short : (e : Event) → IsShort (meaning before.world.rules) faults before after e → AreBegun after.world
+  pub begun-short : (e : Event) → IsShort (meaning before.world.rules) disk before after e → AreBegun after.world
   begun-short e did = elim did [
     | inl stays ↦ begun-stays stays
     | inr behind ↦ begun-behind e behind.0 behind.2
   ]
 
   -- a system fell, or was down
-  pub begun-crashed : (system : ℕ) (fell : Bool) → (fell ≡ true → Happened (meaning before.world.rules) faults before after (Fall system None))
+  pub begun-crashed : (system : ℕ) (fell : Bool) → (fell ≡ true → Happened (meaning before.world.rules) disk before after (Fall system None))
       → (fell ≡ false → after ≡ before) → AreBegun after.world
   begun-crashed system true did same = begun-happened (Fall system None) (did refl)
   begun-crashed system false did same = begun-as_before (same refl)
 
   -- however an operator's record was appended
   pub begun-operated : {T : Type 0} (system : ℕ) (next : Record) (result : Result T OperatorEnd)
-      → OperatedAs (meaning before.world.rules) faults before after system next result → AreBegun after.world
+      → OperatedAs (meaning before.world.rules) disk before after system next result → AreBegun after.world
   begun-operated system next (Ok done) did = begun-happened (event.Operator (Append system next)) did.0
   begun-operated system next (Err operator.Down) did = begun-as_before did.1
   begun-operated system next (Err operator.NotAllowed) did = begun-as_before did.2
@@ -162,8 +163,8 @@ module _ {V : Type 0} (faults : V → ℕ → ℕ) (before after : KeptOf ModelR
 
   -- ---- the calls of a unit's way
 
-  pub begun-arrived : (unit : AleUnit) (result : Result Arrival OutOfMemory) → IfOk result (Arrived (meaning before.world.rules) faults before after unit)
-      → OnErr result (IsShort (meaning before.world.rules) faults before after (event.Arrive unit.tid)) → AreBegun after.world
+  pub begun-arrived : (unit : AleUnit) (result : Result Arrival OutOfMemory) → IfOk result (Arrived (meaning before.world.rules) disk before after unit)
+      → OnErr result (IsShort (meaning before.world.rules) disk before after (event.Arrive unit.tid)) → AreBegun after.world
   begun-arrived unit (Ok (arrival.New receipt)) did short = begun-happened (event.Arrive unit.tid) did.0.1
   begun-arrived unit (Ok (arrival.Run claim)) did short = begun-happened (event.Arrive unit.tid) did.0.1
   begun-arrived unit (Ok (arrival.Known receipt)) did short = begun-as_before did.0.1
@@ -175,7 +176,7 @@ module _ {V : Type 0} (faults : V → ℕ → ℕ) (before after : KeptOf ModelR
   ]
   begun-arrived unit (Err why) did short = begun-short (event.Arrive unit.tid) short
 
-  pub begun-finished : (claim : InClaim) (result : Result Finished WorkEnd) → FinishedAs (meaning before.world.rules) faults before after claim result →
+  pub begun-finished : (claim : InClaim) (result : Result Finished WorkEnd) → FinishedAs (meaning before.world.rules) disk before after claim result →
       AreBegun after.world
   begun-finished claim (Ok (finished.Executed receipt)) did = begun-happened (event.Finish claim.number) did.2
   begun-finished claim (Ok finished.Failed) did = begun-happened (event.Fail claim.number) did.2
@@ -183,7 +184,7 @@ module _ {V : Type 0} (faults : V → ℕ → ℕ) (before after : KeptOf ModelR
   begun-finished claim (Err Stale) did = begun-as_before did.1
   begun-finished claim (Err work.OutOfMemory) did = begun-short (finish_event (meaning before.world.rules) before.world claim) did.1
 
-  pub begun-replied : (claim : OutClaim) (given : Reply) (result : Result Replied WorkEnd) → RepliedAs (meaning before.world.rules) faults before after claim
+  pub begun-replied : (claim : OutClaim) (given : Reply) (result : Result Replied WorkEnd) → RepliedAs (meaning before.world.rules) disk before after claim
       given result
       → AreBegun after.world
   begun-replied claim given (Ok replied.Recorded) did = begun-happened (reply_event (meaning before.world.rules) before.world claim given) did.2
@@ -192,8 +193,8 @@ module _ {V : Type 0} (faults : V → ℕ → ℕ) (before after : KeptOf ModelR
   begun-replied claim given (Err Stale) did = begun-as_before did.1
   begun-replied claim given (Err work.OutOfMemory) did = begun-short (reply_event (meaning before.world.rules) before.world claim given) did.1
 
-  pub begun-confirmed : (tid : TidOf) (result : Result Confirmed OutOfMemory) → IfOk result (ConfirmedAs (meaning before.world.rules) faults before after tid)
-      → OnErr result (IsShort (meaning before.world.rules) faults before after (event.Confirm tid)) → AreBegun after.world
+  pub begun-confirmed : (tid : TidOf) (result : Result Confirmed OutOfMemory) → IfOk result (ConfirmedAs (meaning before.world.rules) disk before after tid)
+      → OnErr result (IsShort (meaning before.world.rules) disk before after (event.Confirm tid)) → AreBegun after.world
   begun-confirmed tid (Ok confirmed.Forgotten) did short = begun-happened (event.Confirm tid) did.2
   begun-confirmed tid (Ok confirmed.Already) did short = begun-as_before did.2
   begun-confirmed tid (Ok confirmed.Down) did short = elim did [
@@ -202,8 +203,8 @@ module _ {V : Type 0} (faults : V → ℕ → ℕ) (before after : KeptOf ModelR
   ]
   begun-confirmed tid (Err why) did short = begun-short (event.Confirm tid) short
 
-  pub begun-closed : (tid : TidOf) (result : Result Closed OutOfMemory) → IfOk result (ClosedAs (meaning before.world.rules) faults before after tid)
-      → OnErr result (IsShort (meaning before.world.rules) faults before after (event.Reply (Forgotten tid))) → AreBegun after.world
+  pub begun-closed : (tid : TidOf) (result : Result Closed OutOfMemory) → IfOk result (ClosedAs (meaning before.world.rules) disk before after tid)
+      → OnErr result (IsShort (meaning before.world.rules) disk before after (event.Reply (Forgotten tid))) → AreBegun after.world
   begun-closed tid (Ok closed.Recorded) did short = begun-happened (event.Reply (Forgotten tid)) did.2
   begun-closed tid (Ok closed.Already) did short = begun-as_before did.2
   begun-closed tid (Ok closed.Down) did short = elim did [
@@ -213,14 +214,14 @@ module _ {V : Type 0} (faults : V → ℕ → ℕ) (before after : KeptOf ModelR
   begun-closed tid (Err why) did short = begun-short (event.Reply (Forgotten tid)) short
 
   pub begun-claimed_out : (system : ℕ) (result : Result (Option OutClaim) OutOfMemory) → IfOk result
-      (ClaimedOut (meaning before.world.rules) faults before after system)
+      (ClaimedOut (meaning before.world.rules) disk before after system)
       → OnErr result (after ≡ before) → AreBegun after.world
   begun-claimed_out system (Ok None) did same = begun-as_before did.0
   begun-claimed_out system (Ok (Some claim)) did same = begun-happened (event.Claim claim.tid) did.0
   begun-claimed_out system (Err why) did same = begun-as_before same
 
   pub begun-claimed_in : (system : ℕ) (result : Result (Option InClaim) OutOfMemory) → IfOk result
-      (ClaimedIn (meaning before.world.rules) faults before after system)
+      (ClaimedIn (meaning before.world.rules) disk before after system)
       → OnErr result (after ≡ before) → AreBegun after.world
   begun-claimed_in system (Ok None) did same = begun-as_before did.0
   begun-claimed_in system (Ok (Some claim)) did same = begun-happened (event.Run claim.tid) did.0
@@ -240,7 +241,7 @@ module _ {V : Type 0} (faults : V → ℕ → ℕ) (before after : KeptOf ModelR
       (landscape-step meaning is_lawful before.world first (event.Arrive tid) is refl) (begun-step before.world is begun first (event.Arrive tid) refl)
       (same ∙ ap (λ (r : ModelRules). happens (meaning r) (happens (meaning r) first (event.Finish number)) (Fall system None)) (sym step.0))
 
-  begun-came : (unit : AleUnit) (given : Late) → CameAs (meaning before.world.rules) faults before after unit given → AreBegun after.world
+  begun-came : (unit : AleUnit) (given : Late) → CameAs (meaning before.world.rules) disk before after unit given → AreBegun after.world
   begun-came unit late.New did = elim did [
     | inl arrived ↦ begun-happened (event.Arrive unit.tid) arrived.1
     | inr run ↦ begun-steps before.world after.world (event.Arrive unit.tid) (event.Finish before.world.next_number) is begun run.1.world
@@ -255,19 +256,19 @@ module _ {V : Type 0} (faults : V → ℕ → ℕ) (before after : KeptOf ModelR
     ]
   ]
 
-  begun-full : (unit : AleUnit) (size : ℕ) → IsFullLate (meaning before.world.rules) faults before after unit size → AreBegun after.world
+  begun-full : (unit : AleUnit) (size : ℕ) → IsFullLate (meaning before.world.rules) disk before after unit size → AreBegun after.world
   begun-full unit size did = elim did [
     | inl arrived ↦ begun-as_before arrived.1.same
     | inr run ↦ begun-as_before run.1.same
   ]
 
-  begun-short_late : (unit : AleUnit) → IsShortLate (meaning before.world.rules) faults before after unit → AreBegun after.world
+  begun-short_late : (unit : AleUnit) → IsShortLate (meaning before.world.rules) disk before after unit → AreBegun after.world
   begun-short_late unit did = elim did [
     | inl arrived ↦ begun-behind (event.Arrive unit.tid) _ arrived.1
     | inr run ↦ begun-behind_run unit.tid before.world.next_number _ run.1.world
   ]
 
-  pub begun-late : (tid : TidOf) (result : Result Late LateEnd) → LateAs (meaning before.world.rules) faults before after tid result → AreBegun after.world
+  pub begun-late : (tid : TidOf) (result : Result Late LateEnd) → LateAs (meaning before.world.rules) disk before after tid result → AreBegun after.world
   begun-late tid (Ok given) did = begun-came did.0 given did.2
   begun-late tid (Err (refusal.Full size)) did = begun-full did.0 size did.2
   begun-late tid (Err refusal.OutOfMemory) did = elim did [

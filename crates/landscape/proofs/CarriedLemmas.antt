@@ -3,7 +3,7 @@ use Rattle.std.specs.Prelude.{if◌then◌else◌, map, Result, Ok, Err}
 use Rattle.std.specs.Option.{option_map_or}
 use Rattle.std.proofs.Common.{◌≡◌, inl, inr, ℕ, ◌==◌, ◌&&◌, Bool, true, false, Option, Some, None, List, [], ◌∷◌, ◌++◌, length, refl, sym, ap, subst, ◌∙◌}
 use Rattle.std.proofs.lemmas.Bool.{and_from, eq-eqb}
-use Rattle.ale_volumes.specs.declared.volume.Volume.{Volume as OneVolume}
+use Rattle.ale_volumes.specs.Disk.{Disk}
 use Rattle.dist_model.specs.declared.lists.Lists.{Lists}
 use Rattle.outbound_build.specs.declared.added.Added.{Added}
 use Rattle.outbound_build.specs.declared.added.OutUnit.{OutUnit}
@@ -145,11 +145,11 @@ commit-commits records next added units kind goes are =
 
 -- ---- how it ends
 
-module _ {V : Type 0} (faults : V → ℕ → ℕ) (before after : KeptOf ModelRules DocumentTables V) (system : ℕ) (event : Record → Event) where
+module _ {V : Type 0} (disk : Disk V) (before after : KeptOf ModelRules DocumentTables V) (system : ℕ) (event : Record → Event) where
   -- how its appending ended
-  pub ended-as : {T : Type 0} (next : Record) (result : Result T AppendEnd) → AppendsAs (meaning before.world.rules) faults before after (event next)
+  pub ended-as : {T : Type 0} (next : Record) (result : Result T AppendEnd) → AppendsAs (meaning before.world.rules) disk before after (event next)
       (at system next) result
-      → EndedAs faults before after system event next (ended_of result)
+      → EndedAs disk before after system event next (ended_of result)
   ended-as next (Ok done) did = did
   ended-as next (Err end.Volume) did = did
   ended-as next (Err (end.Full size)) did = did
@@ -157,7 +157,7 @@ module _ {V : Type 0} (faults : V → ℕ → ℕ) (before after : KeptOf ModelR
   ended-as next (Err end.After) did = inr did
 
   asked-ended : {T : Type 0} (P : T → Type 0) (asked : Asked) (next : Record) → asked ≡ Ok (Some next) → (result : Result T Refusal)
-      → EndedAs faults before after system event next result → ((x : T) → result ≡ Ok x → P x) → CarriedAs faults before after system event asked P result
+      → EndedAs disk before after system event next result → ((x : T) → result ≡ Ok x → P x) → CarriedAs disk before after system event asked P result
   asked-ended P asked next is (Ok x) did answers = (answers x refl, inr (next, is, did))
   asked-ended P asked next is (Err refusal.Volume) did answers = (next, is, did)
   asked-ended P asked next is (Err (refusal.N10 size)) did answers = (next, is, did)
@@ -170,9 +170,9 @@ module _ {V : Type 0} (faults : V → ℕ → ℕ) (before after : KeptOf ModelR
   -- a command that was judged to be refused, or to want memory, changed nothing
   refused : {T : Type 0} (P : T → Type 0) (kind : Record → Bool) (asked : Asked) (why : Refusal) → ReadyAs before.world system kind asked (Err why) → after
       ≡ before
-      → CarriedAs faults before after system event asked P (Err why)
+      → CarriedAs disk before after system event asked P (Err why)
   refused P kind asked refusal.OutOfMemory is same = inl
-      (subst (λ (k : KeptOf ModelRules DocumentTables V). Stays (meaning before.world.rules) faults before k) (sym same)
+      (subst (λ (k : KeptOf ModelRules DocumentTables V). Stays (meaning before.world.rules) disk before k) (sym same)
       (record { world = refl; tables = refl; journals = refl; no_faults = λ place. refl; causes = refl }))
   refused P kind asked refusal.Volume is same = absurd is
   refused P kind asked (refusal.N10 size) is same = absurd is
@@ -180,17 +180,17 @@ module _ {V : Type 0} (faults : V → ℕ → ℕ) (before after : KeptOf ModelR
 
   -- a command is carried out as it asks
   pub carried : {T : Type 0} (P : T → Type 0) (kind : Record → Bool) (asked : Asked) (judged : Result (Option Wanted) Refusal) (result : Result T Refusal)
-      → ReadyAs before.world system kind asked judged → DoneAs faults before after system event judged result
-      → ((x : T) → result ≡ Ok x → P x) → CarriedAs faults before after system event asked P result
+      → ReadyAs before.world system kind asked judged → DoneAs disk before after system event judged result
+      → ((x : T) → result ≡ Ok x → P x) → CarriedAs disk before after system event asked P result
   carried P kind asked (Ok (Some wanted)) result is did answers = asked-ended P asked wanted.next is.record_asked result did answers
   carried P kind asked (Ok None) (Ok x) is did answers = (answers x refl, inl (is, did))
   carried P kind asked (Ok None) (Err why) is did answers = absurd did
   carried P kind asked (Err why) result is did answers =
-      subst (CarriedAs faults before after system event asked P) (sym did.0) (refused P kind asked why is did.1)
+      subst (CarriedAs disk before after system event asked P) (sym did.0) (refused P kind asked why is did.1)
 
   -- how many were made
   pub counted : (kind : Record → Bool) (asked : Asked) (judged : Result (Option Wanted) Refusal) (result : Result Gathered Refusal) (counts : Gathered)
-      → ReadyAs before.world system kind asked judged → DoneAs faults before after system event judged result → result ≡ Ok counts
+      → ReadyAs before.world system kind asked judged → DoneAs disk before after system event judged result → result ≡ Ok counts
       → CountsAs (log_of before.world system) judged counts → counts ≡ counts_asked (log_of before.world system) asked
   counted kind asked (Ok (Some wanted)) result counts is did ok are = are ∙ sym (ap (counts_asked (log_of before.world system)) is.record_asked)
   counted kind asked (Ok None) result counts is did ok are = are ∙ sym (ap (counts_asked (log_of before.world system)) is)
@@ -199,24 +199,24 @@ module _ {V : Type 0} (faults : V → ℕ → ℕ) (before after : KeptOf ModelR
   -- what is answered of what was made
   pub carried-map : {T U : Type 0} (f : T → U) (P : T → Type 0) (Q : U → Type 0) (asked : Asked) (result : Result T Refusal) (mapped : Result U Refusal)
       → ((x : T) → P x → Q (f x)) → ((x : T) → result ≡ Ok x → mapped ≡ Ok (f x)) → ((why : Refusal) → result ≡ Err why → mapped ≡ Err why)
-      → CarriedAs faults before after system event asked P result → CarriedAs faults before after system event asked Q mapped
-  carried-map f P Q asked (Ok x) mapped all ok err is = subst (CarriedAs faults before after system event asked Q) (sym (ok x refl)) (all x is.0, is.1)
-  carried-map f P Q asked (Err why) mapped all ok err is = subst (CarriedAs faults before after system event asked Q) (sym (err why refl)) (of why is)
+      → CarriedAs disk before after system event asked P result → CarriedAs disk before after system event asked Q mapped
+  carried-map f P Q asked (Ok x) mapped all ok err is = subst (CarriedAs disk before after system event asked Q) (sym (ok x refl)) (all x is.0, is.1)
+  carried-map f P Q asked (Err why) mapped all ok err is = subst (CarriedAs disk before after system event asked Q) (sym (err why refl)) (of why is)
     where
-      of : (why : Refusal) → CarriedAs faults before after system event asked P (Err why) → CarriedAs faults before after system event asked Q (Err why)
+      of : (why : Refusal) → CarriedAs disk before after system event asked P (Err why) → CarriedAs disk before after system event asked Q (Err why)
       of refusal.Volume is = is
       of (refusal.N10 size) is = is
       of refusal.OutOfMemory is = is
       of _ is = is
 
 -- which volume is called
-pub disk-asked : {V : Type 0} (told : Type 0) (volume : V → ℕ → OneVolume) (moment : V → ℕ) (images_since : V → ℕ → ℕ → List ℕ → Type 0)
+pub disk-asked : {V : Type 0} (disk : Disk V)
     (before after : KeptOf ModelRules DocumentTables V) (system : ℕ) (kind : Record → Bool) (asked : Asked) (judged : Result (Option Wanted) Refusal)
-    → ReadyAs before.world system kind asked judged → DiskJudged told volume moment images_since before after system judged
-    → DiskAsked told volume moment images_since before after system asked
-disk-asked told volume moment images_since before after system kind asked (Ok (Some wanted)) is disk = elim disk [
+    → ReadyAs before.world system kind asked judged → DiskJudged disk before after system judged
+    → DiskAsked disk before after system asked
+disk-asked disk before after system kind asked (Ok (Some wanted)) is on_disk = elim on_disk [
   | inl keeps ↦ inl keeps
   | inr writes ↦ inr (wanted.next, is.record_asked, writes)
 ]
-disk-asked told volume moment images_since before after system kind asked (Ok None) is keeps = inl keeps
-disk-asked told volume moment images_since before after system kind asked (Err why) is keeps = inl keeps
+disk-asked disk before after system kind asked (Ok None) is keeps = inl keeps
+disk-asked disk before after system kind asked (Err why) is keeps = inl keeps

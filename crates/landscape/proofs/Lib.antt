@@ -1,5 +1,7 @@
 -- logs that begin with a model begin so for good
 pub mod BegunLemmas
+-- what a crash inside a call leaves is sound
+pub mod SoundLemmas
 -- the tables of a system that is up
 pub mod StandingLemmas
 -- what an operator is shown

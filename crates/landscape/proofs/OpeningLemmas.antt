@@ -7,6 +7,7 @@ use Rattle.std.proofs.lemmas.List.{length-replicate, replicate_more}
 use Rattle.std.specs.List.{range_with_len}
 use Rattle.std.specs.Option.{unwrap_or}
 use Rattle.ale_base.specs.Faults.{Rose}
+use Rattle.ale_volumes.specs.Disk.{Disk}
 use Rattle.ale_volumes.specs.declared.volume.Volume.{Volume as OneVolume}
 use Rattle.ale_volumes.specs.Clock.{KeepsOthers, KeepsVolume, LeavesOnly}
 use Rattle.ale_volumes.specs.Faults.{CountsFault}
@@ -135,35 +136,37 @@ same_moments place before after same = ap (λ (found : Option (List (Option ℕ)
 
 -- ---- one step of an opening
 
-module _ {V : Type 0} (told : Type 0) (volume : V → ℕ → OneVolume) (moment : V → ℕ) (images_since : V → ℕ → ℕ → List ℕ → Type 0) (faults : V → ℕ → ℕ) (many : ℕ)
+module _ {V : Type 0} (disk : Disk V) (many : ℕ)
     (text : List ℕ) (set : Option ℕ) (before : V) where
   abbrev Kept : Type 0
   Kept = KeptOf ModelRules DocumentTables V
 
   abbrev Opened : ℕ → Kept → Type 0
-  Opened = AreOpened told volume moment images_since faults many text set before
+  Opened = AreOpened disk many text set before
 
   abbrev Begun : ℕ → Kept → Type 0
-  Begun = AreBegunSoFar told volume moment images_since faults many text set before
+  Begun = AreBegunSoFar disk many text set before
 
   abbrev Ended : OpenEnd V → Type 0
-  Ended = HasEnded told volume moment images_since faults many text set before
+  Ended = HasEnded disk many text set before
 
   abbrev Left : V → Type 0
-  Left now = LeavesOpening volume many text set before now moment images_since
+  Left now = LeavesOpening disk many text set before now
 
-  untouched-none : told → (place : ℕ) → KeepsVolume volume moment images_since before before place
+  untouched-none : disk.told → (place : ℕ) → KeepsVolume disk before before place
   untouched-none tells place = record { later = omega arith; known = refl; images = λ t image le. (λ left. left, λ left. left) }
 
   -- nothing was done yet
-  left-none : (told → (vols : V) (n : ℕ) (image : List ℕ) → images_since vols n (moment vols) image → IsImage (volume vols n) image) → told → Left before
+  left-none : (disk.told → (vols : V) (n : ℕ) (image : List ℕ) → disk.images_since vols n (disk.moment vols) image → IsImage (disk.volume vols n) image) →
+      disk.told → Left before
   left-none only tells = record {
-    leaves = λ place. started moment images_since before place (IsLeft volume many text set before before place)
+    leaves = λ place. started disk before place (IsLeft disk many text set before before place)
         (λ image left. inl (inl (only tells before place image left)));
     beyond = λ place behind. untouched-none tells place;
   }
 
-  pub AreOpened-none : (told → (vols : V) (n : ℕ) (image : List ℕ) → images_since vols n (moment vols) image → IsImage (volume vols n) image)
+  pub AreOpened-none : (disk.told → (vols : V) (n : ℕ) (image : List ℕ) → disk.images_since vols n (disk.moment vols) image →
+      IsImage (disk.volume vols n) image)
       → (now : Kept) → now.world.rules.systems ≡ many → length now.world.systems ≡ 0 → count_of now.journals ≡ 0 → moment_of now.journals ≡ set → now.vols
       ≡ before
       → Opened 0 now
@@ -174,70 +177,70 @@ module _ {V : Type 0} (told : Type 0) (volume : V → ℕ → OneVolume) (moment
     moment_set = is;
     no_moments = λ place less. absurd (omega arith);
     leaves = λ tells. subst Left (sym vols) (left-none only tells);
-    untouched = λ tells place least. subst (λ v. KeepsVolume volume moment images_since before v place) (sym vols) (untouched-none tells place);
+    untouched = λ tells place least. subst (λ v. KeepsVolume disk before v place) (sym vols) (untouched-none tells place);
     empty = λ tells place less. absurd (omega arith);
-    none_failed = λ place. ap (λ v. faults v place) vols;
+    none_failed = λ place. ap (λ v. disk.faults v place) vols;
   }
 
   -- memory was wanting before the next step
-  pub ended-short : (now : V) → (told → Left now) → NoneFailed many faults before now → Ended (record { why = OutOfMemory; vols = now })
+  pub ended-short : (now : V) → (disk.told → Left now) → NoneFailed many disk before now → Ended (record { why = OutOfMemory; vols = now })
   ended-short now left none = record { why = tt; leaves = left; faulted = none }
 
   -- a call on the volume at a place, which leaves of it what an opening may
   module _ (now after : V) (n : ℕ) where
-    left-more : Left now → n < many → LeavesOnly moment images_since now after n (IsLeft volume many text set before after n) → KeepsOthers volume moment
-        images_since now after n
+    left-more : Left now → n < many → LeavesOnly disk now after n (IsLeft disk many text set before after n) → KeepsOthers disk now after n
         → Left after
     left-more left less only others = record {
       leaves = λ place. elim (cases_eq place n) [
-        | inl same ↦ subst (λ m. LeavesOnly moment images_since before after m (IsLeft volume many text set before after m)) (sym same)
-            (joined moment images_since before now after n (IsLeft volume many text set before after n) (left.leaves n) only)
-        | inr other ↦ LeavesOnly-then_kept moment images_since volume before now after place (IsLeft volume many text set before after place)
+        | inl same ↦ subst (λ m. LeavesOnly disk before after m (IsLeft disk many text set before after m)) (sym same)
+            (joined disk before now after n (IsLeft disk many text set before after n) (left.leaves n) only)
+        | inr other ↦ LeavesOnly-then_kept disk before now after place (IsLeft disk many text set before after place)
             (left.leaves place)
-            (KeepsVolume-other moment images_since volume now after n place only.later other others)
+            (KeepsVolume-other disk now after n place only.later other others)
       ];
       beyond = λ place behind.
           let other : place ≢ n = λ same. omega (arith, same) in
-          KeepsVolume-joined moment images_since volume before now after place (left.beyond place behind)
-          (KeepsVolume-other moment images_since volume now after n place only.later other others);
+          KeepsVolume-joined disk before now after place (left.beyond place behind)
+          (KeepsVolume-other disk now after n place only.later other others);
     }
 
-    failed-here : n < many → NoneFailed many faults before now → Rose (faults now n) (faults after n) → EndedByFault many faults before after Volume
-    failed-here less none rose = (n, less, subst (λ k. Rose k (faults after n)) (none n) rose)
+    failed-here : n < many → NoneFailed many disk before now → Rose (disk.faults now n) (disk.faults after n) → EndedByFault many disk before after Volume
+    failed-here less none rose = (n, less, subst (λ k. Rose k (disk.faults after n)) (none n) rose)
 
-    none-more : {Failed : Type 0} → NoneFailed many faults before now → CountsFault Failed (faults now) (faults after) n → (Failed → ⊥) → NoneFailed many
-        faults before after
+    none-more : {Failed : Type 0} → NoneFailed many disk before now → CountsFault Failed (disk.faults now) (disk.faults after) n → (Failed → ⊥) →
+        NoneFailed many
+        disk before after
     none-more none counts not place = elim (cases_eq place n) [
-      | inl same ↦ subst (λ m. faults after m ≡ faults before m) (sym same) (counts.quiet not ∙ none n)
+      | inl same ↦ subst (λ m. disk.faults after m ≡ disk.faults before m) (sym same) (counts.quiet not ∙ none n)
       | inr other ↦ counts.others place other ∙ none place
     ]
 
   -- ---- the next volume is opened
 
   module _ (count : ℕ) (now : Kept) (is : Opened count now) (less : count < many) where
-    known : told → volume now.vols (length now.world.systems) ≡ volume before (length now.world.systems)
+    known : disk.told → disk.volume now.vols (length now.world.systems) ≡ disk.volume before (length now.world.systems)
     known tells = (is.untouched tells (length now.world.systems) (let here = is.opened in omega arith)).known
 
-    only-here : told → (after : V) → LeavesOnly moment images_since now.vols after (length now.world.systems)
-        (IsLeftByOpening (volume now.vols (length now.world.systems)))
-        → LeavesOnly moment images_since now.vols after (length now.world.systems) (IsLeft volume many text set before after (length now.world.systems))
+    only-here : disk.told → (after : V) → LeavesOnly disk now.vols after (length now.world.systems)
+        (IsLeftByOpening (disk.volume now.vols (length now.world.systems)))
+        → LeavesOnly disk now.vols after (length now.world.systems) (IsLeft disk many text set before after (length now.world.systems))
     only-here tells after only =
-        weaker moment images_since now.vols after (length now.world.systems) (IsLeftByOpening (volume now.vols (length now.world.systems)))
-        (IsLeft volume many text set before after (length now.world.systems))
+        weaker disk now.vols after (length now.world.systems) (IsLeftByOpening (disk.volume now.vols (length now.world.systems)))
+        (IsLeft disk many text set before after (length now.world.systems))
         (λ image has. inl (subst (λ (v : OneVolume). IsLeftByOpening v image) (known tells) has)) only
 
-    opened-left : (after : V) → (told → LeavesOnly moment images_since now.vols after (length now.world.systems)
-        (IsLeftByOpening (volume now.vols (length now.world.systems))))
-        → (told → KeepsOthers volume moment images_since now.vols after (length now.world.systems)) → told → Left after
+    opened-left : (after : V) → (disk.told → LeavesOnly disk now.vols after (length now.world.systems)
+        (IsLeftByOpening (disk.volume now.vols (length now.world.systems))))
+        → (disk.told → KeepsOthers disk now.vols after (length now.world.systems)) → disk.told → Left after
     opened-left after only others tells =
         left-more now.vols after (length now.world.systems) (is.leaves tells) (let here = is.opened in omega arith) (only-here tells after (only tells))
         (others tells)
 
     opened-ok : (application : DocumentTables) (next : Kept) → IsOpened application now next
-        → (told → Stands (volume now.vols (length now.world.systems)).contents [])
-        → (told → LeavesOnly moment images_since now.vols next.vols (length now.world.systems) (IsLeftByOpening (volume now.vols (length now.world.systems))))
-        → (told → KeepsOthers volume moment images_since now.vols next.vols (length now.world.systems))
-        → {Failed : Type 0} → CountsFault Failed (faults now.vols) (faults next.vols) (length now.world.systems) → (Failed → ⊥)
+        → (disk.told → Stands (disk.volume now.vols (length now.world.systems)).contents [])
+        → (disk.told → LeavesOnly disk now.vols next.vols (length now.world.systems) (IsLeftByOpening (disk.volume now.vols (length now.world.systems))))
+        → (disk.told → KeepsOthers disk now.vols next.vols (length now.world.systems))
+        → {Failed : Type 0} → CountsFault Failed (disk.faults now.vols) (disk.faults next.vols) (length now.world.systems) → (Failed → ⊥)
         → Opened (suc count) next
     opened-ok application next opened empty only others counts not = record {
       all = ap (λ (w : World ModelRules). w.rules.systems) opened.world ∙ is.all;
@@ -260,10 +263,11 @@ module _ {V : Type 0} (told : Type 0) (volume : V → ℕ → OneVolume) (moment
       untouched = λ tells place least.
           let here = is.opened in
           let other : place ≢ length now.world.systems = λ same. omega (arith, same, here) in
-          KeepsVolume-joined moment images_since volume before now.vols next.vols place (is.untouched tells place (omega arith))
-          (KeepsVolume-other moment images_since volume now.vols next.vols (length now.world.systems) place (only tells).later other (others tells));
+          KeepsVolume-joined disk before now.vols next.vols place (is.untouched tells place (omega arith))
+          (KeepsVolume-other disk now.vols next.vols (length now.world.systems) place (only tells).later other (others tells));
       empty = λ tells place within. elim (cases_eq place (length now.world.systems)) [
-        | inl same ↦ subst (λ m. Stands (volume before m).contents []) (sym same) (subst (λ (v : OneVolume). Stands v.contents []) (known tells) (empty tells))
+        | inl same ↦ subst (λ m. Stands (disk.volume before m).contents []) (sym same)
+            (subst (λ (v : OneVolume). Stands v.contents []) (known tells) (empty tells))
         | inr other ↦ let here = is.opened in is.empty tells place (omega arith)
       ];
       none_failed = none-more now.vols next.vols (length now.world.systems) is.none_failed counts not;
@@ -272,8 +276,8 @@ module _ {V : Type 0} (told : Type 0) (volume : V → ℕ → OneVolume) (moment
     less-here : length now.world.systems < many
     less-here = let here = is.opened in omega arith
 
-    why-ended : (after : V) (why : OpenFault) → (told → NotEmptyAs (volume now.vols (length now.world.systems)).contents why)
-        → WhyEnded volume many text set before after told (why_opened why)
+    why-ended : (after : V) (why : OpenFault) → (disk.told → NotEmptyAs (disk.volume now.vols (length now.world.systems)).contents why)
+        → WhyEnded disk many text set before after (why_opened why)
     why-ended after open_fault.Volume not = tt
     why-ended after (open_fault.Damaged place) not =
         λ tells. (length now.world.systems, less-here, inr (inl (place, subst (λ (v : OneVolume). DamagedAt v.contents place) (known tells) (not tells))))
@@ -283,8 +287,8 @@ module _ {V : Type 0} (told : Type 0) (volume : V → ℕ → OneVolume) (moment
         λ tells. (length now.world.systems, less-here, inl (subst (λ (v : OneVolume). HoldsRecords v.contents) (known tells) (not tells)))
     why-ended after open_fault.OutOfMemory not = tt
 
-    fault-ended : (after : V) (why : OpenFault) → CountsFault (why ≡ open_fault.Volume) (faults now.vols) (faults after) (length now.world.systems)
-        → EndedByFault many faults before after (why_opened why)
+    fault-ended : (after : V) (why : OpenFault) → CountsFault (why ≡ open_fault.Volume) (disk.faults now.vols) (disk.faults after) (length now.world.systems)
+        → EndedByFault many disk before after (why_opened why)
     fault-ended after open_fault.Volume counts = failed-here now.vols after (length now.world.systems) less-here is.none_failed (counts.rose refl)
     fault-ended after (open_fault.Damaged place) counts = none-more now.vols after (length now.world.systems) is.none_failed counts (λ same. cc)
     fault-ended after (open_fault.Unread number) counts = none-more now.vols after (length now.world.systems) is.none_failed counts (λ same. cc)
@@ -293,12 +297,12 @@ module _ {V : Type 0} (told : Type 0) (volume : V → ℕ → OneVolume) (moment
 
     -- the volume of the next system is opened, or no landscape is
     pub opens-next : (application : DocumentTables) (result : Result Kept (NotOpened V)) → IfOk result (λ next. IsOpened application now next)
-        → (told → OpenedAs (volume now.vols (length now.world.systems)).contents result)
-        → (told → LeavesOnly moment images_since now.vols (vols_of result) (length now.world.systems)
-        (IsLeftByOpening (volume now.vols (length now.world.systems))))
-        → (told → KeepsOthers volume moment images_since now.vols (vols_of result) (length now.world.systems))
-        → CountsFault (HasFailed result) (faults now.vols) (faults (vols_of result)) (length now.world.systems)
-        → OpensAs told volume moment images_since faults many text set before (suc count) (opened_of result)
+        → (disk.told → OpenedAs (disk.volume now.vols (length now.world.systems)).contents result)
+        → (disk.told → LeavesOnly disk now.vols (vols_of result) (length now.world.systems)
+        (IsLeftByOpening (disk.volume now.vols (length now.world.systems))))
+        → (disk.told → KeepsOthers disk now.vols (vols_of result) (length now.world.systems))
+        → CountsFault (HasFailed result) (disk.faults now.vols) (disk.faults (vols_of result)) (length now.world.systems)
+        → OpensAs disk many text set before (suc count) (opened_of result)
     opens-next application (Ok next) opened why only others counts = opened-ok application next opened why only others counts (λ never. never)
     opens-next application (Err failed) opened why only others counts = record {
       why = why-ended failed.vols failed.why why;
@@ -348,15 +352,15 @@ module _ {V : Type 0} (told : Type 0) (volume : V → ℕ → OneVolume) (moment
         ∙ ap (λ (texts : List (List ℕ)). begun_world now.world.rules texts (many - suc count)) (replicate_more count text ∙ ap (λ k. replicate k text) more)
 
     module _ (after : Kept)
-        (only : told → LeavesOnly moment images_since now.vols after.vols (system - 1)
+        (only : disk.told → LeavesOnly disk now.vols after.vols (system - 1)
         (IsBeforeOrAfter [] (entry_with (moment_of now.journals) (Genesis system text))))
-        (others : told → KeepsOthers volume moment images_since now.vols after.vols (system - 1)) where
-      begun-left : told → Left after.vols
+        (others : disk.told → KeepsOthers disk now.vols after.vols (system - 1)) where
+      begun-left : disk.told → Left after.vols
       begun-left tells =
           let here : suc (system - 1) ≡ system = omega (arith, next) in
           left-more now.vols after.vols (system - 1) (is.leaves tells) (omega (arith, place, less))
-          (weaker moment images_since now.vols after.vols (system - 1) (IsBeforeOrAfter [] (entry_with (moment_of now.journals) (Genesis system text)))
-          (IsLeft volume many text set before after.vols (system - 1))
+          (weaker disk now.vols after.vols (system - 1) (IsBeforeOrAfter [] (entry_with (moment_of now.journals) (Genesis system text)))
+          (IsLeft disk many text set before after.vols (system - 1))
           (λ image has. inr (
             is.empty tells (system - 1) (omega (arith, place, less)),
             subst (λ k. IsBeforeOrAfter [] (entry_with set (Genesis k text)) image)
@@ -366,7 +370,7 @@ module _ {V : Type 0} (told : Type 0) (volume : V → ℕ → OneVolume) (moment
           (others tells)
 
       begun-ok : {Failed : Type 0} → after.world ≡ with_record now.world system (Genesis system text) → HasFirst (system - 1) now.journals after.journals
-          → CountsFault Failed (faults now.vols) (faults after.vols) (system - 1) → (Failed → ⊥) → Begun (suc count) after
+          → CountsFault Failed (disk.faults now.vols) (disk.faults after.vols) (system - 1) → (Failed → ⊥) → Begun (suc count) after
       begun-ok world first counts not =
           let rules : after.world.rules ≡ now.world.rules = ap (λ (w : World ModelRules). w.rules) (world ∙ begun-world) in
           record {
@@ -388,8 +392,8 @@ module _ {V : Type 0} (told : Type 0) (volume : V → ℕ → OneVolume) (moment
 
       -- the next system has begun, or no landscape is opened
       pub begins-next : {T : Type 0} (result : Result T BeginEnd) → BegunAs now after system text result
-          → CountsFault (result ≡ Err begin.Volume) (faults now.vols) (faults after.vols) (system - 1)
-          → BeginsNext told volume moment images_since faults many text set before (suc count) after (begun_of result)
+          → CountsFault (result ≡ Err begin.Volume) (disk.faults now.vols) (disk.faults after.vols) (system - 1)
+          → BeginsNext disk many text set before (suc count) after (begun_of result)
       begins-next (Ok done) did counts = begun-ok did.0 did.1 counts (λ same. cc)
       begins-next (Err begin.Volume) did counts = record {
         why = tt;
@@ -420,16 +424,16 @@ module _ {V : Type 0} (told : Type 0) (volume : V → ℕ → OneVolume) (moment
   are-begun now is model says its = AreBegun-all many text model now.world (begun-whole now is) is.all says its
 
 -- what the opening of the next volume says, by how many systems there are and how many are opened
-pub opens-at : {V : Type 0} (told : Type 0) (volume : V → ℕ → OneVolume) (moment : V → ℕ) (images_since : V → ℕ → ℕ → List ℕ → Type 0) (faults : V → ℕ → ℕ)
+pub opens-at : {V : Type 0} (disk : Disk V)
     (opening : KeptOf ModelRules DocumentTables V) (result : Result (KeptOf ModelRules DocumentTables V) (OpenEnd V))
-    → ((text : List ℕ) (set : Option ℕ) (before : V) → AreOpened told volume moment images_since faults opening.world.rules.systems text set before
+    → ((text : List ℕ) (set : Option ℕ) (before : V) → AreOpened disk opening.world.rules.systems text set before
     (length opening.world.systems) opening
-    → OpensAs told volume moment images_since faults opening.world.rules.systems text set before (suc (length opening.world.systems)) result)
-    → (many count : ℕ) (text : List ℕ) (set : Option ℕ) (before : V) → AreOpened told volume moment images_since faults many text set before count opening
-    → OpensAs told volume moment images_since faults many text set before (suc count) result
-opens-at told volume moment images_since faults opening result opens many count text set before is =
-    subst (λ m. OpensAs told volume moment images_since faults m text set before (suc count) result) is.all
-    (subst (λ k. OpensAs told volume moment images_since faults opening.world.rules.systems text set before (suc k) result) is.opened
+    → OpensAs disk opening.world.rules.systems text set before (suc (length opening.world.systems)) result)
+    → (many count : ℕ) (text : List ℕ) (set : Option ℕ) (before : V) → AreOpened disk many text set before count opening
+    → OpensAs disk many text set before (suc count) result
+opens-at disk opening result opens many count text set before is =
+    subst (λ m. OpensAs disk m text set before (suc count) result) is.all
+    (subst (λ k. OpensAs disk opening.world.rules.systems text set before (suc k) result) is.opened
     (opens text set before
-    (subst (λ k. AreOpened told volume moment images_since faults opening.world.rules.systems text set before k opening) (sym is.opened)
-    (subst (λ m. AreOpened told volume moment images_since faults m text set before count opening) (sym is.all) is))))
+    (subst (λ k. AreOpened disk opening.world.rules.systems text set before k opening) (sym is.opened)
+    (subst (λ m. AreOpened disk m text set before count opening) (sym is.all) is))))

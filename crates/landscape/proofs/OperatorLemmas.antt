@@ -5,7 +5,7 @@ use Rattle.std.proofs.lemmas.Bool.{and_parts}
 use Rattle.ale_base.specs.QueueName.{IsQueueName}
 use Rattle.ale_base.specs.Tid.{TidOf}
 use Rattle.ale_base.specs.declared.way.Way.{Way}
-use Rattle.ale_volumes.specs.declared.volume.Volume.{Volume as OneVolume}
+use Rattle.ale_volumes.specs.Disk.{Disk}
 use Rattle.unit_core.specs.declared.records.Record.{Record}
 use Rattle.unit_core.specs.declared.records.Record.TheVariants as log
 use Rattle.unit_codec.specs.Fields.{is_queue}
@@ -76,13 +76,13 @@ module _ (world : World ModelRules) (system : ℕ) (next : Record) (why : Refusa
       let b = and_parts (is_up world system) (may_operate world next) a.0 in
       record { same = refl; asked = by-may b.0 a.1 }) it is
 
-module _ {V : Type 0} (faults : V → ℕ → ℕ) (before after : KeptOf ModelRules DocumentTables V) (system : ℕ) (next : Record) (why : Refusal) (asked : Asked)
+module _ {V : Type 0} (disk : Disk V) (before after : KeptOf ModelRules DocumentTables V) (system : ℕ) (next : Record) (why : Refusal) (asked : Asked)
     (asks : asked ≡ asked_by before.world system next why) where
   -- an operator's record was appended as it is asked for
   pub operated-carried : {T : Type 0} (result : Result T OperatorEnd)
-      → (asked ≡ Err why → after ≡ before → CarriedAs faults before after system (operator_event system) asked (λ (x : T). ⊤) (Err why))
-      → OperatedAs (meaning before.world.rules) faults before after system next result
-      → CarriedAs faults before after system (operator_event system) asked (λ (x : T). ⊤) (refused_of why result)
+      → (asked ≡ Err why → after ≡ before → CarriedAs disk before after system (operator_event system) asked (λ (x : T). ⊤) (Err why))
+      → OperatedAs (meaning before.world.rules) disk before after system next result
+      → CarriedAs disk before after system (operator_event system) asked (λ (x : T). ⊤) (refused_of why result)
   operated-carried (Ok done) refuses did = (tt, inr (next, asks ∙ (may-be before.world system next why _ did.1).asked, did.0))
   operated-carried (Err operator.Down) refuses did = (asks ∙ by-down before.world system next why did.0, did.1)
   operated-carried (Err operator.NotAllowed) refuses did = refuses (asks ∙ by-not before.world system next why did.0 did.1) did.2
@@ -93,23 +93,22 @@ module _ {V : Type 0} (faults : V → ℕ → ℕ) (before after : KeptOf ModelR
     | inr behind ↦ inr (
       next,
       asks ∙ by-may before.world system next why did.0.0 did.0.1,
-      subst (FellBehind (meaning before.world.rules) faults before after (event.Operator (Append system next)))
+      subst (FellBehind (meaning before.world.rules) disk before after (event.Operator (Append system next)))
           (may-be before.world system next why behind.0 behind.1).same behind.2,
     )
   ]
 
   -- and no other volume than its system's is called
-  pub operated-disk : (told : Type 0) (volume : V → ℕ → OneVolume) (moment : V → ℕ) (images_since : V → ℕ → ℕ → List ℕ → Type 0)
-      → DiskAs told volume moment images_since before after (record_of (meaning before.world.rules) before.world (event.Operator (Append system next)))
-      → DiskAsked told volume moment images_since before after system asked
-  operated-disk told volume moment images_since = of (record_of (meaning before.world.rules) before.world (event.Operator (Append system next))) refl
+  pub operated-disk : DiskAs disk before after (record_of (meaning before.world.rules) before.world (event.Operator (Append system next)))
+      → DiskAsked disk before after system asked
+  operated-disk = of (record_of (meaning before.world.rules) before.world (event.Operator (Append system next))) refl
     where
       of : (found : Option Writing) → record_of (meaning before.world.rules) before.world (event.Operator (Append system next)) ≡ found
-          → DiskAs told volume moment images_since before after found → DiskAsked told volume moment images_since before after system asked
+          → DiskAs disk before after found → DiskAsked disk before after system asked
       of None is keeps = inl keeps
       of (Some it) is writes =
           let be = may-be before.world system next why it is in
-          inr (next, asks ∙ be.asked, subst (λ it. DiskAs told volume moment images_since before after (Some it)) be.same writes)
+          inr (next, asks ∙ be.asked, subst (λ it. DiskAs disk before after (Some it)) be.same writes)
 
 -- ---- what is asked for
 
@@ -165,102 +164,100 @@ module _ (world : World ModelRules) (is : IsLandscape meaning world) (system : �
 
 -- ---- the calls
 
-module _ {V : Type 0} (faults : V → ℕ → ℕ) (before after : KeptOf ModelRules DocumentTables V) (is : IsLandscape meaning before.world) (system : ℕ) where
+module _ {V : Type 0} (disk : Disk V) (before after : KeptOf ModelRules DocumentTables V) (is : IsLandscape meaning before.world) (system : ℕ) where
   pub retry-carried : {T : Type 0} (tid : TidOf) (way : Way) → way ≡ way_at system tid → (result : Result T OperatorEnd)
-      → OperatedAs (meaning before.world.rules) faults before after system (log.Retry way tid) result
-      → CarriedAs faults before after system (operator_event system) (asked_at before.world system (asked_retry before.world.rules.systems system tid))
+      → OperatedAs (meaning before.world.rules) disk before after system (log.Retry way tid) result
+      → CarriedAs disk before after system (operator_event system) (asked_at before.world system (asked_retry before.world.rules.systems system tid))
       (λ (x : T). ⊤) (refused_of refusal.N6 result)
   retry-carried tid way same result did =
-      operated-carried faults before after system (log.Retry (way_at system tid) tid) refusal.N6
+      operated-carried disk before after system (log.Retry (way_at system tid) tid) refusal.N6
       (asked_at before.world system (asked_retry before.world.rules.systems system tid))
       (retry-asks before.world is system tid) result (λ asked stays. (asked, stays))
-      (subst (λ w. OperatedAs (meaning before.world.rules) faults before after system (log.Retry w tid) result) same did)
+      (subst (λ w. OperatedAs (meaning before.world.rules) disk before after system (log.Retry w tid) result) same did)
 
   pub retry-disk : (tid : TidOf) (way : Way) → way ≡ way_at system tid
-      → (told : Type 0) (volume : V → ℕ → OneVolume) (moment : V → ℕ) (images_since : V → ℕ → ℕ → List ℕ → Type 0)
-      → DiskAs told volume moment images_since before after
+      → DiskAs disk before after
       (record_of (meaning before.world.rules) before.world (event.Operator (Append system (log.Retry way tid))))
-      → DiskAsked told volume moment images_since before after system (asked_at before.world system (asked_retry before.world.rules.systems system tid))
-  retry-disk tid way same told volume moment images_since disk =
-      operated-disk faults before after system (log.Retry (way_at system tid) tid) refusal.N6
+      → DiskAsked disk before after system (asked_at before.world system (asked_retry before.world.rules.systems system tid))
+  retry-disk tid way same wrote =
+      operated-disk disk before after system (log.Retry (way_at system tid) tid) refusal.N6
       (asked_at before.world system (asked_retry before.world.rules.systems system tid))
-      (retry-asks before.world is system tid) told volume moment images_since
-      (subst (λ w. DiskAs told volume moment images_since before after
-      (record_of (meaning before.world.rules) before.world (event.Operator (Append system (log.Retry w tid))))) same disk)
+      (retry-asks before.world is system tid)
+      (subst (λ w. DiskAs disk before after
+      (record_of (meaning before.world.rules) before.world (event.Operator (Append system (log.Retry w tid))))) same wrote)
 
   module _ (destination : Option ℕ) (given name : List ℕ) (way : Way) (number : ℕ) (leads : way ≡ way_to destination)
       (numbered : number ≡ number_to destination)
       (named : (name ≡ given) × IsQueueName given) where
-    pub stop-carried : {T : Type 0} (result : Result T OperatorEnd) → OperatedAs (meaning before.world.rules) faults before after system
+    pub stop-carried : {T : Type 0} (result : Result T OperatorEnd) → OperatedAs (meaning before.world.rules) disk before after system
         (log.Stop way number name) result
-        → CarriedAs faults before after system (operator_event system)
+        → CarriedAs disk before after system (operator_event system)
         (asked_at before.world system (λ log. asked_queue before.world.rules.systems system destination given (stop_of destination given))) (λ (x : T). ⊤)
         (refused_of refusal.N5 result)
     stop-carried result did =
-        operated-carried faults before after system (stop_of destination given) refusal.N5
+        operated-carried disk before after system (stop_of destination given) refusal.N5
         (asked_at before.world system (λ log. asked_queue before.world.rules.systems system destination given (stop_of destination given)))
         (stop-asks before.world is system destination given (is_queue_name given named.1)) result (λ asked stays. (asked, stays))
-        (subst (λ n. OperatedAs (meaning before.world.rules) faults before after system (log.Stop (way_to destination) (number_to destination) n) result)
+        (subst (λ n. OperatedAs (meaning before.world.rules) disk before after system (log.Stop (way_to destination) (number_to destination) n) result)
         named.0
-        (subst (λ n. OperatedAs (meaning before.world.rules) faults before after system (log.Stop (way_to destination) n name) result) numbered
-        (subst (λ w. OperatedAs (meaning before.world.rules) faults before after system (log.Stop w number name) result) leads did)))
+        (subst (λ n. OperatedAs (meaning before.world.rules) disk before after system (log.Stop (way_to destination) n name) result) numbered
+        (subst (λ w. OperatedAs (meaning before.world.rules) disk before after system (log.Stop w number name) result) leads did)))
 
-    pub start-carried : {T : Type 0} (result : Result T OperatorEnd) → OperatedAs (meaning before.world.rules) faults before after system
+    pub start-carried : {T : Type 0} (result : Result T OperatorEnd) → OperatedAs (meaning before.world.rules) disk before after system
         (log.Start way number name) result
-        → CarriedAs faults before after system (operator_event system)
+        → CarriedAs disk before after system (operator_event system)
         (asked_at before.world system (λ log. asked_queue before.world.rules.systems system destination given (start_of destination given))) (λ (x : T). ⊤)
         (refused_of refusal.N5 result)
     start-carried result did =
-        operated-carried faults before after system (start_of destination given) refusal.N5
+        operated-carried disk before after system (start_of destination given) refusal.N5
         (asked_at before.world system (λ log. asked_queue before.world.rules.systems system destination given (start_of destination given)))
         (start-asks before.world is system destination given (is_queue_name given named.1)) result (λ asked stays. (asked, stays))
-        (subst (λ n. OperatedAs (meaning before.world.rules) faults before after system (log.Start (way_to destination) (number_to destination) n) result)
+        (subst (λ n. OperatedAs (meaning before.world.rules) disk before after system (log.Start (way_to destination) (number_to destination) n) result)
         named.0
-        (subst (λ n. OperatedAs (meaning before.world.rules) faults before after system (log.Start (way_to destination) n name) result) numbered
-        (subst (λ w. OperatedAs (meaning before.world.rules) faults before after system (log.Start w number name) result) leads did)))
+        (subst (λ n. OperatedAs (meaning before.world.rules) disk before after system (log.Start (way_to destination) n name) result) numbered
+        (subst (λ w. OperatedAs (meaning before.world.rules) disk before after system (log.Start w number name) result) leads did)))
 
-    module _ (told : Type 0) (volume : V → ℕ → OneVolume) (moment : V → ℕ) (images_since : V → ℕ → ℕ → List ℕ → Type 0) where
-      pub stop-disk : DiskAs told volume moment images_since before after
-          (record_of (meaning before.world.rules) before.world (event.Operator (Append system (log.Stop way number name))))
-          → DiskAsked told volume moment images_since before after system
-          (asked_at before.world system (λ log. asked_queue before.world.rules.systems system destination given (stop_of destination given)))
-      stop-disk disk =
-          operated-disk faults before after system (stop_of destination given) refusal.N5
-          (asked_at before.world system (λ log. asked_queue before.world.rules.systems system destination given (stop_of destination given)))
-          (stop-asks before.world is system destination given (is_queue_name given named.1)) told volume moment images_since
-          (subst (λ n. DiskAs told volume moment images_since before after
-          (record_of (meaning before.world.rules) before.world (event.Operator (Append system (log.Stop (way_to destination) (number_to destination) n)))))
-          named.0
-          (subst (λ n. DiskAs told volume moment images_since before after
-          (record_of (meaning before.world.rules) before.world (event.Operator (Append system (log.Stop (way_to destination) n name))))) numbered
-          (subst (λ w. DiskAs told volume moment images_since before after
-          (record_of (meaning before.world.rules) before.world (event.Operator (Append system (log.Stop w number name))))) leads disk)))
+    pub stop-disk : DiskAs disk before after
+        (record_of (meaning before.world.rules) before.world (event.Operator (Append system (log.Stop way number name))))
+        → DiskAsked disk before after system
+        (asked_at before.world system (λ log. asked_queue before.world.rules.systems system destination given (stop_of destination given)))
+    stop-disk wrote =
+        operated-disk disk before after system (stop_of destination given) refusal.N5
+        (asked_at before.world system (λ log. asked_queue before.world.rules.systems system destination given (stop_of destination given)))
+        (stop-asks before.world is system destination given (is_queue_name given named.1))
+        (subst (λ n. DiskAs disk before after
+        (record_of (meaning before.world.rules) before.world (event.Operator (Append system (log.Stop (way_to destination) (number_to destination) n)))))
+        named.0
+        (subst (λ n. DiskAs disk before after
+        (record_of (meaning before.world.rules) before.world (event.Operator (Append system (log.Stop (way_to destination) n name))))) numbered
+        (subst (λ w. DiskAs disk before after
+        (record_of (meaning before.world.rules) before.world (event.Operator (Append system (log.Stop w number name))))) leads wrote)))
 
-      pub start-disk : DiskAs told volume moment images_since before after
-          (record_of (meaning before.world.rules) before.world (event.Operator (Append system (log.Start way number name))))
-          → DiskAsked told volume moment images_since before after system
-          (asked_at before.world system (λ log. asked_queue before.world.rules.systems system destination given (start_of destination given)))
-      start-disk disk =
-          operated-disk faults before after system (start_of destination given) refusal.N5
-          (asked_at before.world system (λ log. asked_queue before.world.rules.systems system destination given (start_of destination given)))
-          (start-asks before.world is system destination given (is_queue_name given named.1)) told volume moment images_since
-          (subst (λ n. DiskAs told volume moment images_since before after
-          (record_of (meaning before.world.rules) before.world
-          (event.Operator (Append system (log.Start (way_to destination) (number_to destination) n))))) named.0
-          (subst (λ n. DiskAs told volume moment images_since before after
-          (record_of (meaning before.world.rules) before.world (event.Operator (Append system (log.Start (way_to destination) n name))))) numbered
-          (subst (λ w. DiskAs told volume moment images_since before after
-          (record_of (meaning before.world.rules) before.world (event.Operator (Append system (log.Start w number name))))) leads disk)))
+    pub start-disk : DiskAs disk before after
+        (record_of (meaning before.world.rules) before.world (event.Operator (Append system (log.Start way number name))))
+        → DiskAsked disk before after system
+        (asked_at before.world system (λ log. asked_queue before.world.rules.systems system destination given (start_of destination given)))
+    start-disk wrote =
+        operated-disk disk before after system (start_of destination given) refusal.N5
+        (asked_at before.world system (λ log. asked_queue before.world.rules.systems system destination given (start_of destination given)))
+        (start-asks before.world is system destination given (is_queue_name given named.1))
+        (subst (λ n. DiskAs disk before after
+        (record_of (meaning before.world.rules) before.world
+        (event.Operator (Append system (log.Start (way_to destination) (number_to destination) n))))) named.0
+        (subst (λ n. DiskAs disk before after
+        (record_of (meaning before.world.rules) before.world (event.Operator (Append system (log.Start (way_to destination) n name))))) numbered
+        (subst (λ w. DiskAs disk before after
+        (record_of (meaning before.world.rules) before.world (event.Operator (Append system (log.Start w number name))))) leads wrote)))
 
 -- ---- a late request
 
 -- a late request is answered by the number of its refusal
-pub late-carried : {V : Type 0} (faults : V → ℕ → ℕ) (before after : KeptOf ModelRules DocumentTables V) (tid : TidOf) (result : Result Late LateEnd)
-    → LateAs (meaning before.world.rules) faults before after tid result → CameOrRefused faults before after tid (late_of result)
-late-carried faults before after tid (Ok came) did = did
-late-carried faults before after tid (Err late.NoSuchSystem) did = inl did
-late-carried faults before after tid (Err late.SenderDown) did = did
-late-carried faults before after tid (Err late.NotCommitted) did = inr did
-late-carried faults before after tid (Err late.NotMarked) did = did
-late-carried faults before after tid (Err (late.Full size)) did = did
-late-carried faults before after tid (Err late.OutOfMemory) did = did
+pub late-carried : {V : Type 0} (disk : Disk V) (before after : KeptOf ModelRules DocumentTables V) (tid : TidOf) (result : Result Late LateEnd)
+    → LateAs (meaning before.world.rules) disk before after tid result → CameOrRefused disk before after tid (late_of result)
+late-carried disk before after tid (Ok came) did = did
+late-carried disk before after tid (Err late.NoSuchSystem) did = inl did
+late-carried disk before after tid (Err late.SenderDown) did = did
+late-carried disk before after tid (Err late.NotCommitted) did = inr did
+late-carried disk before after tid (Err late.NotMarked) did = did
+late-carried disk before after tid (Err (late.Full size)) did = did
+late-carried disk before after tid (Err late.OutOfMemory) did = did

@@ -1,6 +1,7 @@
 -- What commands ask for at the systems of a landscape, and how they are carried out.
 use Rattle.std.specs.Prelude.{◌≡◌, ◌⊎◌, ℕ, List, Some, None, Result, Ok, Err, if◌then◌else◌, ◌-◌, length, slice_get}
 use Rattle.std.specs.Option.{unwrap_or}
+use Rattle.ale_volumes.specs.Disk.{Disk}
 use Rattle.ale_volumes.specs.declared.volume.Volume.{Volume as OneVolume}
 use Rattle.unit_core.specs.declared.records.Record.{Record}
 use Rattle.unit_core.specs.declared.records.Record.TheVariants.{Commit}
@@ -67,22 +68,21 @@ operator_event system next = event.Operator (Append system next)
 abbrev pub Asks : Asked → (Record → Type 0) → Type 0
 Asks asked holds = (next : Record) × (asked ≡ Ok (Some next)) × holds next
 
-module _ {V : Type 0} (faults : V → ℕ → ℕ) (before after : KeptOf ModelRules DocumentTables V) (system : ℕ) (of : Record → Event) (asked : Asked) where
+module _ {V : Type 0} (disk : Disk V) (before after : KeptOf ModelRules DocumentTables V) (system : ℕ) (of : Record → Event) (asked : Asked) where
   -- A command was carried out, and answers so: what it asks for happened, and nothing did where it asks for nothing. A command that is
   -- refused changes nothing. The system falls where its volume fails, and where memory is wanting behind the record.
   abbrev pub CarriedAs : {T : Type 0} → (T → Type 0) → Result T Refusal → Type 0
   CarriedAs answers (Ok answer) =
       answers answer
-      × (((asked ≡ Ok None) × (after ≡ before)) ⊎ Asks asked (λ next. Happened (model_meaning before.world.rules.systems) faults before after (of next)))
-  CarriedAs answers (Err Volume) = Asks asked (λ next. Failed (model_meaning before.world.rules.systems) faults before after (at system next))
-  CarriedAs answers (Err (N10 size)) = Asks asked (λ next. IsFull (model_meaning before.world.rules.systems) faults before after (at system next) size)
+      × (((asked ≡ Ok None) × (after ≡ before)) ⊎ Asks asked (λ next. Happened (model_meaning before.world.rules.systems) disk before after (of next)))
+  CarriedAs answers (Err Volume) = Asks asked (λ next. Failed (model_meaning before.world.rules.systems) disk before after (at system next))
+  CarriedAs answers (Err (N10 size)) = Asks asked (λ next. IsFull (model_meaning before.world.rules.systems) disk before after (at system next) size)
   CarriedAs answers (Err OutOfMemory) =
-      Stays (model_meaning before.world.rules.systems) faults before after
-      ⊎ Asks asked (λ next. FellBehind (model_meaning before.world.rules.systems) faults before after (of next) (at system next))
+      Stays (model_meaning before.world.rules.systems) disk before after
+      ⊎ Asks asked (λ next. FellBehind (model_meaning before.world.rules.systems) disk before after (of next) (at system next))
   CarriedAs answers (Err refusal) = (asked ≡ Err refusal) × (after ≡ before)
 
 -- a command calls no volume, or writes the record that it asks for, and nothing else
-abbrev pub DiskAsked : {V : Type 0} → Type 0 → (V → ℕ → OneVolume) → (V → ℕ) → (V → ℕ → ℕ → List ℕ → Type 0)
-    → KeptOf ModelRules DocumentTables V → KeptOf ModelRules DocumentTables V → ℕ → Asked → Type 0
-DiskAsked told volume moment images_since before after system asked =
-    KeepsVolumes before after ⊎ Asks asked (λ next. WritesOnly told volume moment images_since before after (at system next))
+abbrev pub DiskAsked : {V : Type 0} → Disk V → KeptOf ModelRules DocumentTables V → KeptOf ModelRules DocumentTables V → ℕ → Asked → Type 0
+DiskAsked disk before after system asked =
+    KeepsVolumes before after ⊎ Asks asked (λ next. WritesOnly disk before after (at system next))

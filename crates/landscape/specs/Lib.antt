@@ -2,6 +2,8 @@
 pub mod Begun
 -- the tables of a system that is up
 pub mod Standing
+-- what a crash inside a call leaves
+pub mod Crashes
 -- what commands ask for, and how they are carried out
 pub mod Carried
 -- what an operator asks for

@@ -1,7 +1,7 @@
 -- A landscape that is opened over volumes that are empty: what it is, and what is left of the volumes.
 use Rattle.std.specs.Prelude.{◌≡◌, ◌⊎◌, ⊤, ℕ, suc, ◌≤◌, ◌<◌, Option, List, [], ◌∷◌, Result, Ok, Err}
 use Rattle.ale_base.specs.Faults.{Rose}
-use Rattle.ale_volumes.specs.declared.volume.Volume.{Volume as OneVolume}
+use Rattle.ale_volumes.specs.Disk.{Disk}
 use Rattle.ale_volumes.specs.Clock.{KeepsVolume, LeavesOnly}
 use Rattle.byte_journal.specs.Log.{DamagedAt}
 use Rattle.byte_journal.specs.Settled.{IsLeftByOpening}
@@ -35,38 +35,38 @@ abbrev pub vols_after : {A V : Type 0} → Result (KeptOf ModelRules A V) (OpenE
 vols_after (Ok landscape) = landscape.vols
 vols_after (Err end) = end.vols
 
-module _ {V : Type 0} (volume : V → ℕ → OneVolume) (many : ℕ) (text : List ℕ) (set : Option ℕ) (before after : V) where
+module _ {V : Type 0} (disk : Disk V) (many : ℕ) (text : List ℕ) (set : Option ℕ) (before after : V) where
   -- what a crash at any moment of the opening leaves of the volume at a place: what was handed in, or what reads as it; or, of one that stood
   -- for the empty log, what stands for the empty log, or for the Genesis of its system alone
   abbrev pub IsLeft : ℕ → List ℕ → Type 0
   IsLeft place image =
-      IsLeftByOpening (volume before place) image
-      ⊎ (Stands (volume before place).contents [] × IsBeforeOrAfter [] (entry_with set (Genesis (suc place) text)) image)
+      IsLeftByOpening (disk.volume before place) image
+      ⊎ (Stands (disk.volume before place).contents [] × IsBeforeOrAfter [] (entry_with set (Genesis (suc place) text)) image)
 
   -- a crash leaves so of each volume, and the volumes behind those of the systems are as before
-  pub record LeavesOpening (moment : V → ℕ) (images_since : V → ℕ → ℕ → List ℕ → Type 0) : Type 0 where
-    pub leaves : (place : ℕ) → LeavesOnly moment images_since before after place (IsLeft place)
-    pub beyond : (place : ℕ) → many ≤ place → KeepsVolume volume moment images_since before after place
+  pub record LeavesOpening : Type 0 where
+    pub leaves : (place : ℕ) → LeavesOnly disk before after place (IsLeft place)
+    pub beyond : (place : ℕ) → many ≤ place → KeepsVolume disk before after place
 
   -- why an opening ended so: each volume of a system stood for the empty log; or a call on one of them failed; or one of them did not
   -- stand for the empty log; or memory was wanting
-  abbrev pub WhyEnded : Type 0 → OpenWhy → Type 0
-  WhyEnded told Volume = ⊤
-  WhyEnded told NotBuilt = told → (place : ℕ) × (place < many) × IsNotEmpty (volume before place).contents
-  WhyEnded told OutOfMemory = ⊤
+  abbrev pub WhyEnded : OpenWhy → Type 0
+  WhyEnded Volume = ⊤
+  WhyEnded NotBuilt = disk.told → (place : ℕ) × (place < many) × IsNotEmpty (disk.volume before place).contents
+  WhyEnded OutOfMemory = ⊤
 
-  abbrev pub WhyOpened : {T : Type 0} → Type 0 → Result T (OpenEnd V) → Type 0
-  WhyOpened told (Ok landscape) = told → (place : ℕ) → place < many → Stands (volume before place).contents []
-  WhyOpened told (Err end) = WhyEnded told end.why
+  abbrev pub WhyOpened : {T : Type 0} → Result T (OpenEnd V) → Type 0
+  WhyOpened (Ok landscape) = disk.told → (place : ℕ) → place < many → Stands (disk.volume before place).contents []
+  WhyOpened (Err end) = WhyEnded end.why
 
-module _ {V : Type 0} (many : ℕ) (faults : V → ℕ → ℕ) (before after : V) where
+module _ {V : Type 0} (many : ℕ) (disk : Disk V) (before after : V) where
   -- no volume failed
   abbrev pub NoneFailed : Type 0
-  NoneFailed = (place : ℕ) → faults after place ≡ faults before place
+  NoneFailed = (place : ℕ) → disk.faults after place ≡ disk.faults before place
 
   -- a volume of a system failed where that is told, and else none
   abbrev pub EndedByFault : OpenWhy → Type 0
-  EndedByFault Volume = (place : ℕ) × (place < many) × Rose (faults before place) (faults after place)
+  EndedByFault Volume = (place : ℕ) × (place < many) × Rose (disk.faults before place) (disk.faults after place)
   EndedByFault NotBuilt = NoneFailed
   EndedByFault OutOfMemory = NoneFailed
 

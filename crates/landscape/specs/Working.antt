@@ -2,6 +2,7 @@
 use Rattle.std.specs.Prelude.{◌≡◌, ◌⊎◌, ℕ, true, false, List, Option, Some, None, Result, Ok, Err}
 use Rattle.std.specs.Arc.{arc_value}
 use Rattle.ale_base.specs.Tid.{TidOf}
+use Rattle.ale_volumes.specs.Disk.{Disk}
 use Rattle.unit_core.specs.declared.ale_unit.AleUnit.{AleUnit}
 use Rattle.inbound_post.specs.declared.prepared.DocPosting.{DocPosting}
 use Rattle.trfc_protocol.specs.declared.held.Held.{Held}
@@ -32,17 +33,17 @@ IsPreparedFor world tid postings =
 
 -- An earlier request of a unit came, or why not, by the number of the refusal: 6 where there is no such system or the unit is not
 -- committed, 2 where its sender is down, 7 where it is not marked CPICERR or is done, and 10 where the journal is full.
-abbrev pub CameOrRefused : {V : Type 0} → (V → ℕ → ℕ) → KeptOf ModelRules DocumentTables V → KeptOf ModelRules DocumentTables V → TidOf → Result Late Refusal →
+abbrev pub CameOrRefused : {V : Type 0} → Disk V → KeptOf ModelRules DocumentTables V → KeptOf ModelRules DocumentTables V → TidOf → Result Late Refusal →
     Type 0
-CameOrRefused faults before after tid (Ok came) = LateAs (model_meaning before.world.rules.systems) faults before after tid (Ok came)
-CameOrRefused faults before after tid (Err N2) = LateAs (model_meaning before.world.rules.systems) faults before after tid (Err late.SenderDown)
-CameOrRefused faults before after tid (Err N6) =
-    LateAs (model_meaning before.world.rules.systems) faults before after tid (Err late.NoSuchSystem)
-    ⊎ LateAs (model_meaning before.world.rules.systems) faults before after tid (Err late.NotCommitted)
-CameOrRefused faults before after tid (Err N7) = LateAs (model_meaning before.world.rules.systems) faults before after tid (Err late.NotMarked)
-CameOrRefused faults before after tid (Err (N10 size)) = LateAs (model_meaning before.world.rules.systems) faults before after tid (Err (late.Full size))
-CameOrRefused faults before after tid (Err OutOfMemory) = LateAs (model_meaning before.world.rules.systems) faults before after tid (Err late.OutOfMemory)
-CameOrRefused faults before after tid (Err refusal) = ⊥
+CameOrRefused disk before after tid (Ok came) = LateAs (model_meaning before.world.rules.systems) disk before after tid (Ok came)
+CameOrRefused disk before after tid (Err N2) = LateAs (model_meaning before.world.rules.systems) disk before after tid (Err late.SenderDown)
+CameOrRefused disk before after tid (Err N6) =
+    LateAs (model_meaning before.world.rules.systems) disk before after tid (Err late.NoSuchSystem)
+    ⊎ LateAs (model_meaning before.world.rules.systems) disk before after tid (Err late.NotCommitted)
+CameOrRefused disk before after tid (Err N7) = LateAs (model_meaning before.world.rules.systems) disk before after tid (Err late.NotMarked)
+CameOrRefused disk before after tid (Err (N10 size)) = LateAs (model_meaning before.world.rules.systems) disk before after tid (Err (late.Full size))
+CameOrRefused disk before after tid (Err OutOfMemory) = LateAs (model_meaning before.world.rules.systems) disk before after tid (Err late.OutOfMemory)
+CameOrRefused disk before after tid (Err refusal) = ⊥
 
 -- ---- what only private functions cite
 

@@ -72,7 +72,7 @@ impl<V: Volumes> Landscape<V> {
     pub fn world(&self) -> &World<ModelRules>
         ensures world { result.now ≡ self.now.world }
         ensures safe { IsLandscape (λ rules. model_meaning rules.systems) self.now.world }
-        ensures kept { IsKept (λ rules. model_meaning rules.systems) (λ tables log. AreTablesOf log tables) V.told V.volume self.now }
+        ensures kept { IsKept (λ rules. model_meaning rules.systems) (λ tables log. AreTablesOf log tables) V.disk self.now }
         ensures begun { AreBegun self.now.world }
     {
         self.units.world()

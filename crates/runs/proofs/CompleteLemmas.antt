@@ -4,6 +4,7 @@ use Rattle.std.proofs.Common.{◌≡◌, ◌<◌, ◌&&◌, ℕ, zero, suc, not,
 use Rattle.std.proofs.Common.{inr, refl, sym, subst, ◌∙◌, append-nil, arith}
 use Rattle.std.specs.Prelude.{⊤, slice_get}
 use Rattle.std.proofs.lemmas.Bool.{and_parts, cases_Bool}
+use Rattle.ale_volumes.specs.Disk.{Disk}
 use Rattle.ale_base.specs.Tid.{TidOf}
 use Rattle.ale_base.specs.declared.mark.Mark.{Mark as Cause}
 use Rattle.ale_base.specs.declared.out_of_memory.OutOfMemory.{OutOfMemory}
@@ -165,7 +166,7 @@ lost-marked : (mark : Option Cause) (done : Bool) → mark ≡ None → (is_of_l
 lost-marked None done none lost = cc
 lost-marked (Some cause) done none lost = cc
 
-module _ {V : Type 0} (faults : V → ℕ → ℕ) (before after : Stage V) (answered : Answered) (free : IsFree before) where
+module _ {V : Type 0} (disk : Disk V) (before after : Stage V) (answered : Answered) (free : IsFree before) where
   free-same : after ≡ before → IsFree after
   free-same same = subst (λ (stage : Stage V). IsFree stage) (sym same) free
 
@@ -181,13 +182,13 @@ module _ {V : Type 0} (faults : V → ℕ → ℕ) (before after : Stage V) (ans
   carries-free : {T : Type 0} (system : ℕ) (of : Record → Event) (asked : Asked) (answers : T → Type 0) (shown : T → Reply)
       → ((next : Record) → asked ≡ Ok (Some next) → (is_up before.landscape.world system ≡ true)
       × IsClear (happens (model_meaning before.landscape.world.rules.systems) before.landscape.world (of next)))
-      → Carries faults before (Ok answered) after system of asked answers shown → IsFree after
+      → Carries disk before (Ok answered) after system of asked answers shown → IsFree after
   carries-free {T} system of asked answers shown fine did = carried did.result did.carried did.answer_is
     where
       letters : after.wires ≡ before.wires
       letters = did.letters
 
-      carried : (result : Result T Refusal) → CarriedAs faults before.landscape after.landscape system of asked answers result
+      carried : (result : Result T Refusal) → CarriedAs disk before.landscape after.landscape system of asked answers result
           → Ok answered ≡ answer_of shown result → IsFree after
       carried (Ok answer) is answer_is = elim is.1 [
         | inl none ↦ free-still none.1 letters
@@ -217,7 +218,7 @@ module _ {V : Type 0} (faults : V → ℕ → ℕ) (before after : Stage V) (ans
 
   -- a record that commits
   commits-free : {T : Type 0} (system : ℕ) (asked : List Record → Asked) (answers : T → Type 0) (shown : T → Reply)
-      → Carries faults before (Ok answered) after system (event.Commit system) (asked_at before.landscape.world system asked) answers shown → IsFree after
+      → Carries disk before (Ok answered) after system (event.Commit system) (asked_at before.landscape.world system asked) answers shown → IsFree after
   commits-free system asked answers shown did =
       carries-free system (event.Commit system) (asked_at before.landscape.world system asked) answers shown
       (λ next is.
@@ -227,7 +228,7 @@ module _ {V : Type 0} (faults : V → ℕ → ℕ) (before after : Stage V) (ans
   -- one that an operator or the application asks for
   operates-free : {T : Type 0} (system : ℕ) (asked : List Record → Asked) (answers : T → Type 0) (shown : T → Reply)
       → ((records : List Record) (next : Record) → asked records ≡ Ok (Some next) → Harmless next)
-      → Carries faults before (Ok answered) after system (operator_event system) (asked_at before.landscape.world system asked) answers shown → IsFree after
+      → Carries disk before (Ok answered) after system (operator_event system) (asked_at before.landscape.world system asked) answers shown → IsFree after
   operates-free system asked answers shown harmless did =
       carries-free system (operator_event system) (asked_at before.landscape.world system asked) answers shown
       (λ next is.
@@ -239,7 +240,7 @@ module _ {V : Type 0} (faults : V → ℕ → ℕ) (before after : Stage V) (ans
 
   -- a command for the system of a name
   at-free : (inputs : Inputs) (found : Option ℕ) (obeys : ℕ → Type 0) → ((system : ℕ) → obeys system → IsFree after)
-      → At faults inputs before (Ok answered) after found obeys → IsFree after
+      → At disk inputs before (Ok answered) after found obeys → IsFree after
   at-free inputs (Some system) obeys each did = each system did
   at-free inputs None obeys each did = free-same did.1
 
@@ -248,23 +249,23 @@ module _ {V : Type 0} (faults : V → ℕ → ℕ) (before after : Stage V) (ans
     Here = system_named sys (arc_value inputs.model)
 
     commits-at : {T : Type 0} (asked : List Record → Asked) (answers : ℕ → Asked → T → Type 0) (shown : T → Reply)
-        → At faults inputs before (Ok answered) after Here
-        (λ system. Commits faults inputs before (Ok answered) after system asked (answers system) shown) → IsFree after
+        → At disk inputs before (Ok answered) after Here
+        (λ system. Commits disk inputs before (Ok answered) after system asked (answers system) shown) → IsFree after
     commits-at asked answers shown did =
-        at-free inputs Here (λ system. Commits faults inputs before (Ok answered) after system asked (answers system) shown)
+        at-free inputs Here (λ system. Commits disk inputs before (Ok answered) after system asked (answers system) shown)
         (λ system its. commits-free system asked (answers system (asked_at before.landscape.world system asked)) shown its) did
 
     operates-at : {T : Type 0} (asked : ℕ → List Record → Asked) (answers : ℕ → T → Type 0) (shown : T → Reply)
         → ((system : ℕ) (records : List Record) (next : Record) → asked system records ≡ Ok (Some next) → Harmless next)
-        → At faults inputs before (Ok answered) after Here
-        (λ system. Operates faults inputs before (Ok answered) after system (asked system) (answers system) shown) → IsFree after
+        → At disk inputs before (Ok answered) after Here
+        (λ system. Operates disk inputs before (Ok answered) after system (asked system) (answers system) shown) → IsFree after
     operates-at asked answers shown harmless did =
-        at-free inputs Here (λ system. Operates faults inputs before (Ok answered) after system (asked system) (answers system) shown)
+        at-free inputs Here (λ system. Operates disk inputs before (Ok answered) after system (asked system) (answers system) shown)
         (λ system its. operates-free system (asked system) (answers system) shown (harmless system) its) did
 
-    shows-at : (what : ℕ → Show) → At faults inputs before (Ok answered) after Here (λ system. Shows faults before (Ok answered) after (what system))
+    shows-at : (what : ℕ → Show) → At disk inputs before (Ok answered) after Here (λ system. Shows disk before (Ok answered) after (what system))
         → IsFree after
-    shows-at what did = at-free inputs Here (λ system. Shows faults before (Ok answered) after (what system)) (λ system its. free-same its.3) did
+    shows-at what did = at-free inputs Here (λ system. Shows disk before (Ok answered) after (what system)) (λ system its. free-same its.3) did
 
   -- where no unit is marked no request comes late
   late-none : (tid : TidOf) (unit : _) → IsLate (model_meaning before.landscape.world.rules.systems) before.landscape.world tid unit → ⊥
@@ -273,10 +274,10 @@ module _ {V : Type 0} (faults : V → ℕ → ℕ) (before after : Stage V) (ans
       (is_listed tid (done_in (log_of before.landscape.world tid.system)))
       (no-mark (mark_of Outgoing tid (log_of before.landscape.world tid.system)) (free.clear.unmarked tid.system Outgoing tid)) late.lost
 
-  lates-free : (tid : TidOf) → Lates faults before (Ok answered) after tid → IsFree after
+  lates-free : (tid : TidOf) → Lates disk before (Ok answered) after tid → IsFree after
   lates-free tid did = came did.0 did.1 did.2
     where
-      came : (result : Result Late Refusal) → CameOrRefused faults before.landscape after.landscape tid result → Ok answered ≡ answer_of shown_late result
+      came : (result : Result Late Refusal) → CameOrRefused disk before.landscape after.landscape tid result → Ok answered ≡ answer_of shown_late result
           → IsFree after
       came (Ok given) is answer_is = absurd (late-none tid is.0 is.1)
       came (Err refusal.N2) is answer_is = free-still is.1 did.3
@@ -306,11 +307,11 @@ module _ {V : Type 0} (faults : V → ℕ → ℕ) (before after : Stage V) (ans
   retry-harmless systems system tid records next is = if-asked _ (log.Retry (way_at system tid) tid) next refusal.N6 refl is
 
   -- a drain
-  drains-free : AreUp after.landscape.world → AreOffered after.landscape.world → Drains faults before (Ok answered) after
+  drains-free : AreUp after.landscape.world → AreOffered after.landscape.world → Drains disk before (Ok answered) after
       → IsFree after × AreThrough after.landscape.world
   drains-free ups offers did = drained did.0 did.1 did.2
     where
-      drained : (result : Result ℕ OutOfMemory) → DrainedAs faults before.landscape before.wires after.landscape after.wires result
+      drained : (result : Result ℕ OutOfMemory) → DrainedAs disk before.landscape before.wires after.landscape after.wires result
           → Ok answered ≡ drained_as result → IsFree after × AreThrough after.landscape.world
       drained (Ok n) is answer_is =
           let through = is.through free.clear free.none ups offers in
@@ -323,24 +324,24 @@ module _ {V : Type 0} (faults : V → ℕ → ℕ) (before after : Stage V) (ans
     Asks system queue destination log = asked_queue before.landscape.world.rules.systems system destination queue (start_of destination queue)
 
     starts-to : (system : ℕ) (queue : List ℕ) (destination : Option ℕ)
-        → Queues faults inputs before (Ok answered) after system destination queue start_of → IsFree after
+        → Queues disk inputs before (Ok answered) after system destination queue start_of → IsFree after
     starts-to system queue destination did =
         operates-free system (Asks system queue destination) (λ done. ⊤) (λ done. reply.Carried)
         (λ records next asked. queue-harmless before.landscape.world.rules.systems system destination queue next asked) did
 
     starts-free : (system : ℕ) (queue : List ℕ) (to : Option (List ℕ))
-        → Leads faults inputs before (Ok answered) after to (λ destination. Queues faults inputs before (Ok answered) after system destination queue start_of)
+        → Leads disk inputs before (Ok answered) after to (λ destination. Queues disk inputs before (Ok answered) after system destination queue start_of)
         → IsFree after
     starts-free system queue None did = starts-to system queue None did
     starts-free system queue (Some name) did =
         at-free inputs (system_named name (arc_value inputs.model))
-        (λ destination. Queues faults inputs before (Ok answered) after system (Some destination) queue start_of)
+        (λ destination. Queues disk inputs before (Ok answered) after system (Some destination) queue start_of)
         (λ destination its. starts-to system queue (Some destination) its) did
 
     abbrev Kept : Form → Type 0
     Kept asked = IsFree after × (asked ≡ form.Drain → AreThrough after.landscape.world)
 
-    does-kept : (asked : Form) → Does faults inputs before (Ok answered) after asked → holds_nothing asked ≡ true → Kept asked
+    does-kept : (asked : Form) → Does disk inputs before (Ok answered) after asked → holds_nothing asked ≡ true → Kept asked
     does-kept (form.Send sys number) does is = (
       commits-at inputs sys (asked_master (numbered number inputs.masters))
           (λ system asked sent. sent ≡ sent_counts (counts_asked (log_of before.landscape.world system) asked)) shown_sent does,
@@ -367,8 +368,8 @@ module _ {V : Type 0} (faults : V → ℕ → ℕ) (before after : Stage V) (ans
     does-kept (form.Stop sys destination queue) does is = cc
     does-kept (form.Start sys destination queue) does is = (
       at-free inputs (system_named sys (arc_value inputs.model))
-          (λ system. Leads faults inputs before (Ok answered) after destination
-          (λ to. Queues faults inputs before (Ok answered) after system to queue start_of))
+          (λ system. Leads disk inputs before (Ok answered) after destination
+          (λ to. Queues disk inputs before (Ok answered) after system to queue start_of))
           (λ system its. starts-free system queue destination its) does,
       λ drain. cc,
     )
@@ -398,10 +399,10 @@ module _ {V : Type 0} (faults : V → ℕ → ℕ) (before after : Stage V) (ans
     does-kept (form.ShowObjects sys) does is = (shows-at inputs sys (λ system. show.Objects system) does, λ drain. cc)
 
 -- so a command that was answered keeps units free
-pub keeps-free : {V : Type 0} (faults : V → ℕ → ℕ) (inputs : Inputs) (moment : ℕ) (before after : Stage V) (answered : Answered) (asked : Form)
-    → IsLandscape meaning after.landscape.world → Does faults inputs (at_moment moment before) (Ok answered) after asked → KeepsFree before after asked
-keeps-free faults inputs moment before after answered asked is does holds up offers free =
-    does-kept faults (at_moment moment before) after answered (record { clear = free.clear; none = free.none }) inputs
+pub keeps-free : {V : Type 0} (disk : Disk V) (inputs : Inputs) (moment : ℕ) (before after : Stage V) (answered : Answered) (asked : Form)
+    → IsLandscape meaning after.landscape.world → Does disk inputs (at_moment moment before) (Ok answered) after asked → KeepsFree before after asked
+keeps-free disk inputs moment before after answered asked is does holds up offers free =
+    does-kept disk (at_moment moment before) after answered (record { clear = free.clear; none = free.none }) inputs
     (all-up after.landscape.world is up) offers asked does holds
 
 -- ---- turns

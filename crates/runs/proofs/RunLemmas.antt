@@ -7,6 +7,7 @@ use Rattle.std.proofs.lemmas.List.{take_more, drop_more, take_all}
 use Rattle.std.specs.Io.KnownBytes.{Appends}
 use Rattle.std.proofs.KnownBytes.{Appends-nil, Appends-trans}
 use Rattle.std.proofs.Math.Seq.{take-append-add}
+use Rattle.ale_volumes.specs.Disk.{Disk}
 use Rattle.ale_base.specs.Faults.{Rose}
 use Rattle.ale_base.specs.declared.out_of_memory.OutOfMemory.{OutOfMemory as Short}
 use Rattle.ale_io.specs.Written.{AppendsFront}
@@ -18,7 +19,7 @@ use Rattle.runs.specs.declared.run_end.RunEnd.TheVariants as end
 use Rattle.runs.specs.declared.stage.Stage.{Stage}
 use Rattle.runs.specs.declared.turns.TurnEnd.{TurnEnd}
 use Rattle.runs.specs.declared.turns.TurnEnd.TheVariants as turn
-use Rattle.runs.specs.Does.{Does}
+use Rattle.runs.specs.Does.{IsCarriedOut}
 use Rattle.runs.specs.Complete.{AllGoThrough, HoldNothing, IsComplete, IsFree, OfferAll}
 use Rattle.runs.specs.Run.{AreAsked, Ends, Follow, Run}
 use Rattle.runs.specs.Turns.{Turn, at_moment, commands_of, moments_of, text_of, last_stage, first_down, first_faulted, length_at}
@@ -51,12 +52,12 @@ last_stage-push : {V : Type 0} (before : Stage V) (turns : List (Turn V)) (next 
 last_stage-push before [] next = refl
 last_stage-push before (first ∷ turns) next = last_stage-push first.after turns next
 
-Follow-push : {V : Type 0} (faults : V → ℕ → ℕ) (inputs : Inputs) (before : Stage V) (turns : List (Turn V)) (next : Turn V) → Follow faults inputs before turns
+Follow-push : {V : Type 0} (disk : Disk V) (inputs : Inputs) (before : Stage V) (turns : List (Turn V)) (next : Turn V) → Follow disk inputs before turns
     → first_down (last_stage before turns).landscape.world ≡ None
-    → Does faults inputs (at_moment next.moment (last_stage before turns)) (Ok next.answered) next.after next.command.form → Follow faults inputs before
+    → IsCarriedOut disk inputs (at_moment next.moment (last_stage before turns)) (Ok next.answered) next.after next.command.form → Follow disk inputs before
     (turns ++ next ∷ [])
-Follow-push faults inputs before [] next follow up does = (up, does, tt)
-Follow-push faults inputs before (first ∷ turns) next follow up does = (follow.0, follow.1, Follow-push faults inputs first.after turns next follow.2 up does)
+Follow-push disk inputs before [] next follow up does = (up, does, tt)
+Follow-push disk inputs before (first ∷ turns) next follow up does = (follow.0, follow.1, Follow-push disk inputs first.after turns next follow.2 up does)
 
 -- ---- what was put
 
@@ -87,36 +88,36 @@ IsCut-then a b c faults faults_b faults_c first second one two = record {
 
 -- ---- one command
 
-done-of : {V : Type 0} (faults : V → ℕ → ℕ) (inputs : Inputs) (moment : ℕ) (command : Command) (before began after : Stage V) (answer : Result Answered Short)
-    (answered : Answered) → began ≡ at_moment moment before → answer ≡ Ok answered → Does faults inputs began answer after command.form
-    → Does faults inputs (at_moment moment before) (Ok answered) after command.form
-done-of faults inputs moment command before began after answer answered begins is does =
-    subst (λ stage. Does faults inputs stage (Ok answered) after command.form) begins
-    (subst (λ one. Does faults inputs began one after command.form) is does)
+done-of : {V : Type 0} (disk : Disk V) (inputs : Inputs) (moment : ℕ) (command : Command) (before began after : Stage V) (answer : Result Answered Short)
+    (answered : Answered) → began ≡ at_moment moment before → answer ≡ Ok answered → IsCarriedOut disk inputs began answer after command.form
+    → IsCarriedOut disk inputs (at_moment moment before) (Ok answered) after command.form
+done-of disk inputs moment command before began after answer answered begins is does =
+    subst (λ stage. IsCarriedOut disk inputs stage (Ok answered) after command.form) begins
+    (subst (λ one. IsCarriedOut disk inputs began one after command.form) is does)
 
 -- what a command did, by what was put of it
-pub turn-of : {V : Type 0} (faults : V → ℕ → ℕ) (inputs : Inputs) (how : TurnEnd) (moment : ℕ) (command : Command) (before began after : Stage V)
+pub turn-of : {V : Type 0} (disk : Disk V) (inputs : Inputs) (how : TurnEnd) (moment : ℕ) (command : Command) (before began after : Stage V)
     (answer : Result Answered Short) (old new : Option (List ℕ)) (put put_new : ℕ) → began ≡ at_moment moment before
-    → IsLandscape meaning after.landscape.world → Does faults inputs began answer after command.form
+    → IsLandscape meaning after.landscape.world → IsCarriedOut disk inputs began answer after command.form
     → IsReported how answer (λ answered. shown command answered after) old new put put_new
-    → IsTurn faults inputs how moment command before after old new put put_new
-turn-of faults inputs turn.Done moment command before began after answer old new put put_new begins is does text =
-    let done = done-of faults inputs moment command before began after answer text.0 begins text.1 does in
-    (text.0, done, text.2, keeps-free faults inputs moment before after text.0 command.form is done)
-turn-of faults inputs turn.WriteFailed moment command before began after answer old new put put_new begins is does text =
-    let done = done-of faults inputs moment command before began after answer text.0 begins text.1 does in
-    (text.0, done, text.2, keeps-free faults inputs moment before after text.0 command.form is done)
-turn-of faults inputs turn.OutOfMemory moment command before began after answer old new put put_new begins is does text =
-    (answer, subst (λ stage. Does faults inputs stage answer after command.form) begins does, text)
+    → IsTurn disk inputs how moment command before after old new put put_new
+turn-of disk inputs turn.Done moment command before began after answer old new put put_new begins is does text =
+    let done = done-of disk inputs moment command before began after answer text.0 begins text.1 does in
+    (text.0, done, text.2, keeps-free disk inputs moment before after text.0 command.form is done.does)
+turn-of disk inputs turn.WriteFailed moment command before began after answer old new put put_new begins is does text =
+    let done = done-of disk inputs moment command before began after answer text.0 begins text.1 does in
+    (text.0, done, text.2, keeps-free disk inputs moment before after text.0 command.form is done.does)
+turn-of disk inputs turn.OutOfMemory moment command before began after answer old new put put_new begins is does text =
+    (answer, subst (λ stage. IsCarriedOut disk inputs stage answer after command.form) begins does, text)
 
 -- ---- the loop over the commands
 
 -- the first i commands were done, and their text was put
-pub record SoFar {V : Type 0} (faults : V → ℕ → ℕ) (inputs : Inputs) (commands : List Command) (i : ℕ) (before now : Stage V) (old new : Option (List ℕ))
+pub record SoFar {V : Type 0} (disk : Disk V) (inputs : Inputs) (commands : List Command) (i : ℕ) (before now : Stage V) (old new : Option (List ℕ))
     (put put_now : ℕ) (told : Type 0) (given given_now : List ℕ) : Type 0 where
   pub turns : List (Turn V)
   pub these : commands_of turns ≡ take i commands
-  pub follow : Follow faults inputs before turns
+  pub follow : Follow disk inputs before turns
   pub last : now ≡ last_stage before turns
   pub put_is : IsPut old new put put_now (text_of turns)
   pub asked : told → given_now ≡ given ++ moments_of turns
@@ -127,15 +128,15 @@ abbrev turned : {V : Type 0} → Command → ℕ → Answered → Stage V → Tu
 turned command moment answered after = record { command = command; moment = moment; answered = answered; after = after }
 
 -- a run that ended so, and what it put
-abbrev pub HasRun : {V : Type 0} → (V → ℕ → ℕ) → Inputs → List Command → Stage V → Stage V → RunEnd → Option (List ℕ) → Option (List ℕ) → ℕ → ℕ
+abbrev pub HasRun : {V : Type 0} → Disk V → Inputs → List Command → Stage V → Stage V → RunEnd → Option (List ℕ) → Option (List ℕ) → ℕ → ℕ
     → Type 0 → List ℕ → List ℕ → Type 0
-HasRun {V} faults inputs commands before after its old new put put_new told given given_new =
-    (turns : List (Turn V)) × (run : Run faults inputs commands before after its turns) × IsPutAt its old new put put_new turns
+HasRun {V} disk inputs commands before after its old new put put_new told given given_new =
+    (turns : List (Turn V)) × (run : Run disk inputs commands before after its turns) × IsPutAt its old new put put_new turns
     × AreAsked told given given_new turns run.halted
 
-module _ {V : Type 0} (faults : V → ℕ → ℕ) (inputs : Inputs) (commands : List Command) (before : Stage V) (old : Option (List ℕ)) (put : ℕ) (given : List ℕ)
+module _ {V : Type 0} (disk : Disk V) (inputs : Inputs) (commands : List Command) (before : Stage V) (old : Option (List ℕ)) (put : ℕ) (given : List ℕ)
   where
-    pub SoFar-start : (told : Type 0) → first_down before.landscape.world ≡ None → SoFar faults inputs commands 0 before before old old put put told given given
+    pub SoFar-start : (told : Type 0) → first_down before.landscape.world ≡ None → SoFar disk inputs commands 0 before before old old put put told given given
     SoFar-start told up = record {
       turns = [];
       these = refl;
@@ -148,8 +149,8 @@ module _ {V : Type 0} (faults : V → ℕ → ℕ) (inputs : Inputs) (commands :
     }
 
     pub Run-whole : (i : ℕ) (after : Stage V) (new : Option (List ℕ)) (put_new : ℕ) (told : Type 0) (given_new : List ℕ)
-        → SoFar faults inputs commands i before after old new put put_new told given given_new → length commands ≤ i
-        → HasRun faults inputs commands before after end.Whole old new put put_new told given given_new
+        → SoFar disk inputs commands i before after old new put put_new told given given_new → length commands ≤ i
+        → HasRun disk inputs commands before after end.Whole old new put put_new told given given_new
     Run-whole i after new put_new told given_new so_far all = (
       so_far.turns,
       record {
@@ -166,7 +167,7 @@ module _ {V : Type 0} (faults : V → ℕ → ℕ) (inputs : Inputs) (commands :
 
     module _ (i : ℕ) (command d : Command) (mid after : Stage V) (mid_put new : Option (List ℕ)) (put_mid put_new : ℕ) (told_mid told : Type 0)
         (given_mid given_new : List ℕ)
-        (so_far : SoFar faults inputs commands i before mid old mid_put put put_mid told_mid given given_mid) (below : i < length commands)
+        (so_far : SoFar disk inputs commands i before mid old mid_put put put_mid told_mid given given_mid) (below : i < length commands)
         (is : command ≡ get_or commands i d)
         (still : told → told_mid) (moment : ℕ) (gives : GivesOne told given_mid given_new moment) where
       asked_more : told → given_new ≡ given ++ (moments_of so_far.turns ++ moment ∷ [])
@@ -179,12 +180,12 @@ module _ {V : Type 0} (faults : V → ℕ → ℕ) (inputs : Inputs) (commands :
       taken : take (i + 1) commands ≡ take i commands ++ command ∷ []
       taken = take_more commands i d below ∙ ap (λ one. take i commands ++ one ∷ []) (sym is)
 
-      followed : (answered : Answered) → Does faults inputs (at_moment moment mid) (Ok answered) after command.form
-          → Follow faults inputs before (so_far.turns ++ turned command moment answered after ∷ [])
+      followed : (answered : Answered) → IsCarriedOut disk inputs (at_moment moment mid) (Ok answered) after command.form
+          → Follow disk inputs before (so_far.turns ++ turned command moment answered after ∷ [])
       followed answered does =
-          Follow-push faults inputs before so_far.turns (turned command moment answered after) so_far.follow
+          Follow-push disk inputs before so_far.turns (turned command moment answered after) so_far.follow
           (subst (λ stage. first_down stage.landscape.world ≡ None) so_far.last so_far.up)
-          (subst (λ stage. Does faults inputs (at_moment moment stage) (Ok answered) after command.form) so_far.last does)
+          (subst (λ stage. IsCarriedOut disk inputs (at_moment moment stage) (Ok answered) after command.form) so_far.last does)
 
       text_pushed : (answered : Answered) → text_of (so_far.turns ++ turned command moment answered after ∷ []) ≡ text_of so_far.turns
           ++ shown command answered after
@@ -207,9 +208,9 @@ module _ {V : Type 0} (faults : V → ℕ → ℕ) (inputs : Inputs) (commands :
       split : (answered : Answered) → commands ≡ commands_of (so_far.turns ++ turned command moment answered after ∷ []) ++ drop (i + 1) commands
       split answered = sym (take-append-drop (i + 1) commands) ∙ ap (λ done. done ++ drop (i + 1) commands) (taken ∙ sym (pushed answered))
 
-      SoFar-done : (answered : Answered) → Does faults inputs (at_moment moment mid) (Ok answered) after command.form
+      SoFar-done : (answered : Answered) → IsCarriedOut disk inputs (at_moment moment mid) (Ok answered) after command.form
           → IsPut mid_put new put_mid put_new (shown command answered after) → KeepsFree mid after command.form → first_down after.landscape.world ≡ None
-          → SoFar faults inputs commands (i + 1) before after old new put put_new told given given_new
+          → SoFar disk inputs commands (i + 1) before after old new put put_new told given given_new
       SoFar-done answered does text keeps up = record {
         turns = so_far.turns ++ turned command moment answered after ∷ [];
         these = pushed answered ∙ sym taken;
@@ -232,10 +233,10 @@ module _ {V : Type 0} (faults : V → ℕ → ℕ) (inputs : Inputs) (commands :
           ∙ ap (λ moments. given ++ moments) (sym (append-nil (moments_of (so_far.turns ++ turned command moment answered after ∷ []))))
 
       abbrev Ended : RunEnd → Type 0
-      Ended its = HasRun faults inputs commands before after its old new put put_new told given given_new
+      Ended its = HasRun disk inputs commands before after its old new put put_new told given given_new
 
       abbrev DoneWith : Answered → Type 0
-      DoneWith answered = Does faults inputs (at_moment moment mid) (Ok answered) after command.form
+      DoneWith answered = IsCarriedOut disk inputs (at_moment moment mid) (Ok answered) after command.form
 
       put_whole : (answered : Answered) → IsPut mid_put new put_mid put_new (shown command answered after)
           → IsPut old new put put_new (text_of (so_far.turns ++ turned command moment answered after ∷ []))
@@ -247,8 +248,8 @@ module _ {V : Type 0} (faults : V → ℕ → ℕ) (inputs : Inputs) (commands :
 
       -- a run that ended behind the command
       ran : (answered : Answered) → DoneWith answered → KeepsFree mid after command.form → (its : RunEnd)
-          → Ends faults inputs its (drop (i + 1) commands) [] before (so_far.turns ++ turned command moment answered after ∷ []) after
-          → Run faults inputs commands before after its (so_far.turns ++ turned command moment answered after ∷ [])
+          → Ends disk inputs its (drop (i + 1) commands) [] before (so_far.turns ++ turned command moment answered after ∷ []) after
+          → Run disk inputs commands before after its (so_far.turns ++ turned command moment answered after ∷ [])
       ran answered does keeps its ends = record {
         left = drop (i + 1) commands;
         these = split answered;
@@ -299,7 +300,7 @@ module _ {V : Type 0} (faults : V → ℕ → ℕ) (inputs : Inputs) (commands :
       )
 
       -- memory ran out in the command, or behind it
-      Run-halted : (answer : Result Answered Short) → Does faults inputs (at_moment moment mid) answer after command.form
+      Run-halted : (answer : Result Answered Short) → IsCarriedOut disk inputs (at_moment moment mid) answer after command.form
           → IsPut mid_put new put_mid put_new [] → Ended end.OutOfMemory
       Run-halted answer does none = (
         so_far.turns,
@@ -315,7 +316,7 @@ module _ {V : Type 0} (faults : V → ℕ → ℕ) (inputs : Inputs) (commands :
             refl,
             (
               subst (λ stage. first_down stage.landscape.world ≡ None) so_far.last so_far.up,
-              (answer, subst (λ stage. Does faults inputs (at_moment moment stage) answer after command.form) so_far.last does),
+              (answer, subst (λ stage. IsCarriedOut disk inputs (at_moment moment stage) answer after command.form) so_far.last does),
             ),
           );
           complete = λ free hold offer. (so_far.free free hold offer).1;
@@ -325,7 +326,7 @@ module _ {V : Type 0} (faults : V → ℕ → ℕ) (inputs : Inputs) (commands :
         asked_more,
       )
 
-      pub Run-behind : (how : TurnEnd) → IsTurn faults inputs how moment command mid after mid_put new put_mid put_new → (its : RunEnd) → end_behind after how
+      pub Run-behind : (how : TurnEnd) → IsTurn disk inputs how moment command mid after mid_put new put_mid put_new → (its : RunEnd) → end_behind after how
           ≡ Some its → Ended its
       Run-behind turn.Done did its same = Run-found did.0 did.1 did.2 did.3 (first_faulted after) (first_down after.landscape.world) refl refl
           its
@@ -338,8 +339,8 @@ module _ {V : Type 0} (faults : V → ℕ → ℕ) (inputs : Inputs) (commands :
       none_down (Some system) down same = absurd (subst (λ (o : Option RunEnd). MatchOption o ⊥ (λ some. ⊤)) same tt)
       none_down None (Some system) same = absurd (subst (λ (o : Option RunEnd). MatchOption o ⊥ (λ some. ⊤)) same tt)
 
-      pub SoFar-next : (how : TurnEnd) → IsTurn faults inputs how moment command mid after mid_put new put_mid put_new → end_behind after how ≡ None
-          → SoFar faults inputs commands (i + 1) before after old new put put_new told given given_new
+      pub SoFar-next : (how : TurnEnd) → IsTurn disk inputs how moment command mid after mid_put new put_mid put_new → end_behind after how ≡ None
+          → SoFar disk inputs commands (i + 1) before after old new put put_new told given given_new
       SoFar-next turn.Done did same = SoFar-done did.0 did.1 did.2 did.3
           (none_down (first_faulted after) (first_down after.landscape.world) same)
       SoFar-next turn.WriteFailed did same = absurd (subst (λ (o : Option RunEnd). MatchOption o ⊥ (λ some. ⊤)) same tt)

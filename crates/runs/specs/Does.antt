@@ -1,6 +1,7 @@
 -- What one command of a script does: how it is answered, and what becomes of the systems and of the letters. This project's own.
-use Rattle.std.specs.Prelude.{◌≡◌, ⊤, ℕ, suc, ◌-◌, ◌^◌, ◌==◌, List, Option, Some, None, Result, Ok, Err, length, slice_get, if◌then◌else◌}
+use Rattle.std.specs.Prelude.{◌≡◌, ◌⊎◌, ⊤, ℕ, suc, ◌-◌, ◌^◌, ◌==◌, List, Option, Some, None, Result, Ok, Err, length, slice_get, if◌then◌else◌}
 use Rattle.std.specs.Arc.{arc_value}
+use Rattle.ale_volumes.specs.Disk.{Disk}
 use Rattle.ale_base.specs.Tid.{TidOf}
 use Rattle.ale_base.specs.declared.out_of_memory.OutOfMemory.{OutOfMemory}
 use Rattle.dist_model.specs.Model.{system_named}
@@ -21,6 +22,7 @@ use Rattle.landscape.specs.Asked.{Asked, asked_send, asked_put, asked_gather, as
 use Rattle.landscape.specs.declared.counts.Gathered.{Gathered}
 use Rattle.landscape.specs.declared.counts.Sent.{Sent}
 use Rattle.landscape.specs.Carried.{CarriedAs, asked_at, counts_asked, operator_event, sent_counts, status_at}
+use Rattle.landscape.specs.Crashes.{GoesSoundly, LeavesSoundLogs}
 use Rattle.landscape.specs.Operator.{asked_queue, asked_retry, start_of, stop_of}
 use Rattle.landscape.specs.Shown.{ShownAs}
 use Rattle.landscape.specs.Working.{CameOrRefused}
@@ -105,12 +107,16 @@ shown_gathered made = reply.Gathered made.masters made.documents made.units
 
 -- ---- what commands do
 
-module _ {V : Type 0} (faults : V → ℕ → ℕ) where
+-- a command is done by one call at most, and whatever a crash leaves inside it is sound
+abbrev pub IsOneCall : {V : Type 0} → Disk V → Stage V → Stage V → Type 0
+IsOneCall disk before after = (after.landscape ≡ before.landscape) ⊎ LeavesSoundLogs disk before.landscape after.landscape
+
+module _ {V : Type 0} (disk : Disk V) where
   -- a system carries a command out, by the record that it asks for, or refuses it; and the letters of units stay
   pub record Carries {T : Type 0} (before : Stage V) (answer : Result Answered OutOfMemory) (after : Stage V) (system : ℕ) (of : Record → Event) (asked : Asked)
       (answers : T → Type 0) (shown : T → Reply) : Type 0 where
     pub result : Result T Refusal
-    pub carried : CarriedAs faults before.landscape after.landscape system of asked answers result
+    pub carried : CarriedAs disk before.landscape after.landscape system of asked answers result
     pub answer_is : answer ≡ answer_of shown result
     pub letters : after.wires ≡ before.wires
 
@@ -121,7 +127,7 @@ module _ {V : Type 0} (faults : V → ℕ → ℕ) where
 
     -- a late request of a unit comes, or is refused; and the letters of units stay
     abbrev pub Lates : TidOf → Type 0
-    Lates tid = (result : Result Late Refusal) × CameOrRefused faults before.landscape after.landscape tid result
+    Lates tid = (result : Result Late Refusal) × CameOrRefused disk before.landscape after.landscape tid result
         × (answer ≡ answer_of shown_late result) × (after.wires ≡ before.wires)
 
     -- letters are given to a unit, behind those that it has; or memory was wanting, and nothing changes
@@ -133,7 +139,7 @@ module _ {V : Type 0} (faults : V → ℕ → ℕ) where
 
     -- units are shipped, executed and confirmed, until none is offered
     abbrev pub Drains : Type 0
-    Drains = (result : Result ℕ OutOfMemory) × DrainedAs faults before.landscape before.wires after.landscape after.wires result
+    Drains = (result : Result ℕ OutOfMemory) × DrainedAs disk before.landscape before.wires after.landscape after.wires result
         × (answer ≡ drained_as result)
 
   module _ (inputs : Inputs) (before : Stage V) (answer : Result Answered OutOfMemory) (after : Stage V) where
@@ -191,3 +197,13 @@ module _ {V : Type 0} (faults : V → ℕ → ℕ) where
     Does (form.ShowUnits sys) = named sys (λ system. Shows before answer after (show.Units system))
     Does (form.ShowQueues sys) = named sys (λ system. Shows before answer after (show.Queues system))
     Does (form.ShowObjects sys) = named sys (λ system. Shows before answer after (show.Objects system))
+
+    -- how a command goes: a drain by calls one behind the other, any other by one call at most; whatever a crash leaves inside each is sound
+    abbrev pub Goes : Form → Type 0
+    Goes form.Drain = GoesSoundly disk before.landscape after.landscape
+    Goes asked = IsOneCall disk before after
+
+    -- a command does what it asks for, and goes so
+    pub record IsCarriedOut (asked : Form) : Type 0 where
+      pub does : Does asked
+      pub calls : Goes asked

@@ -1,5 +1,6 @@
 -- A run of a script: a list of turns, in each of which a command does what it asks for; and why the run ends. This project's own.
 use Rattle.std.specs.Prelude.{◌≡◌, ⊤, ℕ, List, [], ◌∷◌, ◌++◌, Some, None, Result, Ok}
+use Rattle.ale_volumes.specs.Disk.{Disk}
 use Rattle.ale_base.specs.declared.out_of_memory.OutOfMemory.{OutOfMemory as Short}
 use Rattle.script_text.specs.declared.command.Command.{Command}
 use Rattle.runs.specs.declared.answered.Answered.{Answered}
@@ -8,16 +9,16 @@ use Rattle.runs.specs.declared.run_end.RunEnd.{RunEnd}
 use Rattle.runs.specs.declared.run_end.RunEnd.TheVariants.{Whole, DownByFault, DownFull, WriteFailed, OutOfMemory}
 use Rattle.runs.specs.declared.stage.Stage.{Stage}
 use Rattle.runs.specs.Complete.{IsComplete}
-use Rattle.runs.specs.Does.{Does}
+use Rattle.runs.specs.Does.{IsCarriedOut}
 use Rattle.runs.specs.Turns.{Turn, at_moment, commands_of, first_down, first_faulted, last_stage, length_at, moments_of}
 
-module _ {V : Type 0} (faults : V → ℕ → ℕ) (inputs : Inputs) where
+module _ {V : Type 0} (disk : Disk V) (inputs : Inputs) where
   -- each command does what it asks for, where the one before it left off; while a system is down none is done
   abbrev pub Follow : Stage V → List (Turn V) → Type 0
   Follow before [] = ⊤
   Follow before (turn ∷ turns) =
       (first_down before.landscape.world ≡ None)
-      × Does faults inputs (at_moment turn.moment before) (Ok turn.answered) turn.after turn.command.form
+      × IsCarriedOut disk inputs (at_moment turn.moment before) (Ok turn.answered) turn.after turn.command.form
       × Follow turn.after turns
 
   -- a command that began at a moment, with all systems up, did what it asks for, and memory ran out in it or behind it
@@ -25,7 +26,7 @@ module _ {V : Type 0} (faults : V → ℕ → ℕ) (inputs : Inputs) where
   IsHalted [] moment before after = ⊥
   IsHalted (command ∷ commands) moment before after =
       (first_down before.landscape.world ≡ None)
-      × ((answer : Result Answered Short) × Does faults inputs (at_moment moment before) answer after command.form)
+      × ((answer : Result Answered Short) × IsCarriedOut disk inputs (at_moment moment before) answer after command.form)
 
   -- why a run ends so behind these turns, with these commands left; the moment of a command in which memory ran out is kept, and else none is
   abbrev pub Ends : RunEnd → List Command → List ℕ → Stage V → List (Turn V) → Stage V → Type 0

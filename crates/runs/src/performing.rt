@@ -4,7 +4,8 @@
 ghost use Rattle.std.specs.Prelude.{◌≡◌, IfOk};
 ghost use Rattle.script_text.specs.declared.form.Form.TheVariants as form;
 ghost use Rattle.runs.specs.declared.inputs.Inputs.{Inputs as InputsOf};
-ghost use Rattle.runs.specs.Does.{Does, drained_as};
+ghost use Rattle.landscape.specs.Crashes.{GoesSoundly};
+ghost use Rattle.runs.specs.Does.{Does, Goes, drained_as};
 ghost use Rattle.runs.specs.Text.{IsPrintable};
 
 mod changing;
@@ -43,7 +44,8 @@ pub(crate) fn perform<R: Threads + Wait + Sync, V: Volumes + Send, G: Gate + Syn
     inputs: &Inputs,
     form: &Form,
 ) -> Performed<V>
-    ensures does { Does V.faults inputs.now stage result.answer result.stage form.now }
+    ensures does { Does V.disk inputs.now stage result.answer result.stage form.now }
+    ensures calls { Goes V.disk inputs.now stage result.answer result.stage form.now }
     ensures printable { IfOk result.answer IsPrintable }
 {
     match form {
@@ -62,7 +64,8 @@ fn drained<R: Threads + Wait + Sync, V: Volumes + Send, G: Gate + Sync>(
     alloc: Global,
     stage: Stage<V>,
 ) -> Performed<V>
-    ensures does { (inputs : InputsOf) → Does V.faults inputs stage result.answer result.stage form.Drain }
+    ensures does { (inputs : InputsOf) → Does V.disk inputs stage result.answer result.stage form.Drain }
+    ensures calls { GoesSoundly V.disk stage.landscape result.stage.landscape }
     ensures printable { IfOk result.answer IsPrintable }
 {
     let Stage { landscape, wires } = stage;
@@ -95,7 +98,8 @@ fn carry_out<V: Volumes>(
     inputs: &Inputs,
     form: &Form,
 ) -> Result<Answered, OutOfMemory>
-    ensures does { Does V.faults inputs.now stage.old result stage.new form.now }
+    ensures does { Does V.disk inputs.now stage.old result stage.new form.now }
+    ensures calls { Goes V.disk inputs.now stage.old result stage.new form.now }
     ensures printable { IfOk result IsPrintable }
 {
     match form {

@@ -55,7 +55,7 @@ pub fn run_script<R: Threads + Wait + Sync, V: Volumes + Send, G: Gate + Sync, K
     clock: &mut C,
 ) -> Ran<V>
     requires up { first_down stage.landscape.world ≡ None }
-    ensures run { (turns : List (Turn V)) × (run : Run V.faults inputs.now commands.now stage result.stage result.end turns)
+    ensures run { (turns : List (Turn V)) × (run : Run V.disk inputs.now commands.now stage result.stage result.end turns)
         × IsPutAt result.end (K.contents out.old) (K.contents out.new) (K.faults out.old) (K.faults out.new) turns
         × AreAsked (C.told clock.new) (C.given clock.old) (C.given clock.new) turns run.halted }
     ensures told { C.told clock.new → C.told clock.old }
@@ -93,7 +93,7 @@ fn turn<R: Threads + Wait + Sync, V: Volumes + Send, G: Gate + Sync, K: Sink, C:
     out: &mut K,
     clock: &mut C,
 ) -> Turned<V>
-    ensures turn { (moment : ℕ) × IsTurn V.faults inputs.now result.end moment command.now stage result.stage
+    ensures turn { (moment : ℕ) × IsTurn V.disk inputs.now result.end moment command.now stage result.stage
         (K.contents out.old) (K.contents out.new) (K.faults out.old) (K.faults out.new)
         × GivesOne (C.told clock.new) (C.given clock.old) (C.given clock.new) moment }
     ensures told { C.told clock.new → C.told clock.old }

@@ -1,5 +1,5 @@
 -- Texts that were read, with their models.
-use Rattle.std.specs.Prelude.{◌≡◌, ℕ, List, Some}
+use Rattle.std.specs.Prelude.{◌≡◌, ◌⊎◌, ℕ, List, [], ◌∷◌, Some}
 use Rattle.std.specs.List.{AllByRecursion}
 use Rattle.dist_model.specs.declared.lists.Lists.{Lists}
 use Rattle.said_models.specs.Said.{said}
@@ -16,3 +16,12 @@ IsReading reading = said reading.text ≡ Some reading.model
 -- each does
 abbrev pub AreReadings : List Reading → Type 0
 AreReadings readings = AllByRecursion IsReading readings
+
+-- a text is among those that were read, with this model
+abbrev pub IsAmong : List Reading → List ℕ → Lists → Type 0
+IsAmong [] text model = ⊥
+IsAmong (reading ∷ readings) text model = ((reading.text ≡ text) × (reading.model ≡ model)) ⊎ IsAmong readings text model
+
+-- what was read stays so
+abbrev pub Stay : List Reading → List Reading → Type 0
+Stay before after = (text : List ℕ) (model : Lists) → IsAmong before text model → IsAmong after text model

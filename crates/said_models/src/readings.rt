@@ -32,9 +32,10 @@ impl std::marker::Model for Readings {
 }
 
 impl Readings {
-    ghost use Rattle.std.specs.Prelude.{◌≡◌, [], Some, IfOk, IfSome, OnErr};
+    ghost use Rattle.std.specs.Prelude.{◌≡◌, [], Some, IfOk, IfSome, OnOk, OnErr};
     ghost use Rattle.std.specs.Arc.{arc_value};
     ghost use Rattle.std.specs.Option.{option_map, option_copied};
+    ghost use Rattle.said_models.specs.Readings.{IsAmong, Stay};
     ghost use Rattle.said_models.specs.Said.{said};
 
     /// No text was read. It takes no memory.
@@ -46,7 +47,8 @@ impl Readings {
         }
     }
 
-    /// Enters a text that was read, with the model that it says. After an `Err` nothing has changed.
+    /// Enters a text that was read, with the model that it says. What was entered before stays. After an `Err` nothing has
+    /// changed.
     pub fn enter(
         &mut self,
         alloc: Global,
@@ -54,6 +56,8 @@ impl Readings {
         model: Arc<Model>,
     ) -> Result<(), OutOfMemory>
         requires { said text.now ≡ Some (arc_value model) }
+        ensures entered { OnOk result (IsAmong self.new text.now (arc_value model)) }
+        ensures stay { Stay self.old self.new }
         ensures err { OnErr result (self.new ≡ self.old) }
     {
         let text = Vec::from_slice(alloc, text)?;
@@ -63,7 +67,9 @@ impl Readings {
 
     /// The model that a text says. None exactly where it says none. A text that says one is read once, and then entered.
     pub fn model(&mut self, alloc: Global, text: &[u8]) -> Result<Option<Arc<Model>>, OutOfMemory>
-        ensures { IfOk result (λ model. option_map arc_value model ≡ said text.now) }
+        ensures said { IfOk result (λ model. option_map arc_value model ≡ said text.now) }
+        ensures entered { IfOk result (λ model. IfSome model (λ found. IsAmong self.new text.now (arc_value found))) }
+        ensures stay { Stay self.old self.new }
     {
         if let Some(model) = self.entered(text) {
             return Ok(Some(Arc::try_clone(model)?));
@@ -77,7 +83,8 @@ impl Readings {
 
     /// The model that was entered with a text.
     fn entered(&self, text: &[u8]) -> Option<&Arc<Model>>
-        ensures { IfSome (option_copied result) (λ model. said text.now ≡ Some (arc_value model)) }
+        ensures said { IfSome (option_copied result) (λ model. said text.now ≡ Some (arc_value model)) }
+        ensures among { IfSome (option_copied result) (λ model. IsAmong self.now text.now (arc_value model)) }
     {
         self.models.get(text)
     }

@@ -1,6 +1,7 @@
 -- What is on disk stays so through calls on other volumes, and what a crash leaves meanwhile, for who builds on it.
 use Rattle.std.specs.Option.{unwrap_or}
 use Rattle.std.proofs.Common.{◌≡◌, ◌≢◌, inl, inr, ℕ, Option, Some, None, List, [], ◌∷◌, ◌++◌, length, refl, sym, ap, ◌∙◌, subst, arith}
+use Rattle.ale_volumes.specs.Disk.{Disk}
 use Rattle.ale_volumes.specs.declared.volume.Volume.{Volume}
 use Rattle.ale_volumes.specs.Volume.{IsImage}
 use Rattle.ale_volumes.specs.Clock.{LeavesOnly, KeepsOthers, KeepsVolume}
@@ -48,97 +49,93 @@ HaveMoments-one place before after one have = one.moments ∙ have ∙ sym one.j
 same_moments : (place : ℕ) (before after : SystemJournals) → SameAt place before after → moments_at after place ≡ moments_at before place
 same_moments place before after same = ap (λ (found : Option (List (Option ℕ))). unwrap_or found []) same.moments
 
-module _ {D : Type 0} (told : Type 0) (volume : D → ℕ → Volume) where
+module _ {D : Type 0} (disk : Disk D) where
   -- Each image of the volume of a system that is up stands for its log.
-  pub IsOnDisk-stands : (vols : D) (place : ℕ) (all : SystemJournals) (log : List Record) → told → IsOnDisk told volume vols place all log
-      → (image : List ℕ) → IsImage (volume vols place) image → Stands image (entries_at all place log)
-  IsOnDisk-stands vols place all log tells disk image is =
-      IsSettled-stands volume vols disk.journal (entries_at all place log) (disk.settled tells) image
-      (subst (λ (n : ℕ). IsImage (volume vols n) image) (sym disk.on.volume) is)
+  pub IsOnDisk-stands : (vols : D) (place : ℕ) (all : SystemJournals) (log : List Record) → disk.told → IsOnDisk disk vols place all log
+      → (image : List ℕ) → IsImage (disk.volume vols place) image → Stands image (entries_at all place log)
+  IsOnDisk-stands vols place all log tells on_disk image is =
+      IsSettled-stands disk vols on_disk.journal (entries_at all place log) (on_disk.settled tells) image
+      (subst (λ (n : ℕ). IsImage (disk.volume vols n) image) (sym on_disk.on.volume) is)
 
   -- What is on disk is left on disk, perhaps with one record more: so it is where a system merely falls.
-  pub IsLeft-of : (vols : D) (place : ℕ) (all : SystemJournals) (log : List Record) (rest : Option Record) → IsOnDisk told volume vols place all log
-      → IsLeftOnDisk told volume vols place all log rest
-  IsLeft-of vols place all log rest disk = record {
-    noted = disk.noted;
-    each = disk.each;
-    left = λ tells image is. StandsFound-none_more image (entries_at all place log) (rest_at all place) rest (IsOnDisk-stands vols place all log tells disk image is);
+  pub IsLeft-of : (vols : D) (place : ℕ) (all : SystemJournals) (log : List Record) (rest : Option Record) → IsOnDisk disk vols place all log
+      → IsLeftOnDisk disk vols place all log rest
+  IsLeft-of vols place all log rest on_disk = record {
+    noted = on_disk.noted;
+    each = on_disk.each;
+    left = λ tells image is. StandsFound-none_more image (entries_at all place log) (rest_at all place) rest
+        (IsOnDisk-stands vols place all log tells on_disk image is);
   }
 
   -- What is on disk at a place stays so while its volume is known as before, and the journal and moments at the place are.
-  pub IsOnDisk-same : (old new : D) (place : ℕ) (before after : SystemJournals) (log : List Record) → (told → volume new place ≡ volume old place)
+  pub IsOnDisk-same : (old new : D) (place : ℕ) (before after : SystemJournals) (log : List Record) →
+      (disk.told → disk.volume new place ≡ disk.volume old place)
       → SameAt place before after
-      → IsOnDisk told volume old place before log → IsOnDisk told volume new place after log
-  IsOnDisk-same old new place before after log known same disk =
+      → IsOnDisk disk old place before log → IsOnDisk disk new place after log
+  IsOnDisk-same old new place before after log known same on_disk =
       let moments = same_moments place before after same in
       record {
-        journal = disk.journal;
-        here = same.journal ∙ disk.here;
-        noted = same.moments ∙ disk.noted ∙ ap (λ (l : List (Option ℕ)). Some l) (sym moments);
-        each = ap length moments ∙ disk.each;
-        on = subst (λ (l : List (Option ℕ)). IsOn disk.journal place (entries_of l log)) (sym moments) disk.on;
-        settled = λ tells. subst (λ (l : List (Option ℕ)). IsSettled volume new disk.journal (entries_of l log)) (sym moments)
-            -- What is settled speaks of the volume alone, so any clock will do.
-            (IsSettled-kept volume (λ _. 0) (λ _ _ _ _. Unit {0}) old new disk.journal (entries_at before place log)
-            (record {
-              later = omega arith;
-              known = subst (λ (n : ℕ). volume new n ≡ volume old n) (sym disk.on.volume) (known tells);
-              images = λ t image le. (λ left. left, λ left. left);
-            })
-            (disk.settled tells));
+        journal = on_disk.journal;
+        here = same.journal ∙ on_disk.here;
+        noted = same.moments ∙ on_disk.noted ∙ ap (λ (l : List (Option ℕ)). Some l) (sym moments);
+        each = ap length moments ∙ on_disk.each;
+        on = subst (λ (l : List (Option ℕ)). IsOn on_disk.journal place (entries_of l log)) (sym moments) on_disk.on;
+        settled = λ tells. subst (λ (l : List (Option ℕ)). IsSettled disk new on_disk.journal (entries_of l log)) (sym moments)
+            (IsSettled-kept disk old new on_disk.journal (entries_at before place log)
+            (subst (λ (n : ℕ). disk.volume new n ≡ disk.volume old n) (sym on_disk.on.volume) (known tells))
+            (on_disk.settled tells));
       }
 
   -- The same of what is left on disk.
   pub IsLeftOnDisk-same : (old new : D) (place : ℕ) (before after : SystemJournals) (log : List Record) (rest : Option Record)
-      → (told → volume new place ≡ volume old place) → SameAt place before after
-      → IsLeftOnDisk told volume old place before log rest → IsLeftOnDisk told volume new place after log rest
-  IsLeftOnDisk-same old new place before after log rest known same disk =
+      → (disk.told → disk.volume new place ≡ disk.volume old place) → SameAt place before after
+      → IsLeftOnDisk disk old place before log rest → IsLeftOnDisk disk new place after log rest
+  IsLeftOnDisk-same old new place before after log rest known same on_disk =
       let moments = same_moments place before after same in
       record {
-        noted = same.moments ∙ disk.noted ∙ ap (λ (l : List (Option ℕ)). Some l) (sym moments);
-        each = ap length moments ∙ disk.each;
+        noted = same.moments ∙ on_disk.noted ∙ ap (λ (l : List (Option ℕ)). Some l) (sym moments);
+        each = ap length moments ∙ on_disk.each;
         left = λ tells image is. subst (λ (l : List (Option ℕ)). StandsFound image (entries_of l log) (rest_at after place) rest) (sym moments)
             (subst (λ (m : Option ℕ). StandsFound image (entries_at before place log) m rest) (sym same.rest)
-            (disk.left tells image (subst (λ (v : Volume). IsImage v image) (known tells) is)));
+            (on_disk.left tells image (subst (λ (v : Volume). IsImage v image) (known tells) is)));
       }
 
   -- Both stay so where another moment is set.
   pub IsOnDisk-with_moment : (vols : D) (place : ℕ) (all : SystemJournals) (log : List Record) (moment : Option ℕ)
-      → IsOnDisk told volume vols place all log → IsOnDisk told volume vols place (with_moment moment all) log
+      → IsOnDisk disk vols place all log → IsOnDisk disk vols place (with_moment moment all) log
   IsOnDisk-with_moment vols place all log moment = IsOnDisk-same vols vols place all (with_moment moment all) log (λ tells. refl)
       (SameAt-with_moment place moment all)
 
   pub IsLeftOnDisk-with_moment : (vols : D) (place : ℕ) (all : SystemJournals) (log : List Record) (rest : Option Record) (moment : Option ℕ)
-      → IsLeftOnDisk told volume vols place all log rest → IsLeftOnDisk told volume vols place (with_moment moment all) log rest
+      → IsLeftOnDisk disk vols place all log rest → IsLeftOnDisk disk vols place (with_moment moment all) log rest
   IsLeftOnDisk-with_moment vols place all log rest moment = IsLeftOnDisk-same vols vols place all (with_moment moment all) log rest (λ tells. refl)
       (SameAt-with_moment place moment all)
 
-  module _ (moment : D → ℕ) (images_since : D → ℕ → ℕ → List ℕ → Type 0) where
-    -- Both stay so through a call on another volume that leaves the journal and the moments at the place.
-    pub IsOnDisk-kept : (old new : D) (place n : ℕ) (before after : SystemJournals) (log : List Record) → place ≢ n
-        → (told → KeepsOthers volume moment images_since old new n) → SameAt place before after
-        → IsOnDisk told volume old place before log → IsOnDisk told volume new place after log
-    IsOnDisk-kept old new place n before after log apart others = IsOnDisk-same old new place before after log (λ tells. (others tells).known place apart)
+  -- Both stay so through a call on another volume that leaves the journal and the moments at the place.
+  pub IsOnDisk-kept : (old new : D) (place n : ℕ) (before after : SystemJournals) (log : List Record) → place ≢ n
+      → (disk.told → KeepsOthers disk old new n) → SameAt place before after
+      → IsOnDisk disk old place before log → IsOnDisk disk new place after log
+  IsOnDisk-kept old new place n before after log apart others = IsOnDisk-same old new place before after log (λ tells. (others tells).known place apart)
 
-    pub IsLeftOnDisk-kept : (old new : D) (place n : ℕ) (before after : SystemJournals) (log : List Record) (rest : Option Record) → place ≢ n
-        → (told → KeepsOthers volume moment images_since old new n) → SameAt place before after
-        → IsLeftOnDisk told volume old place before log rest → IsLeftOnDisk told volume new place after log rest
-    IsLeftOnDisk-kept old new place n before after log rest apart others = IsLeftOnDisk-same old new place before after log rest
-        (λ tells. (others tells).known place apart)
+  pub IsLeftOnDisk-kept : (old new : D) (place n : ℕ) (before after : SystemJournals) (log : List Record) (rest : Option Record) → place ≢ n
+      → (disk.told → KeepsOthers disk old new n) → SameAt place before after
+      → IsLeftOnDisk disk old place before log rest → IsLeftOnDisk disk new place after log rest
+  IsLeftOnDisk-kept old new place n before after log rest apart others = IsLeftOnDisk-same old new place before after log rest
+      (λ tells. (others tells).known place apart)
 
-    -- While other volumes are called, a crash leaves of the volume of a system that is up bytes that stand for its log.
-    pub IsOnDisk-any_moment : (old new : D) (place : ℕ) (all : SystemJournals) (log : List Record) → told
-        → ((image : List ℕ) → images_since old place (moment old) image → IsImage (volume old place) image)
-        → KeepsVolume volume moment images_since old new place → IsOnDisk told volume old place all log
-        → LeavesOnly moment images_since old new place (λ image. Stands image (entries_at all place log))
-    IsOnDisk-any_moment old new place all log tells only_now kept disk =
-        LeavesOnly-kept moment images_since volume old new place _ (λ image left. IsOnDisk-stands old place all log tells disk image (only_now image left))
-        kept
+  -- While other volumes are called, a crash leaves of the volume of a system that is up bytes that stand for its log.
+  pub IsOnDisk-any_moment : (old new : D) (place : ℕ) (all : SystemJournals) (log : List Record) → disk.told
+      → ((image : List ℕ) → disk.images_since old place (disk.moment old) image → IsImage (disk.volume old place) image)
+      → KeepsVolume disk old new place → IsOnDisk disk old place all log
+      → LeavesOnly disk old new place (λ image. Stands image (entries_at all place log))
+  IsOnDisk-any_moment old new place all log tells only_now kept on_disk =
+      LeavesOnly-kept disk old new place _ (λ image left. IsOnDisk-stands old place all log tells on_disk image (only_now image left))
+      kept
 
-    -- And of one that is down, bytes that stand for its log, perhaps with one record more.
-    pub IsLeftOnDisk-any_moment : (old new : D) (place : ℕ) (all : SystemJournals) (log : List Record) (rest : Option Record) → told
-        → ((image : List ℕ) → images_since old place (moment old) image → IsImage (volume old place) image)
-        → KeepsVolume volume moment images_since old new place → IsLeftOnDisk told volume old place all log rest
-        → LeavesOnly moment images_since old new place (λ image. StandsFound image (entries_at all place log) (rest_at all place) rest)
-    IsLeftOnDisk-any_moment old new place all log rest tells only_now kept disk =
-        LeavesOnly-kept moment images_since volume old new place _ (λ image left. disk.left tells image (only_now image left)) kept
+  -- And of one that is down, bytes that stand for its log, perhaps with one record more.
+  pub IsLeftOnDisk-any_moment : (old new : D) (place : ℕ) (all : SystemJournals) (log : List Record) (rest : Option Record) → disk.told
+      → ((image : List ℕ) → disk.images_since old place (disk.moment old) image → IsImage (disk.volume old place) image)
+      → KeepsVolume disk old new place → IsLeftOnDisk disk old place all log rest
+      → LeavesOnly disk old new place (λ image. StandsFound image (entries_at all place log) (rest_at all place) rest)
+  IsLeftOnDisk-any_moment old new place all log rest tells only_now kept on_disk =
+      LeavesOnly-kept disk old new place _ (λ image left. on_disk.left tells image (only_now image left)) kept

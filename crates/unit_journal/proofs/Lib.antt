@@ -5,7 +5,7 @@ mod ReadLemmas
 -- Journals of entries through calls on other volumes, for who builds on them.
 pub mod SettledLemmas
 -- Entries of a log that grows, and lists that change at one place.
-mod PlaceLemmas
+pub mod PlaceLemmas
 -- What is on disk stays so through calls on other volumes, and what a crash leaves meanwhile, for who builds on it.
 pub mod KeptLemmas
 -- The moments of a log stay in order as it grows, for who builds on it.

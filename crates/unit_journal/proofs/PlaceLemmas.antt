@@ -1,10 +1,11 @@
 -- Entries of a log that grows, and lists that change at one place.
 use Rattle.std.specs.Prelude.{slice_get, slice_set, MatchOption}
 use Rattle.std.specs.Option.{unwrap_or}
-use Rattle.std.proofs.Common.{◌≡◌, ◌≢◌, ◌<◌, ℕ, zero, suc, Option, Some, None, List, [], ◌∷◌, ◌++◌, length, refl, sym, ap, ◌∙◌, arith, length-append}
+use Rattle.std.proofs.Common.{◌≡◌, ◌≢◌, ◌<◌, ℕ, zero, suc, Option, Some, None, List, [], ◌∷◌, ◌++◌, length, map, refl, sym, ap, ◌∙◌, arith, length-append}
 use Rattle.std.proofs.lemmas.List.{length-set}
 use Rattle.std.proofs.lemmas.Option.{same_Some}
 use Rattle.unit_core.specs.declared.records.Record.{Record}
+use Rattle.unit_codec.specs.declared.entry.Entry.{Entry}
 use Rattle.unit_codec.specs.Entries.{entry_with}
 use Rattle.unit_journal.specs.OnDisk.{entries_of}
 use Rattle.unit_journal.specs.steps.Moments.{with_one_more}
@@ -16,6 +17,14 @@ entries_of-push [] [] moment what same = refl
 entries_of-push [] (r ∷ log) moment what same = absurd (omega arith)
 entries_of-push (m ∷ moments) [] moment what same = absurd (omega arith)
 entries_of-push (m ∷ moments) (r ∷ log) moment what same = ap (λ l. entry_with m r ∷ l) (entries_of-push moments log moment what (omega arith))
+
+-- what the entries of a log hold is the log
+pub entries_of-records : (moments : List (Option ℕ)) (log : List Record) → length moments ≡ length log
+    → map (λ (entry : Entry). entry.what) (entries_of moments log) ≡ log
+entries_of-records [] [] same = refl
+entries_of-records [] (r ∷ log) same = absurd (omega arith)
+entries_of-records (m ∷ moments) [] same = absurd (omega arith)
+entries_of-records (m ∷ moments) (r ∷ log) same = ap (λ l. r ∷ l) (entries_of-records moments log (omega arith))
 
 -- what was set at a place is there
 pub got-set : {A : Type 0} (xs : List A) (k : ℕ) (x : A) → k < length xs → slice_get (slice_set xs k x) k ≡ Some x

@@ -2,7 +2,7 @@
 use Rattle.std.proofs.Common.{◌≡◌, inl, inr, ℕ, List, [], ◌∷◌, ◌++◌, sym, subst}
 use Rattle.std.proofs.lemmas.List.{map-append}
 use Rattle.ale_base.proofs.ListLemmas.{AllByRecursion-append}
-use Rattle.ale_volumes.specs.declared.volume.Volume.{Volume}
+use Rattle.ale_volumes.specs.Disk.{Disk}
 use Rattle.ale_volumes.specs.Volume.{IsImage}
 use Rattle.ale_volumes.specs.Clock.{LeavesOnly, KeepsVolume}
 use Rattle.ale_volumes.proofs.ClockLemmas.{started, weaker, LeavesOnly-kept}
@@ -28,43 +28,43 @@ before_or_after log entry image are is (inr after) = inr (record {
   entries = AllByRecursion-append EntryHasSpelling log (entry ∷ []) are (is, tt);
 })
 
-module _ {D : Type 0} (volume : D → ℕ → Volume) where
+module _ {D : Type 0} (disk : Disk D) where
   -- Each image of a settled journal's volume stands for its log.
-  pub IsSettled-stands : (vols : D) (journal : UnitJournal) (log : List Entry) → IsSettled volume vols journal log → (image : List ℕ) →
-      IsImage (volume vols (bodies journal).volume) image → Stands image log
+  pub IsSettled-stands : (vols : D) (journal : UnitJournal) (log : List Entry) → IsSettled disk vols journal log → (image : List ℕ) →
+      IsImage (disk.volume vols (bodies journal).volume) image → Stands image log
   IsSettled-stands vols journal log s image is = record
-      { bodies = bodies_lemmas.IsSettled-stands volume vols (bodies journal) (bodies_of log) s.settled image is; entries = s.entries }
+      { bodies = bodies_lemmas.IsSettled-stands disk vols (bodies journal) (bodies_of log) s.settled image is; entries = s.entries }
 
-  module _ (moment : D → ℕ) (images_since : D → ℕ → ℕ → List ℕ → Type 0) where
-    -- A journal that is settled stays so through calls on other volumes.
-    pub IsSettled-kept : (old new : D) (journal : UnitJournal) (log : List Entry) → KeepsVolume volume moment images_since old new (bodies journal).volume →
-        IsSettled volume old journal log → IsSettled volume new journal log
-    IsSettled-kept old new journal log kept s = record {
-      settled = bodies_lemmas.IsSettled-kept volume moment images_since old new (bodies journal) (bodies_of log) kept s.settled;
-      entries = s.entries;
-    }
+  -- A journal that is settled stays so where its volume is known as before.
+  pub IsSettled-kept : (old new : D) (journal : UnitJournal) (log : List Entry)
+      → disk.volume new (bodies journal).volume ≡ disk.volume old (bodies journal).volume
+      → IsSettled disk old journal log → IsSettled disk new journal log
+  IsSettled-kept old new journal log known s = record {
+    settled = bodies_lemmas.IsSettled-kept disk old new (bodies journal) (bodies_of log) known s.settled;
+    entries = s.entries;
+  }
 
-    -- While other volumes are called, a crash leaves of a settled journal's volume bytes that stand for its log.
-    pub IsSettled-any_moment : (old new : D) (journal : UnitJournal) (log : List Entry) →
-        ((image : List ℕ) → images_since old (bodies journal).volume (moment old) image → IsImage (volume old (bodies journal).volume) image)
-        → KeepsVolume volume moment images_since old new (bodies journal).volume → IsSettled volume old journal log →
-        LeavesOnly moment images_since old new (bodies journal).volume (λ image. Stands image log)
-    IsSettled-any_moment old new journal log only_now kept s =
-        LeavesOnly-kept moment images_since volume old new (bodies journal).volume _
-        (λ image left. IsSettled-stands old journal log s image (only_now image left)) kept
+  -- While other volumes are called, a crash leaves of a settled journal's volume bytes that stand for its log.
+  pub IsSettled-any_moment : (old new : D) (journal : UnitJournal) (log : List Entry) →
+      ((image : List ℕ) → disk.images_since old (bodies journal).volume (disk.moment old) image → IsImage (disk.volume old (bodies journal).volume) image)
+      → KeepsVolume disk old new (bodies journal).volume → IsSettled disk old journal log →
+      LeavesOnly disk old new (bodies journal).volume (λ image. Stands image log)
+  IsSettled-any_moment old new journal log only_now kept s =
+      LeavesOnly-kept disk old new (bodies journal).volume _
+      (λ image left. IsSettled-stands old journal log s image (only_now image left)) kept
 
-    -- Where nothing is called, a crash leaves the log from before an append.
-    pub unappended : (vols : D) (journal : UnitJournal) (log : List Entry) (entry : Entry) →
-        ((image : List ℕ) → images_since vols (bodies journal).volume (moment vols) image → IsImage (volume vols (bodies journal).volume) image)
-        → IsSettled volume vols journal log → LeavesOnly moment images_since vols vols (bodies journal).volume (IsBeforeOrAfter log entry)
-    unappended vols journal log entry only_now s =
-        started moment images_since vols (bodies journal).volume (IsBeforeOrAfter log entry)
-        (λ image left. inl (IsSettled-stands vols journal log s image (only_now image left)))
+  -- Where nothing is called, a crash leaves the log from before an append.
+  pub unappended : (vols : D) (journal : UnitJournal) (log : List Entry) (entry : Entry) →
+      ((image : List ℕ) → disk.images_since vols (bodies journal).volume (disk.moment vols) image → IsImage (disk.volume vols (bodies journal).volume) image)
+      → IsSettled disk vols journal log → LeavesOnly disk vols vols (bodies journal).volume (IsBeforeOrAfter log entry)
+  unappended vols journal log entry only_now s =
+      started disk vols (bodies journal).volume (IsBeforeOrAfter log entry)
+      (λ image left. inl (IsSettled-stands vols journal log s image (only_now image left)))
 
-    -- What an append to the bodies leaves, said of entries.
-    pub appended : (old new : D) (journal : UnitJournal) (log : List Entry) (entry : Entry) → IsSettled volume old journal log → EntryHasSpelling entry
-        → LeavesOnly moment images_since old new (bodies journal).volume (bodies_settled.IsBeforeOrAfter (bodies_of log) (entry_spelling entry))
-        → LeavesOnly moment images_since old new (bodies journal).volume (IsBeforeOrAfter log entry)
-    appended old new journal log entry s is leaves =
-        weaker moment images_since old new (bodies journal).volume _ (IsBeforeOrAfter log entry)
-        (λ image before. before_or_after log entry image s.entries is before) leaves
+  -- What an append to the bodies leaves, said of entries.
+  pub appended : (old new : D) (journal : UnitJournal) (log : List Entry) (entry : Entry) → IsSettled disk old journal log → EntryHasSpelling entry
+      → LeavesOnly disk old new (bodies journal).volume (bodies_settled.IsBeforeOrAfter (bodies_of log) (entry_spelling entry))
+      → LeavesOnly disk old new (bodies journal).volume (IsBeforeOrAfter log entry)
+  appended old new journal log entry s is leaves =
+      weaker disk old new (bodies journal).volume _ (IsBeforeOrAfter log entry)
+      (λ image before. before_or_after log entry image s.entries is before) leaves

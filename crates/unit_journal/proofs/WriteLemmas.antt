@@ -5,7 +5,7 @@ use Rattle.std.proofs.Common.{◌≡◌, ◌↔◌, ◌+◌, ◌<◌, ◌≤◌,
 use Rattle.std.proofs.lemmas.List.{get_or-set_other, length-set}
 use Rattle.std.proofs.lemmas.Option.{same_Some, slice_get_within}
 use Rattle.ale_base.proofs.ListLemmas.{AllByRecursion-append}
-use Rattle.ale_volumes.specs.declared.volume.Volume.{Volume}
+use Rattle.ale_volumes.specs.Disk.{Disk}
 use Rattle.ale_volumes.specs.Volume.{IsImage}
 use Rattle.ale_volumes.specs.Clock.{LeavesOnly}
 use Rattle.byte_journal.specs.Log.{most_bytes}
@@ -15,7 +15,8 @@ use Rattle.unit_codec.specs.Entries.{EntryHasSpelling, entry_with, entry_spellin
 use Rattle.unit_journal.specs.declared.journal.UnitJournal.{UnitJournal}
 use Rattle.unit_journal.specs.Settled.{bodies, IsAtEnd, IsOn, IsSettled, IsBeforeOrAfter}
 use Rattle.unit_journal.specs.declared.journals.SystemJournals.{SystemJournals}
-use Rattle.unit_journal.specs.OnDisk.{moments_at, last_moment, next_moment, MayFollow, moments_of, entries_of, entries_at, length_with, StandsFound, IsOnDisk, IsLeftOnDisk}
+use Rattle.unit_journal.specs.OnDisk.{moments_at, last_moment, next_moment, MayFollow, moments_of, entries_of, entries_at, length_with, StandsFound, IsOnDisk}
+use Rattle.unit_journal.specs.OnDisk.{IsLeftOnDisk}
 use Rattle.byte_journal.specs.declared.fault.AppendFault.{AppendFault}
 use Rattle.byte_journal.specs.declared.fault.AppendFault.TheVariants.{Volume as VolumeFault, Full, OutOfMemory}
 use Rattle.unit_journal.specs.Changes.{with_rest, LeftBy, OnlyAt}
@@ -31,7 +32,13 @@ pub record Moved (was now : UnitJournal) (entry : Entry) : Type 0 where
 
 -- no call changes what is at other places
 pub OnlyAt-none : (place : ℕ) (all : SystemJournals) → OnlyAt place all all
-OnlyAt-none place all = record { journals = refl; moments = refl; others = λ other apart. record { journal = refl; moments = refl; rest = refl }; moment = refl }
+OnlyAt-none place all = record {
+  journals = refl;
+  moments = refl;
+  others = λ other apart.
+      record { journal = refl; moments = refl; rest = refl };
+  moment = refl;
+}
 
 -- a journal and one moment more at a place
 pub OnlyAt-written : (place : ℕ) (all : SystemJournals) (now : UnitJournal) (moments : List (List (Option ℕ))) (moment : Option ℕ)
@@ -98,59 +105,60 @@ full-here {Is = Is} was entries moment other next place at_end same full =
     (ap (λ (m : Option ℕ). (bodies was).gate + 6 + length (entry_spelling (entry_with m next))) same
     ∙ ap (λ (gate : ℕ). gate + 6 + length (entry_spelling (entry_with other next))) at_end) full
 
-module _ {D : Type 0} (told : Type 0) (volume : D → ℕ → Volume) (old : D) (place : ℕ) (all : SystemJournals) (log : List Record) (was : UnitJournal)
-    (here : slice_get all.journals place ≡ Some was) (disk : IsOnDisk told volume old place all log) where
-  pub same-journal : disk.journal ≡ was
-  same-journal = same_Some disk.journal was (sym disk.here ∙ here)
+module _ {D : Type 0} (disk : Disk D) (old : D) (place : ℕ) (all : SystemJournals) (log : List Record) (was : UnitJournal)
+    (here : slice_get all.journals place ≡ Some was) (on_disk : IsOnDisk disk old place all log) where
+  pub same-journal : on_disk.journal ≡ was
+  same-journal = same_Some on_disk.journal was (sym on_disk.here ∙ here)
 
   -- the journal at the place is on the place's volume, at the end of the log
   pub on-here : IsOn was place (entries_at all place log)
-  on-here = subst (λ (journal : UnitJournal). IsOn journal place (entries_at all place log)) same-journal disk.on
+  on-here = subst (λ (journal : UnitJournal). IsOn journal place (entries_at all place log)) same-journal on_disk.on
 
-  pub settled-here : told → IsSettled volume old was (entries_at all place log)
-  settled-here tells = subst (λ (journal : UnitJournal). IsSettled volume old journal (entries_at all place log)) same-journal (disk.settled tells)
+  pub settled-here : disk.told → IsSettled disk old was (entries_at all place log)
+  settled-here tells = subst (λ (journal : UnitJournal). IsSettled disk old journal (entries_at all place log)) same-journal (on_disk.settled tells)
 
   -- after an append that succeeded, and with the moment noted, the log on disk has the record
   pub IsOnDisk-written : (new : D) (after : SystemJournals) (next : Record) (moment : Option ℕ) (now : UnitJournal) → slice_get after.journals place ≡ Some now
       → slice_get after.moments place ≡ Some (moments_at all place ++ moment ∷ [])
       → EntryHasSpelling (entry_with moment next) → Moved was now (entry_with moment next)
-      → (told → (l : List Entry) → IsSettled volume old was l → IsSettled volume new now (l ++ entry_with moment next ∷ []))
-      → IsOnDisk told volume new place after (log ++ next ∷ [])
+      → (disk.told → (l : List Entry) → IsSettled disk old was l → IsSettled disk new now (l ++ entry_with moment next ∷ []))
+      → IsOnDisk disk new place after (log ++ next ∷ [])
   IsOnDisk-written new after next moment now there noted spelled moved added =
       let moments : moments_at after place ≡ moments_at all place ++ moment ∷ [] = ap (λ (found : Option (List (Option ℕ))). unwrap_or found []) noted in
       let more : entries_at after place (log ++ next ∷ []) ≡ entries_at all place log ++ entry_with moment next ∷ [] =
-      ap (λ (l : List (Option ℕ)). entries_of l (log ++ next ∷ [])) moments ∙ entries_of-push (moments_at all place) log moment next disk.each in
+      ap (λ (l : List (Option ℕ)). entries_of l (log ++ next ∷ [])) moments ∙ entries_of-push (moments_at all place) log moment next on_disk.each in
       record {
         journal = now;
         here = there;
         noted = noted ∙ ap (λ (l : List (Option ℕ)). Some l) (sym moments);
         each = ap length moments
-            ∙ (let long = disk.each in omega (arith, long, length-append (moments_at all place) (moment ∷ []), length-append log (next ∷ [])));
+            ∙ (let long = on_disk.each in omega (arith, long, length-append (moments_at all place) (moment ∷ []), length-append log (next ∷ [])));
         on = subst (λ (l : List Entry). IsOn now place l) (sym more) (record {
           volume = moved.volume ∙ on-here.volume;
           at_end = moved.at_end (entries_at all place log) on-here.at_end;
           entries = AllByRecursion-append EntryHasSpelling (entries_at all place log) (entry_with moment next ∷ []) on-here.entries (spelled, tt);
         });
-        settled = λ tells. subst (λ (l : List Entry). IsSettled volume new now l) (sym more) (added tells (entries_at all place log) (settled-here tells));
+        settled = λ tells. subst (λ (l : List Entry). IsSettled disk new now l) (sym more) (added tells (entries_at all place log) (settled-here tells));
       }
 
   -- where a journal stays settled, what is on disk is as before
-  pub IsOnDisk-unwritten : (new : D) → (told → IsSettled volume new was (entries_at all place log)) → IsOnDisk told volume new place all log
-  IsOnDisk-unwritten new settled = record { journal = was; here = here; noted = disk.noted; each = disk.each; on = on-here; settled = settled }
+  pub IsOnDisk-unwritten : (new : D) → (disk.told → IsSettled disk new was (entries_at all place log)) → IsOnDisk disk new place all log
+  IsOnDisk-unwritten new settled = record { journal = was; here = here; noted = on_disk.noted; each = on_disk.each; on = on-here; settled = settled }
 
   -- where a crash leaves the log from before an append or after it, the system is left with it and perhaps the record
-  pub IsLeft-torn : (moment : D → ℕ) (images_since : D → ℕ → ℕ → List ℕ → Type 0) (new : D) (next : Record) (written : Option ℕ)
+  pub IsLeft-torn : (new : D) (next : Record) (written : Option ℕ)
       → written ≡ next_moment all place
-      → (told → (image : List ℕ) → moment old ≤ moment new → IsImage (volume new place) image → images_since new place (moment old) image)
-      → (told → LeavesOnly moment images_since old new place (IsBeforeOrAfter (entries_at all place log) (entry_with written next)))
+      → (disk.told → (image : List ℕ) → disk.moment old ≤ disk.moment new → IsImage (disk.volume new place) image →
+      disk.images_since new place (disk.moment old) image)
+      → (disk.told → LeavesOnly disk old new place (IsBeforeOrAfter (entries_at all place log) (entry_with written next)))
       → (rests : List (Option ℕ)) → slice_index_or rests place None ≡ written
-      → IsLeftOnDisk told volume new place (record all { rests = rests }) log (Some next)
-  IsLeft-torn moment images_since new next written set counts_now leaves rests found = record {
-    noted = disk.noted;
-    each = disk.each;
+      → IsLeftOnDisk disk new place (record all { rests = rests }) log (Some next)
+  IsLeft-torn new next written set counts_now leaves rests found = record {
+    noted = on_disk.noted;
+    each = on_disk.each;
     left = λ tells image is. subst (λ (m : Option ℕ). StandsFound image (entries_at all place log) m (Some next))
         (sym found)
         (StandsFound-either image (entries_at all place log) written next
-        (subst (λ (m : Option ℕ). MayFollow (last_moment (moments_of (entries_at all place log))) m) (sym set) (next-follows place all log disk.each))
+        (subst (λ (m : Option ℕ). MayFollow (last_moment (moments_of (entries_at all place log))) m) (sym set) (next-follows place all log on_disk.each))
         ((leaves tells).each image (counts_now tells image (leaves tells).later is)));
   }

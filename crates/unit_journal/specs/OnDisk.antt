@@ -2,7 +2,7 @@
 use Rattle.std.specs.Prelude.{◌≡◌, ◌⊎◌, ℕ, ◌+◌, ◌-◌, ◌≤◌, max, Option, Some, None, List, [], ◌∷◌, ◌++◌, length, map, slice_get, slice_index_or}
 use Rattle.std.specs.List.{AllByRecursion}
 use Rattle.std.specs.Option.{unwrap_or}
-use Rattle.ale_volumes.specs.declared.volume.Volume.{Volume}
+use Rattle.ale_volumes.specs.Disk.{Disk}
 use Rattle.ale_volumes.specs.Volume.{IsImage}
 use Rattle.unit_core.specs.declared.records.Record.{Record}
 use Rattle.unit_codec.specs.declared.entry.Entry.{Entry}
@@ -78,13 +78,13 @@ length_with entries entry = length (records (bodies_of entries)) + 6 + length (e
 
 -- Of a system that is up: a journal and moments are at its place, one for each record; the journal is at the end of the
 -- log, and where the disk tells what it holds, all of that log is on the disk for good.
-pub record IsOnDisk {D : Type 0} (told : Type 0) (volume : D → ℕ → Volume) (vols : D) (place : ℕ) (all : SystemJournals) (log : List Record) : Type 0 where
+pub record IsOnDisk {D : Type 0} (disk : Disk D) (vols : D) (place : ℕ) (all : SystemJournals) (log : List Record) : Type 0 where
   pub journal : UnitJournal
   pub here : slice_get all.journals place ≡ Some journal
   pub noted : slice_get all.moments place ≡ Some (moments_at all place)
   pub each : length (moments_at all place) ≡ length log
   pub on : IsOn journal place (entries_at all place log)
-  pub settled : told → IsSettled volume vols journal (entries_at all place log)
+  pub settled : disk.told → IsSettled disk vols journal (entries_at all place log)
 
 -- the bytes stand for these entries, or for them and one of this record with this moment, which may follow the last of theirs
 abbrev pub StandsFound : List ℕ → List Entry → Option ℕ → Option Record → Type 0
@@ -94,8 +94,8 @@ StandsFound image entries moment (Some next) =
 
 -- Of a system that is down: moments are at its place, one for each record, and where the disk tells what it holds, each
 -- crash leaves the log, perhaps with this record more, with the moment that is kept of it.
-pub record IsLeftOnDisk {D : Type 0} (told : Type 0) (volume : D → ℕ → Volume) (vols : D) (place : ℕ) (all : SystemJournals) (log : List Record)
+pub record IsLeftOnDisk {D : Type 0} (disk : Disk D) (vols : D) (place : ℕ) (all : SystemJournals) (log : List Record)
     (rest : Option Record) : Type 0 where
   pub noted : slice_get all.moments place ≡ Some (moments_at all place)
   pub each : length (moments_at all place) ≡ length log
-  pub left : told → (image : List ℕ) → IsImage (volume vols place) image → StandsFound image (entries_at all place log) (rest_at all place) rest
+  pub left : disk.told → (image : List ℕ) → IsImage (disk.volume vols place) image → StandsFound image (entries_at all place log) (rest_at all place) rest

@@ -1,5 +1,6 @@
 -- A journal of entries that is ready for appends, and what opening and appending do.
 use Rattle.std.specs.Prelude.{◌≡◌, ◌⊎◌, ℕ, List, [], ◌∷◌, ◌++◌, Result, Ok, Err}
+use Rattle.ale_volumes.specs.Disk.{Disk}
 use Rattle.ale_volumes.specs.declared.volume.Volume.{Volume}
 use Rattle.ale_volumes.specs.Volume.{settled}
 use Rattle.byte_journal.specs.declared.journal.Journal.{Journal}
@@ -28,8 +29,8 @@ pub record IsOn (journal : UnitJournal) (n : ℕ) (log : List Entry) : Type 0 wh
   pub entries : AreEntries log
 
 -- The journal stands at the end of this log, whose last gate is closed, and all of it is on the disk for good.
-pub record IsSettled {D : Type 0} (volume : D → ℕ → Volume) (vols : D) (journal : UnitJournal) (log : List Entry) : Type 0 where
-  pub settled : IsSettledForBodies volume vols (bodies journal) (bodies_of log)
+pub record IsSettled {D : Type 0} (disk : Disk D) (vols : D) (journal : UnitJournal) (log : List Entry) : Type 0 where
+  pub settled : IsSettledForBodies disk vols (bodies journal) (bodies_of log)
   pub entries : AreEntries log
 
 -- What opening these bytes answers: the log that they stand for, the place where they are damaged, or the number of the

@@ -61,34 +61,34 @@ impl UnitJournal {
         what: &Record,
     ) -> Result<(), AppendFault>
         requires entry { IsWritable what.now }
-        requires settled { V.told → (log : List Entry) × IsSettled V.volume vols.old self.old log }
+        requires settled { V.disk.told → (log : List Entry) × IsSettled V.disk vols.old self.old log }
 
         // The log has one entry more.
-        ensures added { V.told → (log : List Entry) → IsSettled V.volume vols.old self.old log →
-            OnOk result (IsSettled V.volume vols.new self.new (log ++ entry_with moment what.now ∷ [])) }
+        ensures added { V.disk.told → (log : List Entry) → IsSettled V.disk vols.old self.old log →
+            OnOk result (IsSettled V.disk vols.new self.new (log ++ entry_with moment what.now ∷ [])) }
         ensures moves_on { MovesOn self.old self.new (entry_with moment what.now) result }
         ensures spelled { OnOk result (EntryHasSpelling (entry_with moment what.now)) }
 
         // The volume holds what it held, the gate open, length, spelling, a closed gate, and what lay further back.
-        ensures leaves { V.told → LeavesAppended (V.volume vols.old (bodies self.old).volume).contents
+        ensures leaves { V.disk.told → LeavesAppended (V.disk.volume vols.old (bodies self.old).volume).contents
             (bodies self.old).gate (entry_spelling (entry_with moment what.now))
-            (V.volume vols.new (bodies self.old).volume).contents result }
+            (V.disk.volume vols.new (bodies self.old).volume).contents result }
 
         // A crash at any moment of the call leaves the log from before it, with the new entry or without.
-        ensures any_moment { V.told → (log : List Entry) → IsSettled V.volume vols.old self.old log →
-            LeavesOnly V.moment V.images_since vols.old vols.new (bodies self.old).volume
+        ensures any_moment { V.disk.told → (log : List Entry) → IsSettled V.disk vols.old self.old log →
+            LeavesOnly V.disk vols.old vols.new (bodies self.old).volume
             (IsBeforeOrAfter log (entry_with moment what.now)) }
-        ensures others { V.told → KeepsOthers V.volume V.moment V.images_since vols.old vols.new (bodies self.old).volume }
+        ensures others { V.disk.told → KeepsOthers V.disk vols.old vols.new (bodies self.old).volume }
 
         // When each error comes, and what is then as it was.
         ensures full { (place : ℕ) → result ≢ Err AppendFault.OutOfMemory → (result ≡ Err (AppendFault.Full place))
             ↔ ((place ≡ (bodies self.old).gate + 6 + length (entry_spelling (entry_with moment what.now)))
             × (most_bytes < place)) }
         ensures full_unwritten { (place : ℕ) → result ≡ Err (AppendFault.Full place) → vols.new ≡ vols.old }
-        ensures no_memory { V.told → (log : List Entry) → IsSettled V.volume vols.old self.old log →
-            IsErrOf result AppendFault.OutOfMemory → IsSettled V.volume vols.new self.new log }
+        ensures no_memory { V.disk.told → (log : List Entry) → IsSettled V.disk vols.old self.old log →
+            IsErrOf result AppendFault.OutOfMemory → IsSettled V.disk vols.new self.new log }
         ensures faults { CountsFault (IsErrOf result AppendFault.Volume)
-            (V.faults vols.old) (V.faults vols.new) (bodies self.old).volume }
+            (V.disk.faults vols.old) (V.disk.faults vols.new) (bodies self.old).volume }
     {
         let body = write_entry(self.alloc, moment, what)?;
         self.bodies.append(vols, &body)

@@ -29,21 +29,21 @@ impl SystemJournals {
         requires moments { HaveMoments self.old }
 
         // The system is up with the records that its volume stood for, behind all that were open, which are as before.
-        ensures read { V.told → Answers (V.volume vols.old (count_of self.old)).contents self.new (count_of self.old) result }
-        ensures opened { IfOk result (λ log. IsOnDisk V.told V.volume vols.new (count_of self.old) self.new log) }
+        ensures read { V.disk.told → Answers (V.disk.volume vols.old (count_of self.old)).contents self.new (count_of self.old) result }
+        ensures opened { IfOk result (λ log. IsOnDisk V.disk vols.new (count_of self.old) self.new log) }
         ensures next { OnOk result (IsNext self.old self.new) }
         ensures err { OnErr result (self.new ≡ self.old) }
 
         // What a read gives is as before, but for a gate that is the last byte.
-        ensures leaves { V.told → LeavesOpened (V.volume vols.old (count_of self.old)) (V.volume vols.new (count_of self.old)) result }
+        ensures leaves { V.disk.told → LeavesOpened (V.disk.volume vols.old (count_of self.old)) (V.disk.volume vols.new (count_of self.old)) result }
 
         // A crash at any moment of the call leaves what was handed in, or what reads as it; from some moment on only the latter.
-        ensures any_moment { V.told → LeavesOnly V.moment V.images_since vols.old vols.new (count_of self.old)
-            (IsLeftByOpening (V.volume vols.old (count_of self.old))) }
-        ensures from_sync { V.told → LeavesOnlyFromSync V.volume V.moment V.images_since vols.old vols.new (count_of self.old)
-            (IsErrOf result LogFault.Volume) (ReadsAs (V.volume vols.old (count_of self.old)).contents) }
-        ensures others { V.told → KeepsOthers V.volume V.moment V.images_since vols.old vols.new (count_of self.old) }
-        ensures faults { CountsFault (IsErrOf result LogFault.Volume) (V.faults vols.old) (V.faults vols.new) (count_of self.old) }
+        ensures any_moment { V.disk.told → LeavesOnly V.disk vols.old vols.new (count_of self.old)
+            (IsLeftByOpening (V.disk.volume vols.old (count_of self.old))) }
+        ensures from_sync { V.disk.told → LeavesOnlyFromSync V.disk vols.old vols.new (count_of self.old)
+            (IsErrOf result LogFault.Volume) (ReadsAs (V.disk.volume vols.old (count_of self.old)).contents) }
+        ensures others { V.disk.told → KeepsOthers V.disk vols.old vols.new (count_of self.old) }
+        ensures faults { CountsFault (IsErrOf result LogFault.Volume) (V.disk.faults vols.old) (V.disk.faults vols.new) (count_of self.old) }
     {
         let place = self.journals.len();
         let opened = open_volume(self.alloc, vols, place as u8)?;

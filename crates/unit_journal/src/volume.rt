@@ -32,15 +32,15 @@ pub(crate) fn open_volume<V: Volumes>(
     n: u8,
 ) -> Result<Opened, LogFault>
     requires { n < 16 }
-    ensures read { V.told → Answers (V.volume vols.old n).contents (entries_in result) }
-    ensures opened { IfOk result (λ opened. IsOpened V.told V.volume vols.new n opened) }
-    ensures leaves { V.told → LeavesOpened (V.volume vols.old n) (V.volume vols.new n) (log_in result) }
-    ensures any_moment { V.told → LeavesOnly V.moment V.images_since vols.old vols.new n
-        (IsLeftByOpening (V.volume vols.old n)) }
-    ensures from_sync { V.told → LeavesOnlyFromSync V.volume V.moment V.images_since vols.old vols.new n
-        (IsErrOf result LogFault.Volume) (ReadsAs (V.volume vols.old n).contents) }
-    ensures others { V.told → KeepsOthers V.volume V.moment V.images_since vols.old vols.new n }
-    ensures faults { CountsFault (IsErrOf result LogFault.Volume) (V.faults vols.old) (V.faults vols.new) n }
+    ensures read { V.disk.told → Answers (V.disk.volume vols.old n).contents (entries_in result) }
+    ensures opened { IfOk result (λ opened. IsOpened V.disk vols.new n opened) }
+    ensures leaves { V.disk.told → LeavesOpened (V.disk.volume vols.old n) (V.disk.volume vols.new n) (log_in result) }
+    ensures any_moment { V.disk.told → LeavesOnly V.disk vols.old vols.new n
+        (IsLeftByOpening (V.disk.volume vols.old n)) }
+    ensures from_sync { V.disk.told → LeavesOnlyFromSync V.disk vols.old vols.new n
+        (IsErrOf result LogFault.Volume) (ReadsAs (V.disk.volume vols.old n).contents) }
+    ensures others { V.disk.told → KeepsOthers V.disk vols.old vols.new n }
+    ensures faults { CountsFault (IsErrOf result LogFault.Volume) (V.disk.faults vols.old) (V.disk.faults vols.new) n }
 {
     let (journal, entries) = crate::open(alloc, vols, n)?;
     Ok(with_entries(alloc, journal, entries)?)

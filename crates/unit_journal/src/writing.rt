@@ -34,18 +34,18 @@ impl SystemJournals {
         next: &Record,
     ) -> Result<(), AppendFault>
         requires entry { IsWritable next.now }
-        requires on_disk { (log : List Record) × IsOnDisk V.told V.volume vols.old (system - 1) self.old log }
+        requires on_disk { (log : List Record) × IsOnDisk V.disk vols.old (system - 1) self.old log }
 
         // The log on the volume has the record; or perhaps, where the volume failed; or it has it not.
-        ensures written { (log : List Record) → IsOnDisk V.told V.volume vols.old (system - 1) self.old log →
-            OnOk result (IsOnDisk V.told V.volume vols.new (system - 1) self.new (log ++ next.now ∷ [])) }
-        ensures torn { (log : List Record) → IsOnDisk V.told V.volume vols.old (system - 1) self.old log →
-            IsErrOf result AppendFault.Volume → IsLeftOnDisk V.told V.volume vols.new (system - 1) self.new log (Some next.now) }
-        ensures unwritten { (log : List Record) → IsOnDisk V.told V.volume vols.old (system - 1) self.old log →
-            IsErrOf result AppendFault.OutOfMemory → IsOnDisk V.told V.volume vols.new (system - 1) self.new log }
+        ensures written { (log : List Record) → IsOnDisk V.disk vols.old (system - 1) self.old log →
+            OnOk result (IsOnDisk V.disk vols.new (system - 1) self.new (log ++ next.now ∷ [])) }
+        ensures torn { (log : List Record) → IsOnDisk V.disk vols.old (system - 1) self.old log →
+            IsErrOf result AppendFault.Volume → IsLeftOnDisk V.disk vols.new (system - 1) self.new log (Some next.now) }
+        ensures unwritten { (log : List Record) → IsOnDisk V.disk vols.old (system - 1) self.old log →
+            IsErrOf result AppendFault.OutOfMemory → IsOnDisk V.disk vols.new (system - 1) self.new log }
 
         // When the volume is too small, and the length that it would have.
-        ensures full { (log : List Record) → IsOnDisk V.told V.volume vols.old (system - 1) self.old log → (place : ℕ) →
+        ensures full { (log : List Record) → IsOnDisk V.disk vols.old (system - 1) self.old log → (place : ℕ) →
             result ≢ Err AppendFault.OutOfMemory → (result ≡ Err (AppendFault.Full place))
             ↔ ((place ≡ length_with (entries_at self.old (system - 1) log) (entry_with (next_moment self.old (system - 1)) next.now)) × (most_bytes < place)) }
         ensures full_same { (place : ℕ) → result ≡ Err (AppendFault.Full place) → vols.new ≡ vols.old }
@@ -56,11 +56,11 @@ impl SystemJournals {
         ensures grown { OnOk result (moments_at self.new (system - 1) ≡ moments_at self.old (system - 1) ++ next_moment self.old (system - 1) ∷ []) }
 
         // A crash at any moment of the call leaves the log from before it, or with the record and its moment.
-        ensures any_moment { V.told → (log : List Record) → IsOnDisk V.told V.volume vols.old (system - 1) self.old log →
-            LeavesOnly V.moment V.images_since vols.old vols.new (system - 1)
+        ensures any_moment { V.disk.told → (log : List Record) → IsOnDisk V.disk vols.old (system - 1) self.old log →
+            LeavesOnly V.disk vols.old vols.new (system - 1)
             (IsBeforeOrAfter (entries_at self.old (system - 1) log) (entry_with (next_moment self.old (system - 1)) next.now)) }
-        ensures others { V.told → KeepsOthers V.volume V.moment V.images_since vols.old vols.new (system - 1) }
-        ensures faults { CountsFault (IsErrOf result AppendFault.Volume) (V.faults vols.old) (V.faults vols.new) (system - 1) }
+        ensures others { V.disk.told → KeepsOthers V.disk vols.old vols.new (system - 1) }
+        ensures faults { CountsFault (IsErrOf result AppendFault.Volume) (V.disk.faults vols.old) (V.disk.faults vols.new) (system - 1) }
     {
         let place = system.get() as usize - 1;
         let moment = self.next_moment(system);

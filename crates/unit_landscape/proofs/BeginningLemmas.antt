@@ -6,7 +6,7 @@ use Rattle.std.proofs.Common.{◌∙◌, arith, length-append}
 use Rattle.std.proofs.lemmas.Bool.{eq-eqb}
 use Rattle.std.proofs.lemmas.List.{append-nil}
 use Rattle.std.proofs.lemmas.List.Elements.{All-nil}
-use Rattle.ale_volumes.specs.declared.volume.Volume.{Volume as OneVolume}
+use Rattle.ale_volumes.specs.Disk.{Disk}
 use Rattle.ale_volumes.specs.Clock.{LeavesOnly}
 use Rattle.byte_journal.specs.Log.{records}
 use Rattle.unit_core.specs.declared.ale_unit.AleUnit.{AleUnit}
@@ -80,9 +80,9 @@ later-none None = refl
 later-none (Some moment) = refl
 
 module _ {R A E V : Type 0} (meaning : R → Meaning) (lawful : (rules : R) → IsLawful (meaning rules)) (stands : A → List Record → Type 0)
-    (goes_with : A → List Record → Record → E → Type 0) (told : Type 0) (volume : V → ℕ → OneVolume) (kept : KeptOf R A V) (system : ℕ) (text : List ℕ)
+    (goes_with : A → List Record → Record → E → Type 0) (disk : Disk V) (kept : KeptOf R A V) (system : ℕ) (text : List ℕ)
     (extra : E)
-    (least : 1 ≤ system) (known : IsKept meaning stands told volume kept) (is : IsToBegin stands goes_with kept system text extra) where
+    (least : 1 ≤ system) (known : IsKept meaning stands disk kept) (is : IsToBegin stands goes_with kept system text extra) where
   its_state : state_of kept.world.systems system ≡ Some (first_state [])
   its_state = state-at kept.world.systems system least ∙ is.empty
 
@@ -90,7 +90,7 @@ module _ {R A E V : Type 0} (meaning : R → Meaning) (lawful : (rules : R) → 
   its_log : log_of kept.world system ≡ []
   its_log = ap log_or_none its_state
 
-  its_disk : IsOnDisk told volume kept.vols (system - 1) kept.journals []
+  its_disk : IsOnDisk disk kept.vols (system - 1) kept.journals []
   its_disk = known.on_volumes.up (system - 1) (first_state []) is.empty refl
 
   its_moments : moments_at kept.journals (system - 1) ≡ []
@@ -131,13 +131,13 @@ module _ {R A E V : Type 0} (meaning : R → Meaning) (lawful : (rules : R) → 
   }
 
   -- a crash leaves the empty log, or the Genesis alone
-  pub first-any_moment : (moment : V → ℕ) (images_since : V → ℕ → ℕ → List ℕ → Type 0) (new : V) (same : ℕ) → same ≡ system
-      → LeavesOnly moment images_since kept.vols new (system - 1)
+  pub first-any_moment : (disk : Disk V) (new : V) (same : ℕ) → same ≡ system
+      → LeavesOnly disk kept.vols new (system - 1)
       (IsBeforeOrAfter (entries_at kept.journals (system - 1) (log_of kept.world system))
       (entry_with (next_moment kept.journals (system - 1)) (Genesis same text)))
-      → LeavesOnly moment images_since kept.vols new (system - 1) (IsBeforeOrAfter [] (entry_with (moment_of kept.journals) (Genesis system text)))
-  first-any_moment moment images_since new same number leaves =
-      let only : List Entry → Entry → Type 0 = λ entries entry. LeavesOnly moment images_since kept.vols new (system - 1) (IsBeforeOrAfter entries entry) in
+      → LeavesOnly disk kept.vols new (system - 1) (IsBeforeOrAfter [] (entry_with (moment_of kept.journals) (Genesis system text)))
+  first-any_moment disk new same number leaves =
+      let only : List Entry → Entry → Type 0 = λ entries entry. LeavesOnly disk kept.vols new (system - 1) (IsBeforeOrAfter entries entry) in
       subst (λ entries. only entries (entry_with (moment_of kept.journals) (Genesis system text))) first-entries
       (subst (λ m. only (entries_at kept.journals (system - 1) (log_of kept.world system)) (entry_with m (Genesis system text))) first-moment
       (subst (λ n. only (entries_at kept.journals (system - 1) (log_of kept.world system))

@@ -1,5 +1,6 @@
 -- However a call of a landscape ends, no total has fallen.
 use Rattle.std.proofs.Common.{◌≡◌, inl, inr, ℕ, Some, None, sym, ap, subst, le_refl, le_trans}
+use Rattle.ale_volumes.specs.Disk.{Disk}
 use Rattle.trfc_protocol.specs.declared.event.Event.{Event}
 use Rattle.trfc_protocol.specs.declared.event.Event.TheVariants.{Fall}
 use Rattle.trfc_protocol.specs.declared.world.World.{World}
@@ -29,32 +30,32 @@ not_fallen-trans rules a b c first second = record {
   executed = le_trans first.executed second.executed;
 }
 
-module _ {R A V : Type 0} (rules : Meaning) (lawful : IsLawful rules) (faults : V → ℕ → ℕ) (before after : KeptOf R A V) (safe : Safe rules before.world) where
+module _ {R A V : Type 0} (rules : Meaning) (lawful : IsLawful rules) (disk : Disk V) (before after : KeptOf R A V) (safe : Safe rules before.world) where
   abbrev NoneFell : Type 0
   NoneFell = HaveNotFallen rules before.world after.world
 
   by_event : (e : Event) → after.world ≡ happens rules before.world e → NoneFell
   by_event e same = subst (HaveNotFallen rules before.world) (sym same) (event_lets_none_fall rules lawful before.world safe e)
 
-  pub of_happened : (e : Event) → Happened rules faults before after e → NoneFell
+  pub of_happened : (e : Event) → Happened rules disk before after e → NoneFell
   of_happened e is = by_event e is.world
 
-  pub of_failed : (it : Writing) → Failed rules faults before after it → NoneFell
+  pub of_failed : (it : Writing) → Failed rules disk before after it → NoneFell
   of_failed it is = by_event (Fall it.system (Some it.next)) is.world
 
-  pub of_overflowed : (it : Writing) → Overflowed rules faults before after it → NoneFell
+  pub of_overflowed : (it : Writing) → Overflowed rules disk before after it → NoneFell
   of_overflowed it is = by_event (Fall it.system None) is.world
 
   pub of_same : after ≡ before → NoneFell
   of_same same = not_fallen-same rules before.world after.world (ap (λ (kept : KeptOf R A V). kept.world) same)
 
-  pub of_full : (it : Writing) (size : ℕ) → IsFull rules faults before after it size → NoneFell
+  pub of_full : (it : Writing) (size : ℕ) → IsFull rules disk before after it size → NoneFell
   of_full it size is = of_same is.same
 
-  pub of_stays : Stays rules faults before after → NoneFell
+  pub of_stays : Stays rules disk before after → NoneFell
   of_stays is = not_fallen-same rules before.world after.world is.world
 
-  pub of_fell_behind : (e : Event) (it : Writing) → FellBehind rules faults before after e it → NoneFell
+  pub of_fell_behind : (e : Event) (it : Writing) → FellBehind rules disk before after e it → NoneFell
   of_fell_behind e it is =
       let between : World R = happens rules before.world e in
       subst (HaveNotFallen rules before.world) (sym is.world)
@@ -62,14 +63,14 @@ module _ {R A V : Type 0} (rules : Meaning) (lawful : IsLawful rules) (faults : 
       (event_lets_none_fall rules lawful before.world safe e)
       (event_lets_none_fall rules lawful between (Next-happens rules lawful before.world safe e).0 (Fall it.system None)))
 
-  pub of_fell_instead : (e : Event) → FellInstead rules faults before after e → NoneFell
+  pub of_fell_instead : (e : Event) → FellInstead rules disk before after e → NoneFell
   of_fell_instead e fell =
       elim fell.2 [
         | inl failed ↦ of_failed fell.0 failed
         | inr overflowed ↦ of_overflowed fell.0 overflowed
       ]
 
-  pub of_short : (e : Event) → IsShort rules faults before after e → NoneFell
+  pub of_short : (e : Event) → IsShort rules disk before after e → NoneFell
   of_short e short =
       elim short [
         | inl stays ↦ of_stays stays

@@ -2,6 +2,7 @@
 use Rattle.std.specs.Prelude.{IfOk, OnErr, Result, Ok, Err}
 use Rattle.std.proofs.Common.{◌≡◌, ℕ, true, false, Option, Some, None, inr, refl, sym, ap, subst, ◌∙◌}
 use Rattle.std.proofs.lemmas.Option.{none-some}
+use Rattle.ale_volumes.specs.Disk.{Disk}
 use Rattle.ale_base.specs.Tid.{TidOf}
 use Rattle.ale_base.specs.declared.way.Way.TheVariants.{Outgoing, Incoming}
 use Rattle.unit_core.specs.declared.ale_unit.AleUnit.{AleUnit}
@@ -90,12 +91,12 @@ module _ {R A V : Type 0} (meaning : R → Meaning) (lawful : (r : R) → IsLawf
   landscape-claimed_in tid (Err end) first made kept = landscape-same meaning before.world after.world (ap (λ (k : KeptOf R A V). k.world) kept) is
 
 -- what a call answers that claimed the first unit that is offered inbound
-pub claimed_in : {R A V : Type 0} (rules : Meaning) (lawful : IsLawful rules) (faults : V → ℕ → ℕ) (before after : KeptOf R A V) → Safe rules before.world
+pub claimed_in : {R A V : Type 0} (rules : Meaning) (lawful : IsLawful rules) (disk : Disk V) (before after : KeptOf R A V) → Safe rules before.world
     → (system : ℕ) (claim : InClaim) → IsFirstIn rules before.world system claim.tid
     → (claim.number ≡ (before.world).next_number) × (after.world ≡ with_claim before.world claim.tid system In) → claim.system ≡ system
-    → claim.opening ≡ (before.world).falls → KeepsVolumes before after → ClaimedIn rules faults before after system (Some claim)
-claimed_in rules lawful faults before now safe system claim first made here since keeps = (
-  happened-none rules faults before now (event.Run claim.tid) refl
+    → claim.opening ≡ (before.world).falls → KeepsVolumes before after → ClaimedIn rules disk before after system (Some claim)
+claimed_in rules lawful disk before now safe system claim first made here since keeps = (
+  happened-none rules disk before now (event.Run claim.tid) refl
       (made.1 ∙ sym (run-after rules lawful before.world safe system claim.tid first.offered)) keeps refl,
   first.offered,
   first.first,

@@ -3,6 +3,7 @@ use Rattle.std.specs.Prelude.{Contains, Result, Ok, Err, IfOk, OnErr}
 use Rattle.std.specs.Option.{option_and_then, option_map, option_map_or}
 use Rattle.std.proofs.Common.{◌≡◌, ℕ, true, false, not, ◌&&◌, Bool, Option, Some, None, inr, refl, sym, ap, subst, ◌∙◌}
 use Rattle.std.proofs.lemmas.Option.{same_Some}
+use Rattle.ale_volumes.specs.Disk.{Disk}
 use Rattle.ale_base.specs.Tid.{TidOf}
 use Rattle.ale_base.specs.declared.out_of_memory.OutOfMemory.{OutOfMemory}
 use Rattle.unit_core.specs.declared.ale_unit.AleUnit.{AleUnit}
@@ -132,50 +133,50 @@ module _ {R : Type 0} (rules : Meaning) (lawful : IsLawful rules) (world : World
       (ended-appends rules lawful world safe tid (forgotten-done rules lawful world safe tid is.forgotten) (ap (is_up world) (sym is.its) ∙ is.up)
       (subst (λ s. is_listed tid (ended_in (log_of world s)) ≡ false) is.its is.lasts) is.forgotten)
 
-module _ {R A V : Type 0} (rules : Meaning) (lawful : IsLawful rules) (faults : V → ℕ → ℕ) (before after : KeptOf R A V) (tid : TidOf) (system : ℕ)
+module _ {R A V : Type 0} (rules : Meaning) (lawful : IsLawful rules) (disk : Disk V) (before after : KeptOf R A V) (tid : TidOf) (system : ℕ)
     (result : Result Appended OutOfMemory) (safe : Safe rules before.world) where
   -- how a confirmation ends, by how its record was appended
-  pub confirmed-as : IsToForget rules before.world tid system → EndsSo rules faults before after system (log.Forget tid) None result
-      → IfOk (confirmed_of result) (ConfirmedAs rules faults before after tid) × OnErr (confirmed_of result)
-      (IsShort rules faults before after (event.Confirm tid))
+  pub confirmed-as : IsToForget rules before.world tid system → EndsSo rules disk before after system (log.Forget tid) None result
+      → IfOk (confirmed_of result) (ConfirmedAs rules disk before after tid) × OnErr (confirmed_of result)
+      (IsShort rules disk before after (event.Confirm tid))
   confirmed-as is ends = at_end result refl
     where
       does : Appends rules before.world system (log.Forget tid) None (event.Confirm tid)
       does = forget-appends rules lawful before.world safe tid system is
 
       at_end : (r : Result Appended OutOfMemory) → result ≡ r
-          → IfOk (confirmed_of r) (ConfirmedAs rules faults before after tid) × OnErr (confirmed_of r) (IsShort rules faults before after (event.Confirm tid))
+          → IfOk (confirmed_of r) (ConfirmedAs rules disk before after tid) × OnErr (confirmed_of r) (IsShort rules disk before after (event.Confirm tid))
       at_end (Ok Written) same = (
         (
           ap (is_up before.world) (sym is.its) ∙ is.up,
           is.known,
-          was-written rules faults before after system (log.Forget tid) None (event.Confirm tid) does result ends Written same refl,
+          was-written rules disk before after system (log.Forget tid) None (event.Confirm tid) does result ends Written same refl,
         ),
         tt,
       )
       at_end (Ok Fallen) same =
-          (inr (was-fallen rules faults before after system (log.Forget tid) None (event.Confirm tid) does result ends Fallen same refl), tt)
-      at_end (Err short) same = (tt, was-short rules faults before after system (log.Forget tid) None (event.Confirm tid) does result ends short same)
+          (inr (was-fallen rules disk before after system (log.Forget tid) None (event.Confirm tid) does result ends Fallen same refl), tt)
+      at_end (Err short) same = (tt, was-short rules disk before after system (log.Forget tid) None (event.Confirm tid) does result ends short same)
 
   -- how the reply to a confirmation ends, by how its record was appended
-  pub closed-as : IsToEnd rules before.world tid system → EndsSo rules faults before after system (log.Ended tid) None result
-      → IfOk (closed_of result) (ClosedAs rules faults before after tid) × OnErr (closed_of result)
-      (IsShort rules faults before after (event.Reply (Forgotten tid)))
+  pub closed-as : IsToEnd rules before.world tid system → EndsSo rules disk before after system (log.Ended tid) None result
+      → IfOk (closed_of result) (ClosedAs rules disk before after tid) × OnErr (closed_of result)
+      (IsShort rules disk before after (event.Reply (Forgotten tid)))
   closed-as is ends = at_end result refl
     where
       does : Appends rules before.world system (log.Ended tid) None (event.Reply (Forgotten tid))
       does = end-appends rules lawful before.world safe tid system is
 
       at_end : (r : Result Appended OutOfMemory) → result ≡ r
-          → IfOk (closed_of r) (ClosedAs rules faults before after tid) × OnErr (closed_of r) (IsShort rules faults before after (event.Reply (Forgotten tid)))
+          → IfOk (closed_of r) (ClosedAs rules disk before after tid) × OnErr (closed_of r) (IsShort rules disk before after (event.Reply (Forgotten tid)))
       at_end (Ok Written) same = (
         (
           ap (is_up before.world) (sym is.its) ∙ is.up,
           subst (λ s. is_listed tid (ended_in (log_of before.world s)) ≡ false) is.its is.lasts,
-          was-written rules faults before after system (log.Ended tid) None (event.Reply (Forgotten tid)) does result ends Written same refl,
+          was-written rules disk before after system (log.Ended tid) None (event.Reply (Forgotten tid)) does result ends Written same refl,
         ),
         tt,
       )
       at_end (Ok Fallen) same =
-          (inr (was-fallen rules faults before after system (log.Ended tid) None (event.Reply (Forgotten tid)) does result ends Fallen same refl), tt)
-      at_end (Err short) same = (tt, was-short rules faults before after system (log.Ended tid) None (event.Reply (Forgotten tid)) does result ends short same)
+          (inr (was-fallen rules disk before after system (log.Ended tid) None (event.Reply (Forgotten tid)) does result ends Fallen same refl), tt)
+      at_end (Err short) same = (tt, was-short rules disk before after system (log.Ended tid) None (event.Reply (Forgotten tid)) does result ends short same)

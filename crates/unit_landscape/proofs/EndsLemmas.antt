@@ -4,7 +4,7 @@ use Rattle.std.proofs.Common.{◌≡◌, ◌≤◌, ℕ, ◌-◌, true, cond, Op
 use Rattle.std.proofs.lemmas.Bool.{cases_eq}
 use Rattle.std.proofs.lemmas.Option.{same_Some}
 use Rattle.ale_base.specs.declared.out_of_memory.OutOfMemory.{OutOfMemory}
-use Rattle.ale_volumes.specs.declared.volume.Volume.{Volume as OneVolume}
+use Rattle.ale_volumes.specs.Disk.{Disk}
 use Rattle.ale_volumes.specs.Faults.{CountsFault}
 use Rattle.unit_core.specs.declared.records.Record.{Record}
 use Rattle.trfc_protocol.specs.declared.world.World.{World}
@@ -95,8 +95,8 @@ counts-none failed before then n none counts place =
       | inr differs ↦ counts.others place differs
     ]
 
-module _ {R A V : Type 0} (meaning : R → Meaning) (lawful : (r : R) → IsLawful (meaning r)) (stands : A → List Record → Type 0) (told : Type 0)
-    (volume : V → ℕ → OneVolume) (faults : V → ℕ → ℕ) (before : KeptOf R A V) (is : IsLandscape meaning (before.world)) where
+module _ {R A V : Type 0} (meaning : R → Meaning) (lawful : (r : R) → IsLawful (meaning r)) (stands : A → List Record → Type 0) (disk : Disk V)
+    (before : KeptOf R A V) (is : IsLandscape meaning (before.world)) where
   abbrev rules : Meaning
   rules = meaning (before.world).rules
 
@@ -122,7 +122,7 @@ module _ {R A V : Type 0} (meaning : R → Meaning) (lawful : (r : R) → IsLawf
         ∙ fall-without (with_record before.world system next) system claim)
 
     -- its number is one of the sixteen
-    number_most : IsKept meaning stands told volume before → system ≤ 16
+    number_most : IsKept meaning stands disk before → system ≤ 16
     number_most kept =
         let few = kept.on_volumes.few in
         let most = (stands_up before.world.systems system up).most in
@@ -132,11 +132,12 @@ module _ {R A V : Type 0} (meaning : R → Meaning) (lawful : (r : R) → IsLawf
     its it same = same_Some (at system next) it (sym does.writes ∙ same)
 
     -- how the appending of its record ends
-    pub ends-as : {T : Type 0} → (result : Result T AppendEnd) → IsKept meaning stands told volume before
+    pub ends-as : {T : Type 0} → (result : Result T AppendEnd) → IsKept meaning stands disk before
         → AppendedAs before.world now.world system next claim result → JournalsAs (system - 1) before.journals now.journals result
-        → UnchangedAs before now result → now.causes ≡ told_by before.causes system result → FullAs (system - 1) before.journals (log_of before.world system) next result
-        → CountsFault (IsErrOf result Volume) (faults before.vols) (faults now.vols) (system - 1)
-        → AppendsAs rules faults before now e (at system next) result
+        → UnchangedAs before now result → now.causes ≡ told_by before.causes system result →
+        FullAs (system - 1) before.journals (log_of before.world system) next result
+        → CountsFault (IsErrOf result Volume) (disk.faults before.vols) (disk.faults now.vols) (system - 1)
+        → AppendsAs rules disk before now e (at system next) result
     ends-as {T} (Ok done) kept did journals unchanged causes full counts = record {
       world = did ∙ sym behind;
       moments = subst (MomentsAs before.journals now.journals) (sym does.writes) journals;
@@ -144,7 +145,7 @@ module _ {R A V : Type 0} (meaning : R → Meaning) (lawful : (r : R) → IsLawf
           let it_is : IsTooLong before (at system next) size = subst (λ w. IsTooLong before w size) (sym (its it same)) long in
           let told_full : Ok done ≡ Err (Full size) = (full size (λ none. cc)).1 (it_is.long, it_is.over) in
           cc;
-      no_faults = counts-none _ (faults before.vols) (faults now.vols) (system - 1) (λ failed. cc) counts;
+      no_faults = counts-none _ (disk.faults before.vols) (disk.faults now.vols) (system - 1) (λ failed. cc) counts;
       causes = causes ∙ sym (causes-appending rules before.world e (at system next) before.causes does.writes);
     }
     ends-as (Err Volume) kept did journals unchanged causes full counts = record {
@@ -162,19 +163,19 @@ module _ {R A V : Type 0} (meaning : R → Meaning) (lawful : (r : R) → IsLawf
       world = did;
       tables = unchanged.1;
       journals = journals;
-      no_faults = counts-none _ (faults before.vols) (faults now.vols) (system - 1) (λ failed. cc) counts;
+      no_faults = counts-none _ (disk.faults before.vols) (disk.faults now.vols) (system - 1) (λ failed. cc) counts;
       causes = causes;
     }
     ends-as {T} (Err After) kept did journals unchanged causes full counts = record {
       world = did ∙ falls-behind;
       moments = journals;
       fits = λ size long. let told_full : Err After ≡ Err (Full size) = (full size (λ none. cc)).1 (long.long, long.over) in cc;
-      no_faults = counts-none _ (faults before.vols) (faults now.vols) (system - 1) (λ failed. cc) counts;
+      no_faults = counts-none _ (disk.faults before.vols) (disk.faults now.vols) (system - 1) (λ failed. cc) counts;
       causes = causes;
     }
 
     -- a landscape it is afterwards
-    pub landscape-ends : {T : Type 0} → (result : Result T AppendEnd) → AppendsAs rules faults before now e (at system next) result →
+    pub landscape-ends : {T : Type 0} → (result : Result T AppendEnd) → AppendsAs rules disk before now e (at system next) result →
         IsLandscape meaning (now.world)
     landscape-ends (Ok done) ends = landscape-step meaning lawful before.world now.world e is ends.world
     landscape-ends (Err Volume) ends = landscape-step meaning lawful before.world now.world (Fall system (Some next)) is ends.world
@@ -197,12 +198,12 @@ too_long-same before then it size logs moments moment long = record {
 }
 
 -- a record that did not fit, by which its system fell
-pub overflowed : {R A V : Type 0} (rules : Meaning) (faults : V → ℕ → ℕ) (before mid after : KeptOf R A V) (system : ℕ) (next : Record) (size : ℕ)
-    → is_up before.world system ≡ true → IsFull rules faults before mid (at system next) size → after.world ≡ with_fall mid.world system None
+pub overflowed : {R A V : Type 0} (rules : Meaning) (disk : Disk V) (before mid after : KeptOf R A V) (system : ℕ) (next : Record) (size : ℕ)
+    → is_up before.world system ≡ true → IsFull rules disk before mid (at system next) size → after.world ≡ with_fall mid.world system None
     → after.journals ≡ mid.journals → after.vols ≡ mid.vols → after.causes ≡ with_cause mid.causes system (Overran size)
     → AreCausesOf mid.world.systems mid.causes → system ≤ 16
-    → Overflowed rules faults before after (at system next)
-overflowed {R} {A} {V} rules faults before mid then system next size up full fell journals vols causes are most = record {
+    → Overflowed rules disk before after (at system next)
+overflowed {R} {A} {V} rules disk before mid then system next size up full fell journals vols causes are most = record {
   world = fell ∙ ap (λ (k : KeptOf R A V). with_fall k.world system None) full.same ∙ sym (falls-up rules before.world system up);
   journals = journals ∙ ap (λ (k : KeptOf R A V). k.journals) full.same;
   vols = vols ∙ ap (λ (k : KeptOf R A V). k.vols) full.same;
@@ -213,26 +214,26 @@ overflowed {R} {A} {V} rules faults before mid then system next size up full fel
 }
 
 -- a record of which it was said that it does not fit
-pub was-full : {R A V T : Type 0} (rules : Meaning) (faults : V → ℕ → ℕ) (before after : KeptOf R A V) (e : Event) (it : Writing) (result : Result T AppendEnd)
+pub was-full : {R A V T : Type 0} (rules : Meaning) (disk : Disk V) (before after : KeptOf R A V) (e : Event) (it : Writing) (result : Result T AppendEnd)
     (end : AppendEnd) (size : ℕ)
-    → result ≡ Err end → end ≡ Full size → AppendsAs rules faults before after e it result → IsFull rules faults before after it size
-was-full rules faults before then e it result end size is full ends = subst (AppendsAs rules faults before then e it) (is ∙ ap Err full) ends
+    → result ≡ Err end → end ≡ Full size → AppendsAs rules disk before after e it result → IsFull rules disk before after it size
+was-full rules disk before then e it result end size is full ends = subst (AppendsAs rules disk before then e it) (is ∙ ap Err full) ends
 
-module _ {R A V : Type 0} (rules : Meaning) (faults : V → ℕ → ℕ) (before after : KeptOf R A V) (system : ℕ) (next : Record) (claim : Option ℕ) (e : Event)
+module _ {R A V : Type 0} (rules : Meaning) (disk : Disk V) (before after : KeptOf R A V) (system : ℕ) (next : Record) (claim : Option ℕ) (e : Event)
     (does : Appends rules before.world system next claim e) (result : Result Appended OutOfMemory)
-    (ends : EndsSo rules faults before after system next claim result) where
+    (ends : EndsSo rules disk before after system next claim result) where
   -- a record that stands in its log: the event happened
-  pub was-written : (end : Appended) → result ≡ Ok end → end ≡ Written → Happened rules faults before after e
-  was-written end is written = subst (WrittenAs rules faults before after e (at system next)) (is ∙ ap Ok written) (ends e does)
+  pub was-written : (end : Appended) → result ≡ Ok end → end ≡ Written → Happened rules disk before after e
+  was-written end is written = subst (WrittenAs rules disk before after e (at system next)) (is ∙ ap Ok written) (ends e does)
 
   -- a record that is not there: its system fell
-  pub was-fallen : (end : Appended) → result ≡ Ok end → end ≡ Fallen → FellInstead rules faults before after e
-  was-fallen end is fallen = (at system next, does.writes, subst (WrittenAs rules faults before after e (at system next)) (is ∙ ap Ok fallen) (ends e does))
+  pub was-fallen : (end : Appended) → result ≡ Ok end → end ≡ Fallen → FellInstead rules disk before after e
+  was-fallen end is fallen = (at system next, does.writes, subst (WrittenAs rules disk before after e (at system next)) (is ∙ ap Ok fallen) (ends e does))
 
   -- memory was wanting
-  pub was-short : (short : OutOfMemory) → result ≡ Err short → IsShort rules faults before after e
-  was-short short is = by_end (subst (WrittenAs rules faults before after e (at system next)) is (ends e does))
+  pub was-short : (short : OutOfMemory) → result ≡ Err short → IsShort rules disk before after e
+  was-short short is = by_end (subst (WrittenAs rules disk before after e (at system next)) is (ends e does))
     where
-      by_end : Stays rules faults before after ⊎ FellBehind rules faults before after e (at system next) → IsShort rules faults before after e
+      by_end : Stays rules disk before after ⊎ FellBehind rules disk before after e (at system next) → IsShort rules disk before after e
       by_end (inl same) = inl same
       by_end (inr behind) = inr (at system next, does.writes, behind)

@@ -3,6 +3,7 @@ use Rattle.std.specs.Option.{option_and_then, option_map_or}
 use Rattle.std.specs.Prelude.{Contains, Result, Ok, Err}
 use Rattle.std.proofs.Common.{◌≡◌, ℕ, true, false, not, cond, ◌&&◌, Option, Some, refl, sym, ap, subst, ◌∙◌}
 use Rattle.std.proofs.lemmas.Bool.{both_ways}
+use Rattle.ale_volumes.specs.Disk.{Disk}
 use Rattle.ale_base.specs.Tid.{is_tid}
 use Rattle.ale_base.specs.declared.way.Way.TheVariants.{Incoming}
 use Rattle.ale_base.specs.declared.out_of_memory.OutOfMemory.{OutOfMemory}
@@ -163,15 +164,15 @@ failing rules lawful world safe claim held holds offers =
     (ap (is_offered_function rules world) holds.its ∙ offers)
 
 -- how the work of a claim ends, by how its record was appended
-module _ {R A V : Type 0} (rules : Meaning) (faults : V → ℕ → ℕ) (before after : KeptOf R A V) (claim : InClaim) (held : Held)
+module _ {R A V : Type 0} (rules : Meaning) (disk : Disk V) (before after : KeptOf R A V) (claim : InClaim) (held : Held)
     (holds : HoldsIn before.world claim held)
-    (next : Record) (result : Result Appended OutOfMemory) (ends : EndsSo rules faults before after held.system next (Some held.number) result) where
+    (next : Record) (result : Result Appended OutOfMemory) (ends : EndsSo rules disk before after held.system next (Some held.number) result) where
   abbrev number : held.number ≡ claim.number
   number = in-number before.world claim held holds
 
   pub executed-as : (receipt : Receipt) → receipt.tid ≡ claim.tid → is_offered_function rules before.world claim.tid ≡ true
       → Appends rules before.world held.system next (Some held.number) (event.Finish held.number)
-      → FinishedAs rules faults before after claim (finished_of (finished.Executed receipt) result)
+      → FinishedAs rules disk before after claim (finished_of (finished.Executed receipt) result)
   executed-as receipt its offers appends = at_end result refl
     where
       does : Appends rules before.world held.system next (Some held.number) (event.Finish claim.number)
@@ -180,27 +181,27 @@ module _ {R A V : Type 0} (rules : Meaning) (faults : V → ℕ → ℕ) (before
       is_finish : event.Finish claim.number ≡ finish_event rules before.world claim
       is_finish = sym (ap (λ b. cond b (event.Finish claim.number) (event.Fail claim.number)) offers)
 
-      at_end : (r : Result Appended OutOfMemory) → result ≡ r → FinishedAs rules faults before after claim (finished_of (finished.Executed receipt) r)
+      at_end : (r : Result Appended OutOfMemory) → result ≡ r → FinishedAs rules disk before after claim (finished_of (finished.Executed receipt) r)
       at_end (Ok Written) is = (
         in-stands before.world claim held holds,
         offers,
-        was-written rules faults before after held.system next (Some held.number) (event.Finish claim.number) does result ends Written is refl,
+        was-written rules disk before after held.system next (Some held.number) (event.Finish claim.number) does result ends Written is refl,
         its,
       )
       at_end (Ok Fallen) is = (
         in-stands before.world claim held holds,
-        subst (FellInstead rules faults before after) is_finish
-            (was-fallen rules faults before after held.system next (Some held.number) (event.Finish claim.number) does result ends Fallen is refl),
+        subst (FellInstead rules disk before after) is_finish
+            (was-fallen rules disk before after held.system next (Some held.number) (event.Finish claim.number) does result ends Fallen is refl),
       )
       at_end (Err short) is = (
         in-stands before.world claim held holds,
-        subst (IsShort rules faults before after) is_finish
-            (was-short rules faults before after held.system next (Some held.number) (event.Finish claim.number) does result ends short is),
+        subst (IsShort rules disk before after) is_finish
+            (was-short rules disk before after held.system next (Some held.number) (event.Finish claim.number) does result ends short is),
       )
 
   pub failed-as : is_offered_function rules before.world claim.tid ≡ false →
       Appends rules before.world held.system next (Some held.number) (event.Fail held.number)
-      → FinishedAs rules faults before after claim (finished_of finished.Failed result)
+      → FinishedAs rules disk before after claim (finished_of finished.Failed result)
   failed-as offers appends = at_end result refl
     where
       does : Appends rules before.world held.system next (Some held.number) (event.Fail claim.number)
@@ -209,19 +210,19 @@ module _ {R A V : Type 0} (rules : Meaning) (faults : V → ℕ → ℕ) (before
       is_fail : event.Fail claim.number ≡ finish_event rules before.world claim
       is_fail = sym (ap (λ b. cond b (event.Finish claim.number) (event.Fail claim.number)) offers)
 
-      at_end : (r : Result Appended OutOfMemory) → result ≡ r → FinishedAs rules faults before after claim (finished_of finished.Failed r)
+      at_end : (r : Result Appended OutOfMemory) → result ≡ r → FinishedAs rules disk before after claim (finished_of finished.Failed r)
       at_end (Ok Written) is = (
         in-stands before.world claim held holds,
         offers,
-        was-written rules faults before after held.system next (Some held.number) (event.Fail claim.number) does result ends Written is refl,
+        was-written rules disk before after held.system next (Some held.number) (event.Fail claim.number) does result ends Written is refl,
       )
       at_end (Ok Fallen) is = (
         in-stands before.world claim held holds,
-        subst (FellInstead rules faults before after) is_fail
-            (was-fallen rules faults before after held.system next (Some held.number) (event.Fail claim.number) does result ends Fallen is refl),
+        subst (FellInstead rules disk before after) is_fail
+            (was-fallen rules disk before after held.system next (Some held.number) (event.Fail claim.number) does result ends Fallen is refl),
       )
       at_end (Err short) is = (
         in-stands before.world claim held holds,
-        subst (IsShort rules faults before after) is_fail
-            (was-short rules faults before after held.system next (Some held.number) (event.Fail claim.number) does result ends short is),
+        subst (IsShort rules disk before after) is_fail
+            (was-short rules disk before after held.system next (Some held.number) (event.Fail claim.number) does result ends short is),
       )

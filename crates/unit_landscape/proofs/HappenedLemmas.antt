@@ -1,7 +1,7 @@
 -- Calls that append nothing, and what a call leaves on the volumes.
 use Rattle.std.proofs.Common.{◌≡◌, ℕ, ◌-◌, true, Option, Some, None, List, inl, refl, sym, ap, subst, ◌∙◌}
 use Rattle.std.proofs.lemmas.Option.{none-some}
-use Rattle.ale_volumes.specs.declared.volume.Volume.{Volume}
+use Rattle.ale_volumes.specs.Disk.{Disk}
 use Rattle.ale_volumes.specs.Volume.{IsImage}
 use Rattle.ale_volumes.specs.Clock.{LeavesOnly, KeepsOthers}
 use Rattle.ale_volumes.proofs.ClockLemmas.{started, others_kept}
@@ -30,78 +30,79 @@ use Rattle.unit_landscape.specs.Writes.{MomentsAs, WritesOnly, DiskAs}
 use Rattle.unit_landscape.specs.Ends.{Happened}
 
 -- an event that appends nothing happened, where the world is its and the journals and volumes are as before
-pub happened-none : {R A V : Type 0} (rules : Meaning) (faults : V → ℕ → ℕ) (before after : KeptOf R A V) (e : Event) → record_of rules before.world e ≡ None
+pub happened-none : {R A V : Type 0} (rules : Meaning) (disk : Disk V) (before after : KeptOf R A V) (e : Event) → record_of rules before.world e ≡ None
     → after.world ≡ happens rules before.world e → KeepsVolumes before after → causes_after e before.causes ≡ before.causes
-    → Happened rules faults before after e
-happened-none rules faults before now e none world keeps quiet = record {
+    → Happened rules disk before after e
+happened-none rules disk before now e none world keeps quiet = record {
   world = world;
   moments = subst (MomentsAs before.journals now.journals) (sym none) keeps.journals;
   fits = λ it same size long. absurd (none-some it (sym none ∙ same));
-  no_faults = λ place. ap (λ vols. faults vols place) keeps.vols;
+  no_faults = λ place. ap (λ vols. disk.faults vols place) keeps.vols;
   causes = keeps.causes ∙ sym quiet;
 }
 
 -- a system fell by a command
-pub happened-fall : {R A V : Type 0} (rules : Meaning) (faults : V → ℕ → ℕ) (before after : KeptOf R A V) (system : ℕ)
+pub happened-fall : {R A V : Type 0} (rules : Meaning) (disk : Disk V) (before after : KeptOf R A V) (system : ℕ)
     → after.world ≡ happens rules before.world (Fall system None) → after.journals ≡ before.journals → after.vols ≡ before.vols
-    → after.causes ≡ with_cause before.causes system Crashed → Happened rules faults before after (Fall system None)
-happened-fall rules faults before now system world journals vols causes = record {
+    → after.causes ≡ with_cause before.causes system Crashed → Happened rules disk before after (Fall system None)
+happened-fall rules disk before now system world journals vols causes = record {
   world = world;
   moments = journals;
   fits = λ it same size long. absurd (none-some it same);
-  no_faults = λ place. ap (λ vols. faults vols place) vols;
+  no_faults = λ place. ap (λ vols. disk.faults vols place) vols;
   causes = causes;
 }
 
-module _ {R A V : Type 0} (told : Type 0) (volume : V → ℕ → Volume) (moment : V → ℕ) (images_since : V → ℕ → ℕ → List ℕ → Type 0)
+module _ {R A V : Type 0} (disk : Disk V)
     (before after : KeptOf R A V) where
   -- a call that appends nothing calls no volume
-  pub disk-none : (found : Option Writing) → found ≡ None → KeepsVolumes before after → DiskAs told volume moment images_since before after found
-  disk-none found none keeps = subst (DiskAs told volume moment images_since before after) (sym none) keeps
+  pub disk-none : (found : Option Writing) → found ≡ None → KeepsVolumes before after → DiskAs disk before after found
+  disk-none found none keeps = subst (DiskAs disk before after) (sym none) keeps
 
   -- a call that appends a record writes it, and nothing else
-  pub disk-some : (found : Option Writing) (it : Writing) → found ≡ Some it → WritesOnly told volume moment images_since before after it
-      → DiskAs told volume moment images_since before after found
-  disk-some found it some writes = subst (DiskAs told volume moment images_since before after) (sym some) writes
+  pub disk-some : (found : Option Writing) (it : Writing) → found ≡ Some it → WritesOnly disk before after it
+      → DiskAs disk before after found
+  disk-some found it some writes = subst (DiskAs disk before after) (sym some) writes
 
   -- a call that was to append a record, and called no volume, leaves what it found
-  pub writes-nothing : (told → (vols : V) (n : ℕ) (image : List ℕ) → images_since vols n (moment vols) image → IsImage (volume vols n) image)
-      → AreOnVolumes told volume before.vols (before.world).systems before.journals → (it : Writing) → is_up before.world it.system ≡ true →
+  pub writes-nothing : (disk.told → (vols : V) (n : ℕ) (image : List ℕ) → disk.images_since vols n (disk.moment vols) image →
+      IsImage (disk.volume vols n) image)
+      → AreOnVolumes disk before.vols (before.world).systems before.journals → (it : Writing) → is_up before.world it.system ≡ true →
       KeepsVolumes before after
-      → WritesOnly told volume moment images_since before after it
+      → WritesOnly disk before after it
   writes-nothing only_now on_volumes it up keeps =
-      let disk = on_disk-up told volume before.vols before.world before.journals it.system up on_volumes in
+      let on_disk = on_disk-up disk before.vols before.world before.journals it.system up on_volumes in
       let place = it.system - 1 in
       let log = log_of before.world it.system in
       record {
-        any_moment = λ tells. subst (λ vols. LeavesOnly moment images_since before.vols vols place
+        any_moment = λ tells. subst (λ vols. LeavesOnly disk before.vols vols place
             (IsBeforeOrAfter (entries_at before.journals place log) (entry_with (next_moment before.journals place) it.next))) (sym keeps.vols)
-            (started moment images_since before.vols place
+            (started disk before.vols place
             (IsBeforeOrAfter (entries_at before.journals place log) (entry_with (next_moment before.journals place) it.next))
-            (λ image left. inl (IsOnDisk-stands told volume before.vols place before.journals log tells disk image
+            (λ image left. inl (IsOnDisk-stands disk before.vols place before.journals log tells on_disk image
             (only_now tells before.vols place image left))));
-        others = λ tells. subst (λ vols. KeepsOthers volume moment images_since before.vols vols place) (sym keeps.vols)
-            (others_kept moment images_since volume before.vols place);
+        others = λ tells. subst (λ vols. KeepsOthers disk before.vols vols place) (sym keeps.vols)
+            (others_kept disk before.vols place);
       }
 
   -- whatever an event was to append: where no volume was called all are as they were
-  pub disk-still : (told → (vols : V) (n : ℕ) (image : List ℕ) → images_since vols n (moment vols) image → IsImage (volume vols n) image)
-      → AreOnVolumes told volume before.vols (before.world).systems before.journals → (rules : Meaning) → IsLawful rules → Safe rules before.world →
+  pub disk-still : (disk.told → (vols : V) (n : ℕ) (image : List ℕ) → disk.images_since vols n (disk.moment vols) image → IsImage (disk.volume vols n) image)
+      → AreOnVolumes disk before.vols (before.world).systems before.journals → (rules : Meaning) → IsLawful rules → Safe rules before.world →
       (e : Event) → KeepsVolumes before after
-      → DiskAs told volume moment images_since before after (record_of rules before.world e)
+      → DiskAs disk before after (record_of rules before.world e)
   disk-still only_now on_volumes rules lawful safe e keeps = at (record_of rules before.world e) refl
     where
-      at : (found : Option Writing) → record_of rules before.world e ≡ found → DiskAs told volume moment images_since before after found
+      at : (found : Option Writing) → record_of rules before.world e ≡ found → DiskAs disk before after found
       at None is = keeps
       at (Some it) is = writes-nothing only_now on_volumes it (MayWrite-record rules lawful before.world safe e it is).up keeps
 
 -- the same of a call of a landscape, as its callers see it
-pub disk-seen : {R A V : Type 0} (told : Type 0) (volume : V → ℕ → Volume) (moment : V → ℕ) (images_since : V → ℕ → ℕ → List ℕ → Type 0)
-    → (told → (vols : V) (n : ℕ) (image : List ℕ) → images_since vols n (moment vols) image → IsImage (volume vols n) image)
+pub disk-seen : {R A V : Type 0} (disk : Disk V)
+    → (disk.told → (vols : V) (n : ℕ) (image : List ℕ) → disk.images_since vols n (disk.moment vols) image → IsImage (disk.volume vols n) image)
     → (meaning : R → Meaning) → ((rules : R) → IsLawful (meaning rules)) → (kept seen : KeptOf R A V) → kept ≡ seen → IsLandscape meaning kept.world
-    → AreOnVolumes told volume kept.vols (kept.world).systems kept.journals → (event : World R → Event)
-    → DiskAs told volume moment images_since seen seen (record_of (meaning seen.world.rules) seen.world (event seen.world))
-disk-seen told volume moment images_since only_now meaning lawful kept seen same is on_volumes event =
-    subst (λ k. DiskAs told volume moment images_since k k (record_of (meaning k.world.rules) k.world (event k.world))) same
-    (disk-still told volume moment images_since kept kept only_now on_volumes (meaning kept.world.rules) (lawful kept.world.rules) is.safe (event kept.world)
+    → AreOnVolumes disk kept.vols (kept.world).systems kept.journals → (event : World R → Event)
+    → DiskAs disk seen seen (record_of (meaning seen.world.rules) seen.world (event seen.world))
+disk-seen disk only_now meaning lawful kept seen same is on_volumes event =
+    subst (λ k. DiskAs disk k k (record_of (meaning k.world.rules) k.world (event k.world))) same
+    (disk-still disk kept kept only_now on_volumes (meaning kept.world.rules) (lawful kept.world.rules) is.safe (event kept.world)
     (record { journals = refl; vols = refl; causes = refl }))

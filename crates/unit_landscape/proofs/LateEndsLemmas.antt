@@ -6,7 +6,7 @@ use Rattle.std.proofs.Common.{◌∙◌}
 use Rattle.std.proofs.lemmas.Bool.{cases_Bool}
 use Rattle.ale_base.specs.Tid.{TidOf}
 use Rattle.ale_base.proofs.MemberLemmas.{Contains-here, Contains-there}
-use Rattle.ale_volumes.specs.declared.volume.Volume.{Volume as OneVolume}
+use Rattle.ale_volumes.specs.Disk.{Disk}
 use Rattle.ale_volumes.specs.Volume.{IsImage}
 use Rattle.unit_core.specs.declared.ale_unit.AleUnit.{AleUnit}
 use Rattle.unit_core.specs.declared.records.Record.{Record}
@@ -106,52 +106,52 @@ module _ {R : Type 0} (rules : Meaning) (lawful : IsLawful rules) (world : World
   }
 
 -- where no volume was called all are as they were, whatever may come late
-pub late-still : {R A V : Type 0} (told : Type 0) (volume : V → ℕ → OneVolume) (moment : V → ℕ) (images_since : V → ℕ → ℕ → List ℕ → Type 0)
+pub late-still : {R A V : Type 0} (disk : Disk V)
     (before : KeptOf R A V)
-    → (told → (vols : V) (n : ℕ) (image : List ℕ) → images_since vols n (moment vols) image → IsImage (volume vols n) image)
-    → AreOnVolumes told volume before.vols (before.world).systems before.journals → (rules : Meaning) (tid : TidOf)
-    → DiskAs told volume moment images_since before before (late_record rules before.world tid)
-late-still told volume moment images before only_now on_volumes rules tid = by_unit (committed_unit rules before.world tid)
+    → (disk.told → (vols : V) (n : ℕ) (image : List ℕ) → disk.images_since vols n (disk.moment vols) image → IsImage (disk.volume vols n) image)
+    → AreOnVolumes disk before.vols (before.world).systems before.journals → (rules : Meaning) (tid : TidOf)
+    → DiskAs disk before before (late_record rules before.world tid)
+late-still disk before only_now on_volumes rules tid = by_unit (committed_unit rules before.world tid)
   where
     by_answer : (unit : AleUnit) (given : Answer) → answer_to rules before.world unit ≡ given
-        → DiskAs told volume moment images before before (record_of_late unit given)
+        → DiskAs disk before before (record_of_late unit given)
     by_answer unit answer.New is =
-        writes-nothing told volume moment images before before only_now on_volumes (at unit.receiver (log.Accept unit))
+        writes-nothing disk before before only_now on_volumes (at unit.receiver (log.Accept unit))
         (answer-up rules before.world unit answer.New is (λ same. cc)) (record { journals = refl; vols = refl; causes = refl })
     by_answer unit answer.Run is =
-        writes-nothing told volume moment images before before only_now on_volumes (at unit.receiver (log.Direct unit))
+        writes-nothing disk before before only_now on_volumes (at unit.receiver (log.Direct unit))
         (answer-up rules before.world unit answer.Run is (λ same. cc)) (record { journals = refl; vols = refl; causes = refl })
     by_answer unit answer.Down is = record { journals = refl; vols = refl; causes = refl }
     by_answer unit answer.Known is = record { journals = refl; vols = refl; causes = refl }
     by_answer unit answer.Busy is = record { journals = refl; vols = refl; causes = refl }
     by_answer unit answer.SysFail is = record { journals = refl; vols = refl; causes = refl }
 
-    by_unit : (found : Option AleUnit) → DiskAs told volume moment images before before
+    by_unit : (found : Option AleUnit) → DiskAs disk before before
         (option_and_then (λ unit. record_of_late unit (answer_to rules before.world unit)) found)
     by_unit None = record { journals = refl; vols = refl; causes = refl }
     by_unit (Some unit) = by_answer unit (answer_to rules before.world unit) refl
 
 -- an arrival that appends nothing and claims nothing leaves all as it is
-pub arrived-still : {R A V : Type 0} (rules : Meaning) (faults : V → ℕ → ℕ) (before : KeptOf R A V) (unit : AleUnit) (given : Answer)
+pub arrived-still : {R A V : Type 0} (rules : Meaning) (disk : Disk V) (before : KeptOf R A V) (unit : AleUnit) (given : Answer)
     → Arrives rules before.world unit given
-    → record_of_answer unit given ≡ None → with_run before.world unit given ≡ before.world → Happened rules faults before before (event.Arrive unit.tid)
-arrived-still rules faults before unit given arrives none stays =
-    happened-none rules faults before before (event.Arrive unit.tid) (arrival-record rules before.world unit given arrives ∙ none)
+    → record_of_answer unit given ≡ None → with_run before.world unit given ≡ before.world → Happened rules disk before before (event.Arrive unit.tid)
+arrived-still rules disk before unit given arrives none stays =
+    happened-none rules disk before before (event.Arrive unit.tid) (arrival-record rules before.world unit given arrives ∙ none)
     (sym (arrival-after rules before.world unit given arrives ∙ ap (λ found. written found (with_run before.world unit given)) none ∙ stays))
     (record { journals = refl; vols = refl; causes = refl }) refl
 
 -- ---- a unit is taken in
 
 -- what comes of a unit that is taken in, by how its record was appended
-pub taken-as : {R A V T : Type 0} (rules : Meaning) (faults : V → ℕ → ℕ) (before after : KeptOf R A V) (unit : AleUnit)
+pub taken-as : {R A V T : Type 0} (rules : Meaning) (disk : Disk V) (before after : KeptOf R A V) (unit : AleUnit)
     → ComesLate rules before.world unit answer.New
-    → (result : Result T AppendEnd) → AppendsAs rules faults before after (event.Arrive unit.tid) (at unit.receiver (log.Accept unit)) result
-    → LateAs rules faults before after unit.tid (late_of result)
-taken-as rules faults before then unit comes (Ok done) ends = (unit, comes.late, inl (comes.answers, ends))
-taken-as rules faults before then unit comes (Err Volume) ends = (unit, comes.late, inr (inl (comes.answers, ends)))
-taken-as rules faults before then unit comes (Err (TooLong size)) ends = (unit, comes.late, inl (comes.answers, ends))
-taken-as rules faults before then unit comes (Err Before) ends = inl ends
-taken-as rules faults before then unit comes (Err After) ends = inr (unit, comes.late, inl (comes.answers, ends))
+    → (result : Result T AppendEnd) → AppendsAs rules disk before after (event.Arrive unit.tid) (at unit.receiver (log.Accept unit)) result
+    → LateAs rules disk before after unit.tid (late_of result)
+taken-as rules disk before then unit comes (Ok done) ends = (unit, comes.late, inl (comes.answers, ends))
+taken-as rules disk before then unit comes (Err Volume) ends = (unit, comes.late, inr (inl (comes.answers, ends)))
+taken-as rules disk before then unit comes (Err (TooLong size)) ends = (unit, comes.late, inl (comes.answers, ends))
+taken-as rules disk before then unit comes (Err Before) ends = inl ends
+taken-as rules disk before then unit comes (Err After) ends = inr (unit, comes.late, inl (comes.answers, ends))
 
 -- ---- a unit is run
 
@@ -187,42 +187,42 @@ module _ {R A V : Type 0} (before : KeptOf R A V) (unit : AleUnit) where
       (claim_of-Contains with_run_claimed.claims held safe.apart (contains_last before.world.claims held)) refl unit comes.late.committed
 
 -- where the record of a run was not appended and no system fell, its claim was made last
-pub run-known : {R A V T : Type 0} (meaning : R → Meaning) (stands : A → List Record → Type 0) (rules : Meaning) (faults : V → ℕ → ℕ)
+pub run-known : {R A V T : Type 0} (meaning : R → Meaning) (stands : A → List Record → Type 0) (rules : Meaning) (disk : Disk V)
     (before last : KeptOf R A V) (unit : AleUnit)
     → IsLandscape meaning before.world → AreInStepWith stands meaning before.world before.tables → (e : Event) (it : Writing)
-    → (result : Result T AppendEnd) → AppendsAs rules faults (claimed_by before unit) last e it result → IsGivenBack meaning stands before last result
-run-known meaning stands rules faults before last unit is in_step e it (Ok done) ends undone = cc
-run-known meaning stands rules faults before last unit is in_step e it (Err Volume) ends undone = cc
-run-known {R} {A} {V} meaning stands rules faults before last unit is in_step e it (Err (TooLong size)) ends undone = record {
+    → (result : Result T AppendEnd) → AppendsAs rules disk (claimed_by before unit) last e it result → IsGivenBack meaning stands before last result
+run-known meaning stands rules disk before last unit is in_step e it (Ok done) ends undone = cc
+run-known meaning stands rules disk before last unit is in_step e it (Err Volume) ends undone = cc
+run-known {R} {A} {V} meaning stands rules disk before last unit is in_step e it (Err (TooLong size)) ends undone = record {
   tid = unit.tid;
   system = unit.receiver;
   claimed = ap (λ (k : KeptOf R A V). k.world) ends.same;
   landscape = is;
   in_step = subst (AreInStepWith stands meaning before.world) (sym (ap (λ (k : KeptOf R A V). k.tables) ends.same)) in_step;
 }
-run-known meaning stands rules faults before last unit is in_step e it (Err Before) ends undone = record {
+run-known meaning stands rules disk before last unit is in_step e it (Err Before) ends undone = record {
   tid = unit.tid;
   system = unit.receiver;
   claimed = ends.world;
   landscape = is;
   in_step = subst (AreInStepWith stands meaning before.world) (sym ends.tables) in_step;
 }
-run-known meaning stands rules faults before last unit is in_step e it (Err After) ends undone = cc
+run-known meaning stands rules disk before last unit is in_step e it (Err After) ends undone = cc
 
 -- a claim that was taken back leaves the world before it
 pub given-back : {R A V : Type 0} (meaning : R → Meaning) (stands : A → List Record → Type 0) (before last : KeptOf R A V) (after : World R)
     → IsOfRun meaning stands before last → after ≡ without_last_claim last.world → after ≡ before.world
 given-back meaning stands before last after run back = back ∙ ap without_last_claim run.claimed ∙ claim-undone before.world run.tid run.system Direct
 
-module _ {R A V : Type 0} (rules : Meaning) (lawful : IsLawful rules) (faults : V → ℕ → ℕ) (before last after : KeptOf R A V)
+module _ {R A V : Type 0} (rules : Meaning) (lawful : IsLawful rules) (disk : Disk V) (before last after : KeptOf R A V)
     (safe : Safe rules before.world) (unit : AleUnit)
     (comes : ComesLate rules before.world unit answer.Run) where
   -- what comes of a unit that is run, by how its record was appended
   pub ran-as : {T : Type 0} → (result : Result T AppendEnd)
-      → AppendsAs rules faults (begun_by rules before unit.tid) last (event.Finish before.world.next_number) (at unit.receiver (log.Direct unit)) result
-      → GivesBack before last after result → LateAs rules faults before after unit.tid (late_of result)
-  ran-as (Ok done) ends gives = subst (λ k. LateAs rules faults before k unit.tid (Ok New)) (sym (gives.done refl)) (unit, comes.late, inr (comes.answers, ends))
-  ran-as (Err Volume) ends gives = subst (λ k. LateAs rules faults before k unit.tid (Ok Down)) (sym (gives.done refl))
+      → AppendsAs rules disk (begun_by rules before unit.tid) last (event.Finish before.world.next_number) (at unit.receiver (log.Direct unit)) result
+      → GivesBack before last after result → LateAs rules disk before after unit.tid (late_of result)
+  ran-as (Ok done) ends gives = subst (λ k. LateAs rules disk before k unit.tid (Ok New)) (sym (gives.done refl)) (unit, comes.late, inr (comes.answers, ends))
+  ran-as (Err Volume) ends gives = subst (λ k. LateAs rules disk before k unit.tid (Ok Down)) (sym (gives.done refl))
       (unit, comes.late, inr (inr (comes.answers, ends)))
   ran-as (Err (TooLong size)) ends gives =
       let back = gives.undone refl in
@@ -248,8 +248,8 @@ module _ {R A V : Type 0} (rules : Meaning) (lawful : IsLawful rules) (faults : 
     world = back.0;
     tables = back.1 ∙ ends.tables;
     journals = back.2.journals ∙ ends.journals;
-    no_faults = λ place. ap (λ vols. faults vols place) back.2.vols ∙ ends.no_faults place;
+    no_faults = λ place. ap (λ vols. disk.faults vols place) back.2.vols ∙ ends.no_faults place;
     causes = back.2.causes ∙ ends.causes;
   })
   ran-as {T} (Err After) ends gives =
-      subst (λ k. LateAs rules faults before k unit.tid (late_of {T = T} (Err After))) (sym (gives.done refl)) (inr (unit, comes.late, inr (comes.answers, ends)))
+      subst (λ k. LateAs rules disk before k unit.tid (late_of {T = T} (Err After))) (sym (gives.done refl)) (inr (unit, comes.late, inr (comes.answers, ends)))

@@ -42,6 +42,8 @@ pub mod ClaimEndsLemmas
 pub mod JoinsLemmas
 -- how the appending of a record ends
 pub mod EndsLemmas
+-- what a crash inside a call leaves is sound
+pub mod CrashLemmas
 -- however a call ends, no sum has fallen
 pub mod CallTotals
 -- the arrival of a unit

@@ -6,7 +6,7 @@ use Rattle.std.proofs.lemmas.Bool.{cases_eq, cases_lt, both_ways}
 use Rattle.std.proofs.lemmas.Option.{same_Some, slice_get_within}
 use Rattle.ale_base.proofs.ListLemmas.{slice_get-front}
 use Rattle.ale_base.proofs.SnocLemmas.{slice_get-last}
-use Rattle.ale_volumes.specs.declared.volume.Volume.{Volume as OneVolume}
+use Rattle.ale_volumes.specs.Disk.{Disk}
 use Rattle.ale_volumes.specs.Faults.{CountsFault}
 use Rattle.byte_journal.specs.Log.{Stands as StandsForBodies, ReadsAs}
 use Rattle.byte_journal.specs.Settled.{LeavesOnlyLater, LeavesOnlyFromSync}
@@ -104,42 +104,42 @@ in_step-opened {A} stands rules lawful systems claims tables application begins 
     }
 
 -- one system more with an empty log leaves the moments of all logs in order
-order-opened : {D : Type 0} (told : Type 0) (volume : D → ℕ → OneVolume) (new : D) (before after : SystemJournals) → IsNext before after
-    → ((place : ℕ) → AreInOrder (moments_at before place)) → IsOnDisk told volume new (count_of before) after []
+order-opened : {D : Type 0} (disk : Disk D) (new : D) (before after : SystemJournals) → IsNext before after
+    → ((place : ℕ) → AreInOrder (moments_at before place)) → IsOnDisk disk new (count_of before) after []
     → (place : ℕ) → AreInOrder (moments_at after place)
-order-opened told volume new before after next order disk place = elim (cases_lt place (count_of before)) [
+order-opened disk new before after next order on_disk place = elim (cases_lt place (count_of before)) [
   | inl older ↦ AreInOrder-same place before after (next.others place older).moments (order place)
   | inr not_older ↦ elim (cases_eq place (count_of before)) [
-    | inl same ↦ subst (λ k. AreInOrder (moments_at after k)) (sym same) (AreInOrder-none (moments_at after (count_of before)) disk.each)
+    | inl same ↦ subst (λ k. AreInOrder (moments_at after k)) (sym same) (AreInOrder-none (moments_at after (count_of before)) on_disk.each)
     | inr differs ↦ AreInOrder-past place after next.moments (omega (arith, next.count, not_older, differs))
   ]
 ]
 
 -- one system more, whose volume is opened and holds the empty log, leaves what the other volumes hold
-on_volumes-opened : {D : Type 0} (told : Type 0) (volume : D → ℕ → OneVolume) (old new : D) (systems : List SystemState) (before after : SystemJournals)
-    → AreOnVolumes told volume old systems before → length systems < 16 → IsNext before after
-    → ((other : ℕ) → other ≢ count_of before → told → volume new other ≡ volume old other)
-    → IsOnDisk told volume new (count_of before) after []
-    → AreOnVolumes told volume new (systems ++ first_state [] ∷ []) after
-on_volumes-opened told volume old new systems before after are room next others disk = record {
+on_volumes-opened : {D : Type 0} (disk : Disk D) (old new : D) (systems : List SystemState) (before after : SystemJournals)
+    → AreOnVolumes disk old systems before → length systems < 16 → IsNext before after
+    → ((other : ℕ) → other ≢ count_of before → disk.told → disk.volume new other ≡ disk.volume old other)
+    → IsOnDisk disk new (count_of before) after []
+    → AreOnVolumes disk new (systems ++ first_state [] ∷ []) after
+on_volumes-opened disk old new systems before after are room next others on_disk = record {
   count = next.count ∙ ap (λ n. n + 1) are.count ∙ sym (length-append systems (first_state [] ∷ []));
   moments = next.moments;
-  order = λ place. order-opened told volume new before after next are.order disk place;
+  order = λ place. order-opened disk new before after next are.order on_disk place;
   few = omega (arith, room, length-append systems (first_state [] ∷ []));
   up = λ place state at up. elim (cases_eq place (length systems)) [
     | inl same ↦
-        subst (λ (s : SystemState). IsOnDisk told volume new place after s.log) (at-end systems (first_state []) state place same at)
-        (subst (λ n. IsOnDisk told volume new n after []) (are.count ∙ sym same) disk)
+        subst (λ (s : SystemState). IsOnDisk disk new place after s.log) (at-end systems (first_state []) state place same at)
+        (subst (λ n. IsOnDisk disk new n after []) (are.count ∙ sym same) on_disk)
     | inr differs ↦
         let here = before-end systems (first_state []) state place differs at in
-        IsOnDisk-same told volume old new place before after state.log (others place (λ e. differs (e ∙ are.count)))
+        IsOnDisk-same disk old new place before after state.log (others place (λ e. differs (e ∙ are.count)))
         (next.others place (subst (λ n. place < n) (sym are.count) here.0)) (are.up place state here.1 up)
   ];
   down = λ place state at down. elim (cases_eq place (length systems)) [
     | inl same ↦ absurd (both_ways state.up down (sym (ap (λ (s : SystemState). s.up) (at-end systems (first_state []) state place same at))))
     | inr differs ↦
         let here = before-end systems (first_state []) state place differs at in
-        IsLeftOnDisk-same told volume old new place before after state.log state.rest (others place (λ e. differs (e ∙ are.count)))
+        IsLeftOnDisk-same disk old new place before after state.log state.rest (others place (λ e. differs (e ∙ are.count)))
         (next.others place (subst (λ n. place < n) (sym are.count) here.0)) (are.down place state here.1 down)
   ];
 }
@@ -153,15 +153,14 @@ begins-opened world begins =
 
 -- one system more that is opened leaves all kept
 pub IsOpening-opened : {R A V : Type 0} (meaning : R → Meaning) (lawful : (rules : R) → IsLawful (meaning rules)) (stands : A → List Record → Type 0)
-    (told : Type 0)
-    (volume : V → ℕ → OneVolume) (before after : KeptOf R A V) (application : A) → IsOpening meaning stands told volume before
+    (disk : Disk V) (before after : KeptOf R A V) (application : A) → IsOpening meaning stands disk before
     → length before.world.systems < (meaning before.world.rules).systems → stands application []
     → after.world ≡ with_opened before.world → after.tables ≡ before.tables ++ no_tables application ∷ []
     → IsNext before.journals after.journals
-    → ((other : ℕ) → other ≢ count_of before.journals → told → volume after.vols other ≡ volume before.vols other)
-    → IsOnDisk told volume after.vols (count_of before.journals) after.journals [] → before.causes ≡ no_causes → after.causes ≡ no_causes
-    → IsOpening meaning stands told volume after
-IsOpening-opened {R} {A} meaning lawful stands told volume before after application opening room begins world tables next others disk none_before none =
+    → ((other : ℕ) → other ≢ count_of before.journals → disk.told → disk.volume after.vols other ≡ disk.volume before.vols other)
+    → IsOnDisk disk after.vols (count_of before.journals) after.journals [] → before.causes ≡ no_causes → after.causes ≡ no_causes
+    → IsOpening meaning stands disk after
+IsOpening-opened {R} {A} meaning lawful stands disk before after application opening room begins world tables next others on_disk none_before none =
     let most = (lawful before.world.rules).systems_most in
     record {
       kept = record {
@@ -170,10 +169,10 @@ IsOpening-opened {R} {A} meaning lawful stands told volume before after applicat
             (in_step-opened stands (meaning before.world.rules) (lawful before.world.rules) before.world.systems before.world.claims before.tables application
             begins
             opening.kept.in_step));
-        on_volumes = subst (λ (w : World R). AreOnVolumes told volume after.vols w.systems after.journals) (sym world)
-            (on_volumes-opened told volume before.vols after.vols before.world.systems before.journals after.journals opening.kept.on_volumes
+        on_volumes = subst (λ (w : World R). AreOnVolumes disk after.vols w.systems after.journals) (sym world)
+            (on_volumes-opened disk before.vols after.vols before.world.systems before.journals after.journals opening.kept.on_volumes
             (omega (arith, room, most))
-            next others disk);
+            next others on_disk);
         causes = subst (λ (w : World R). AreCausesOf w.systems after.causes) (sym world)
             (subst (AreCausesOf (with_opened before.world).systems) (sym none)
             (causes-opened before.world.systems (subst (AreCausesOf before.world.systems) none_before opening.kept.causes)));
@@ -190,11 +189,11 @@ empty-read bytes image stands (inr (log, one, other)) = record {
 }
 
 -- where no call failed and the bytes stand for the empty log, a crash leaves from some moment on what stands for it
-pub empty-later : {D : Type 0} (volume : D → ℕ → OneVolume) (moment : D → ℕ) (images_since : D → ℕ → ℕ → List ℕ → Type 0) (old new : D) (n : ℕ) (bytes : List ℕ)
-    (Failed : Type 0) → (Failed → ⊥) → Stands bytes [] → LeavesOnlyFromSync volume moment images_since old new n Failed (ReadsAs bytes)
-    → LeavesOnlyLater moment images_since old new n (λ image. Stands image [])
-empty-later volume moment images_since old new n bytes Failed never stands (inl failed) = absurd (never failed.0)
-empty-later volume moment images_since old new n bytes Failed never stands (inr later) = record {
+pub empty-later : {D : Type 0} (disk : Disk D) (old new : D) (n : ℕ) (bytes : List ℕ)
+    (Failed : Type 0) → (Failed → ⊥) → Stands bytes [] → LeavesOnlyFromSync disk old new n Failed (ReadsAs bytes)
+    → LeavesOnlyLater disk old new n (λ image. Stands image [])
+empty-later disk old new n bytes Failed never stands (inl failed) = absurd (never failed.0)
+empty-later disk old new n bytes Failed never stands (inr later) = record {
   from = later.from;
   not_before = later.not_before;
   not_after = later.not_after;
@@ -214,9 +213,9 @@ faults-told {T} why before after n counts = record {
   others = counts.others;
 }
 
-pub sync-told : {D T : Type 0} (volume : D → ℕ → OneVolume) (moment : D → ℕ) (images_since : D → ℕ → ℕ → List ℕ → Type 0) (old new : D) (n : ℕ)
+pub sync-told : {D T : Type 0} (disk : Disk D) (old new : D) (n : ℕ)
     (P : List ℕ → Type 0)
-    (why : OpenFault) → LeavesOnlyFromSync volume moment images_since old new n (IsErrOf {T = T} (Err why) Volume) P
-    → LeavesOnlyFromSync volume moment images_since old new n (why ≡ Volume) P
-sync-told {T = T} volume moment images_since old new n P why (inl failed) = inl (fault-told {T = T} why failed.0, failed.1)
-sync-told volume moment images_since old new n P why (inr later) = inr later
+    (why : OpenFault) → LeavesOnlyFromSync disk old new n (IsErrOf {T = T} (Err why) Volume) P
+    → LeavesOnlyFromSync disk old new n (why ≡ Volume) P
+sync-told {T = T} disk old new n P why (inl failed) = inl (fault-told {T = T} why failed.0, failed.1)
+sync-told disk old new n P why (inr later) = inr later

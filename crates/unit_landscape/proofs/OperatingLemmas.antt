@@ -3,6 +3,7 @@ use Rattle.std.specs.Prelude.{◌≢◌, Result, Ok, Err}
 use Rattle.std.specs.Option.{option_map_or}
 use Rattle.std.proofs.Common.{◌≡◌, ℕ, true, false, not, ◌&&◌, ◌||◌, Option, Some, None, List, [], ◌∷◌, inl, inr, refl, sym, ap, ◌∙◌}
 use Rattle.std.proofs.lemmas.Bool.{and_parts}
+use Rattle.ale_volumes.specs.Disk.{Disk}
 use Rattle.ale_base.specs.Tid.{TidOf}
 use Rattle.ale_base.specs.declared.way.Way.{Way}
 use Rattle.ale_base.specs.declared.way.Way.TheVariants.{Outgoing, Incoming}
@@ -127,14 +128,14 @@ module _ {R : Type 0} (rules : Meaning) (world : World R) (system : ℕ) (next :
     asked-appends = operator-appends asked-record (silent-texts next silent)
 
 -- how an operator's record is appended, by how its record was
-pub operated-as : {R A V T : Type 0} (rules : Meaning) (faults : V → ℕ → ℕ) (before after : KeptOf R A V) (system : ℕ) (next : Record)
+pub operated-as : {R A V T : Type 0} (rules : Meaning) (disk : Disk V) (before after : KeptOf R A V) (system : ℕ) (next : Record)
     (result : Result T AppendEnd)
     → is_up before.world system ≡ true → may_follow rules system (log_of before.world system) next ≡ true
     → record_of rules before.world (event.Operator (Append system next)) ≡ Some (at system next)
-    → AppendsAs rules faults before after (event.Operator (Append system next)) (at system next) result
-    → OperatedAs rules faults before after system next (operated_of result)
-operated-as rules faults before then system next (Ok done) up may writes ends = (ends, writes)
-operated-as rules faults before then system next (Err Volume) up may writes ends = ((up, may), ends)
-operated-as rules faults before then system next (Err (Full size)) up may writes ends = ((up, may), ends)
-operated-as rules faults before then system next (Err Before) up may writes ends = ((up, may), inl ends)
-operated-as rules faults before then system next (Err After) up may writes ends = ((up, may), inr (at system next, writes, ends))
+    → AppendsAs rules disk before after (event.Operator (Append system next)) (at system next) result
+    → OperatedAs rules disk before after system next (operated_of result)
+operated-as rules disk before then system next (Ok done) up may writes ends = (ends, writes)
+operated-as rules disk before then system next (Err Volume) up may writes ends = ((up, may), ends)
+operated-as rules disk before then system next (Err (Full size)) up may writes ends = ((up, may), ends)
+operated-as rules disk before then system next (Err Before) up may writes ends = ((up, may), inl ends)
+operated-as rules disk before then system next (Err After) up may writes ends = ((up, may), inr (at system next, writes, ends))

@@ -1,7 +1,7 @@
 -- How the write of a record ends, by what the journal answered.
 use Rattle.std.specs.Prelude.{Result, Ok, Err, OnOk, OnErr, IfErr, IsErrOf}
 use Rattle.std.proofs.Common.{◌≡◌, ℕ, ◌-◌, ◌≤◌, true, Option, Some, List, length, refl, sym, ap, subst, ◌∙◌}
-use Rattle.ale_volumes.specs.declared.volume.Volume.{Volume as OneVolume}
+use Rattle.ale_volumes.specs.Disk.{Disk}
 use Rattle.ale_volumes.specs.Faults.{CountsFault}
 use Rattle.unit_core.specs.declared.ale_unit.AleUnit.{AleUnit}
 use Rattle.unit_core.specs.declared.records.Record.{Record}
@@ -43,22 +43,22 @@ faults-ended w r old new place is counts = record {
 }
 
 -- what is known of a write that ended: the record is written, or all is as it was, or the system fell
-pub record EndsAs {R A E D : Type 0} (meaning : R → Meaning) (stands : A → List Record → Type 0) (told : Type 0) (volume : D → ℕ → OneVolume)
+pub record EndsAs {R A E D : Type 0} (meaning : R → Meaning) (stands : A → List Record → Type 0) (disk : Disk D)
     (before after : WorldTables R A E) (held noted : SystemJournals) (old new : D) (system : ℕ) (next : Record) (more : List AleUnit)
     (r : Result (Unit {0}) AppendEnd) : Type 0 where
-  pub written : OnOk r (IsWritten told volume (kept_of before held old) (kept_of after noted new) system next more)
+  pub written : OnOk r (IsWritten disk (kept_of before held old) (kept_of after noted new) system next more)
   pub ended : IfErr r (EndedAs before.world after.world system next)
-  pub stored : OnErr r (IsStored meaning stands told volume (kept_of after noted new))
+  pub stored : OnErr r (IsStored meaning stands disk (kept_of after noted new))
   pub journals : JournalsAs (system - 1) held noted r
   pub unchanged : UnchangedAs (kept_of before held old) (kept_of after noted new) r
   pub full : FullAs (system - 1) held (log_of before.world system) next r
 
-module _ {R A E D : Type 0} (meaning : R → Meaning) (stands : A → List Record → Type 0) (told : Type 0) (volume : D → ℕ → OneVolume)
+module _ {R A E D : Type 0} (meaning : R → Meaning) (stands : A → List Record → Type 0) (disk : Disk D)
     (before entered after : WorldTables R A E) (held noted : SystemJournals) (old new : D) (system : ℕ) (next : Record)
-    (kept : IsStored meaning stands told volume (kept_of before held old)) (can : IsToWrite before.world system next) where
+    (kept : IsStored meaning stands disk (kept_of before held old)) (can : IsToWrite before.world system next) where
   -- what is known of a write to the log of the system
   abbrev Wrote : Result (Unit {0}) AppendFault → Type 0
-  Wrote w = IsWriteOf told volume old new (system - 1) held noted (log_of before.world system) next w
+  Wrote w = IsWriteOf disk old new (system - 1) held noted (log_of before.world system) next w
 
   abbrev Concluded : Result (Unit {0}) AppendFault → Type 0
   Concluded w = ConcludedAs before entered after system next (ended_by w)
@@ -73,14 +73,14 @@ module _ {R A E D : Type 0} (meaning : R → Meaning) (stands : A → List Recor
 
   -- where the journal took the record it is written
   written-ended : (more : List AleUnit) (w : Result (Unit {0}) AppendFault) → Wrote w → Concluded w → IsEntered before entered system next more
-      → OnOk (ended_by w) (IsWritten told volume (kept_of before held old) (kept_of after noted new) system next more)
+      → OnOk (ended_by w) (IsWritten disk (kept_of before held old) (kept_of after noted new) system next more)
   written-ended more (Ok done) wrote concluded is =
-      subst (λ (b : WorldTables R A E). IsWritten told volume (kept_of before held old) (kept_of b noted new) system next more) (sym concluded)
+      subst (λ (b : WorldTables R A E). IsWritten disk (kept_of before held old) (kept_of b noted new) system next more) (sym concluded)
       (record {
         world = is.world;
         entered = is.tables;
-        on_volumes = subst (λ w. AreOnVolumes told volume new w.systems noted) (sym is.world)
-            (on_volumes-written told volume old new before.world held noted system can.up kept.on_volumes wrote.one
+        on_volumes = subst (λ w. AreOnVolumes disk new w.systems noted) (sym is.world)
+            (on_volumes-written disk old new before.world held noted system can.up kept.on_volumes wrote.one
             (AreInOrder-grown (system - 1) held noted wrote.grown (kept.on_volumes.order (system - 1))) wrote.others next wrote.written);
       })
   written-ended more (Err VolumeFault) wrote concluded is = tt
@@ -96,24 +96,24 @@ module _ {R A E D : Type 0} (meaning : R → Meaning) (stands : A → List Recor
 
   -- and all is in step, and on the volumes
   stored-ended : (w : Result (Unit {0}) AppendFault) → Wrote w → Concluded w → OnErr (ended_by w) (AreInStepWith stands meaning after.world after.tables)
-      → OnErr (ended_by w) (IsStored meaning stands told volume (kept_of after noted new))
+      → OnErr (ended_by w) (IsStored meaning stands disk (kept_of after noted new))
   stored-ended (Ok done) wrote concluded in_step = tt
   stored-ended (Err VolumeFault) wrote concluded in_step = record {
     in_step = in_step;
-    on_volumes = subst (λ w. AreOnVolumes told volume new w.systems noted) (sym concluded)
-        (on_volumes-fell told volume old new before.world held noted system (Some next) can.up kept.on_volumes wrote.one
+    on_volumes = subst (λ w. AreOnVolumes disk new w.systems noted) (sym concluded)
+        (on_volumes-fell disk old new before.world held noted system (Some next) can.up kept.on_volumes wrote.one
         (order (moments-left wrote.left)) wrote.others (wrote.torn refl));
   }
   stored-ended (Err (FullAt size)) wrote concluded in_step =
       let same : noted ≡ held = wrote.left in
       let all : kept_of after noted new ≡ kept_of before held old =
       λ i. kept_of (concluded i) (same i) (wrote.full_same size refl i) in
-      subst (IsStored meaning stands told volume) (sym all) kept
+      subst (IsStored meaning stands disk) (sym all) kept
   stored-ended (Err OutOfMemory) wrote concluded in_step =
-      subst (λ (b : WorldTables R A E). IsStored meaning stands told volume (kept_of b noted new)) (sym concluded)
+      subst (λ (b : WorldTables R A E). IsStored meaning stands disk (kept_of b noted new)) (sym concluded)
       (record {
         in_step = kept.in_step;
-        on_volumes = on_volumes-stays told volume old new before.world held noted system can.up kept.on_volumes wrote.one
+        on_volumes = on_volumes-stays disk old new before.world held noted system can.up kept.on_volumes wrote.one
             (order (moments-left wrote.left)) wrote.others (wrote.unwritten refl);
       })
 
@@ -153,10 +153,10 @@ module _ {R A E D : Type 0} (meaning : R → Meaning) (stands : A → List Recor
   pub ends : (more : List AleUnit) (w : Result (Unit {0}) AppendFault) (r : Result (Unit {0}) AppendEnd) → r ≡ ended_by w → Wrote w
       → ConcludedAs before entered after system next r → IsEntered before entered system next more
       → OnErr r (AreInStepWith stands meaning after.world after.tables)
-      → EndsAs meaning stands told volume before after held noted old new system next more r
+      → EndsAs meaning stands disk before after held noted old new system next more r
   ends more w r same wrote how is in_step =
       let concluded : Concluded w = subst (ConcludedAs before entered after system next) same how in
-      subst (EndsAs meaning stands told volume before after held noted old new system next more) (sym same)
+      subst (EndsAs meaning stands disk before after held noted old new system next more) (sym same)
       (record {
         written = written-ended more w wrote concluded is;
         ended = ended-ended w concluded;

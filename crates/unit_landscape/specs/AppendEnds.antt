@@ -1,6 +1,6 @@
 -- How an append ends.
 use Rattle.std.specs.Prelude.{◌≡◌, ◌≢◌, ◌↔◌, ◌<◌, ℕ, ◌-◌, ⊤, true, Option, Some, None, List, [], ◌∷◌, ◌++◌, Result, Ok, Err, slice_get}
-use Rattle.ale_volumes.specs.declared.volume.Volume.{Volume as OneVolume}
+use Rattle.ale_volumes.specs.Disk.{Disk}
 use Rattle.unit_core.specs.declared.ale_unit.AleUnit.{AleUnit}
 use Rattle.unit_core.specs.declared.records.Record.{Record}
 use Rattle.trfc_protocol.specs.declared.world.World.{World}
@@ -82,11 +82,11 @@ pub record IsToAppend {R A E V : Type 0} (meaning : R → Meaning) (goes_with : 
   pub goes : (its : TablesOf A) → slice_get kept.tables (system - 1) ≡ Some its → goes_with its.application (log_of kept.world system) next extra
 
 -- a record joined the log of a system, its units were entered, and it is on the disk
-pub record IsWritten {R A V : Type 0} (told : Type 0) (volume : V → ℕ → OneVolume) (before after : KeptOf R A V) (system : ℕ) (next : Record)
+pub record IsWritten {R A V : Type 0} (disk : Disk V) (before after : KeptOf R A V) (system : ℕ) (next : Record)
     (more : List AleUnit) : Type 0 where
   pub world : after.world ≡ with_record before.world system next
   pub entered : ChangedAt (λ old now. now ≡ entered more old) (system - 1) before.tables after.tables
-  pub on_volumes : AreOnVolumes told volume after.vols after.world.systems after.journals
+  pub on_volumes : AreOnVolumes disk after.vols after.world.systems after.journals
 
 -- a world and its tables are those behind a record that was entered, and is not noted yet
 pub record IsBehind {R A E Extra : Type 0} (meaning : R → Meaning) (stands : A → List Record → Type 0) (goes_with : A → List Record → Record → Extra → Type 0)

@@ -2,6 +2,7 @@
 -- `Ends` and `Calls` say it.
 use Rattle.std.specs.Prelude.{◌≡◌, ◌⊎◌, ℕ, ◌-◌, Bool, true, false, Option, Some, List, ◌∷◌, [], ◌++◌, Result, Ok, Err, slice_get, if◌then◌else◌}
 use Rattle.std.specs.Option.{option_map_or}
+use Rattle.ale_volumes.specs.Disk.{Disk}
 use Rattle.ale_base.specs.Tid.{TidOf, is_tid}
 use Rattle.ale_base.specs.declared.mark.Mark.TheVariants.{Cpicerr, Sysfail}
 use Rattle.ale_base.specs.declared.out_of_memory.OutOfMemory.{OutOfMemory}
@@ -58,16 +59,16 @@ abbrev pub at : ℕ → Record → Writing
 at system next = record { system = system; next = next }
 
 -- a record that some event appends was appended as each such event says
-abbrev pub EndsAs : {R A V T : Type 0} → Meaning → (V → ℕ → ℕ) → KeptOf R A V → KeptOf R A V → ℕ → Record → Option ℕ → Result T AppendEnd → Type 0
-EndsAs rules faults before after system next claim result =
-    (e : Event) → Appends rules before.world system next claim e → AppendsAs rules faults before after e (at system next) result
+abbrev pub EndsAs : {R A V T : Type 0} → Meaning → Disk V → KeptOf R A V → KeptOf R A V → ℕ → Record → Option ℕ → Result T AppendEnd → Type 0
+EndsAs rules disk before after system next claim result =
+    (e : Event) → Appends rules before.world system next claim e → AppendsAs rules disk before after e (at system next) result
 
-module _ {R A V : Type 0} (rules : Meaning) (faults : V → ℕ → ℕ) (before after : KeptOf R A V) where
+module _ {R A V : Type 0} (rules : Meaning) (disk : Disk V) (before after : KeptOf R A V) where
   -- a record was appended for an event, or its system fell
   abbrev pub WrittenAs : Event → Writing → Result Appended OutOfMemory → Type 0
-  WrittenAs e it (Ok Written) = Happened rules faults before after e
-  WrittenAs e it (Ok Fallen) = Failed rules faults before after it ⊎ Overflowed rules faults before after it
-  WrittenAs e it (Err short) = Stays rules faults before after ⊎ FellBehind rules faults before after e it
+  WrittenAs e it (Ok Written) = Happened rules disk before after e
+  WrittenAs e it (Ok Fallen) = Failed rules disk before after it ⊎ Overflowed rules disk before after it
+  WrittenAs e it (Err short) = Stays rules disk before after ⊎ FellBehind rules disk before after e it
 
   -- it was so as each event says that appends this record
   abbrev pub EndsSo : ℕ → Record → Option ℕ → Result Appended OutOfMemory → Type 0

@@ -1,6 +1,7 @@
 -- What the calls of a unit's way answer, and which event each is.
 use Rattle.std.specs.Prelude.{◌≡◌, ◌⊎◌, ℕ, Bool, true, false, not, ◌&&◌, Option, Some, None, Result, Ok, Err, if◌then◌else◌}
 use Rattle.std.specs.Option.{option_map_or}
+use Rattle.ale_volumes.specs.Disk.{Disk}
 use Rattle.ale_base.specs.Tid.{TidOf, is_tid}
 use Rattle.ale_base.specs.declared.way.Way.TheVariants.{Outgoing, Incoming}
 use Rattle.unit_core.specs.declared.ale_unit.AleUnit.{AleUnit}
@@ -104,9 +105,9 @@ pub record IsMade {R : Type 0} (world : World R) (number opening : ℕ) : Type 0
   pub next : number ≡ world.next_number
   pub falls : opening ≡ world.falls
 
-module _ {R A V : Type 0} (rules : Meaning) (faults : V → ℕ → ℕ) (before after : KeptOf R A V) where
+module _ {R A V : Type 0} (rules : Meaning) (disk : Disk V) (before after : KeptOf R A V) where
   abbrev Was : Event → Type 0
-  Was = Happened rules faults before after
+  Was = Happened rules disk before after
 
   -- a unit was claimed to be shipped: the first of those that are offered outbound at a system, if one is
   abbrev pub ClaimedOut : ℕ → Option OutClaim → Type 0
@@ -148,7 +149,7 @@ module _ {R A V : Type 0} (rules : Meaning) (faults : V → ℕ → ℕ) (before
   Arrived unit Busy = AnsweredIdle unit answer.Busy
   Arrived unit SysFail = AnsweredIdle unit answer.SysFail
   Arrived unit Down = AnsweredIdle unit answer.Down ⊎
-      ((answer_to rules before.world unit ≡ answer.New) × FellInstead rules faults before after (event.Arrive unit.tid))
+      ((answer_to rules before.world unit ≡ answer.New) × FellInstead rules disk before after (event.Arrive unit.tid))
 
   -- a claim did not stand, and nothing has changed
   abbrev pub WasStale : Bool → Type 0
@@ -162,10 +163,10 @@ module _ {R A V : Type 0} (rules : Meaning) (faults : V → ℕ → ℕ) (before
   FinishedAs claim (Ok finished.Failed) =
       (stands_in before.world claim ≡ true) × (is_offered_function rules before.world claim.tid ≡ false) × Was (event.Fail claim.number)
   FinishedAs claim (Ok finished.Down) =
-      (stands_in before.world claim ≡ true) × FellInstead rules faults before after (finish_event rules before.world claim)
+      (stands_in before.world claim ≡ true) × FellInstead rules disk before after (finish_event rules before.world claim)
   FinishedAs claim (Err Stale) = WasStale (stands_in before.world claim)
   FinishedAs claim (Err OutOfMemory) =
-      (stands_in before.world claim ≡ true) × IsShort rules faults before after (finish_event rules before.world claim)
+      (stands_in before.world claim ≡ true) × IsShort rules disk before after (finish_event rules before.world claim)
 
   -- the reply to a shipment arrived
   abbrev pub RepliedAs : OutClaim → Reply → Result Replied WorkEnd → Type 0
@@ -174,10 +175,10 @@ module _ {R A V : Type 0} (rules : Meaning) (faults : V → ℕ → ℕ) (before
   RepliedAs claim given (Ok replied.Released) =
       (stands_out before.world claim ≡ true) × (given ≡ reply.Busy) × Was (reply_event rules before.world claim given)
   RepliedAs claim given (Ok replied.Down) =
-      (stands_out before.world claim ≡ true) × FellInstead rules faults before after (reply_event rules before.world claim given)
+      (stands_out before.world claim ≡ true) × FellInstead rules disk before after (reply_event rules before.world claim given)
   RepliedAs claim given (Err Stale) = WasStale (stands_out before.world claim)
   RepliedAs claim given (Err OutOfMemory) =
-      (stands_out before.world claim ≡ true) × IsShort rules faults before after (reply_event rules before.world claim given)
+      (stands_out before.world claim ≡ true) × IsShort rules disk before after (reply_event rules before.world claim given)
 
   -- a record may be appended by an operator
   abbrev MayOperate : ℕ → Record → Type 0
@@ -190,7 +191,7 @@ module _ {R A V : Type 0} (rules : Meaning) (faults : V → ℕ → ℕ) (before
   ConfirmedAs tid confirmed.Already =
       (is_up before.world (receiver_of rules before.world tid) ≡ true) × (is_forgotten rules before.world tid ≡ true) × (after ≡ before)
   ConfirmedAs tid confirmed.Down =
-      ((is_up before.world (receiver_of rules before.world tid) ≡ false) × (after ≡ before)) ⊎ FellInstead rules faults before after (event.Confirm tid)
+      ((is_up before.world (receiver_of rules before.world tid) ≡ false) × (after ≡ before)) ⊎ FellInstead rules disk before after (event.Confirm tid)
 
   -- the reply to a confirmation came to the sender
   abbrev pub ClosedAs : TidOf → Closed → Type 0
@@ -199,7 +200,7 @@ module _ {R A V : Type 0} (rules : Meaning) (faults : V → ℕ → ℕ) (before
   ClosedAs tid closed.Already =
       (is_up before.world tid.system ≡ true) × (is_listed tid (ended_in (log_of before.world tid.system)) ≡ true) × (after ≡ before)
   ClosedAs tid closed.Down =
-      ((is_up before.world tid.system ≡ false) × (after ≡ before)) ⊎ FellInstead rules faults before after (event.Reply (Forgotten tid))
+      ((is_up before.world tid.system ≡ false) × (after ≡ before)) ⊎ FellInstead rules disk before after (event.Reply (Forgotten tid))
 
   -- an operator's record was appended at a system, or it was refused and nothing has changed
   abbrev pub OperatedAs : {T : Type 0} → ℕ → Record → Result T OperatorEnd → Type 0
@@ -208,6 +209,6 @@ module _ {R A V : Type 0} (rules : Meaning) (faults : V → ℕ → ℕ) (before
   OperatedAs system next (Err operator.Down) = (is_up before.world system ≡ false) × (after ≡ before)
   OperatedAs system next (Err operator.NotAllowed) =
       (is_up before.world system ≡ true) × (may_follow rules system (log_of before.world system) next ≡ false) × (after ≡ before)
-  OperatedAs system next (Err (operator.Full size)) = MayOperate system next × IsFull rules faults before after (record { system = system; next = next }) size
-  OperatedAs system next (Err operator.Volume) = MayOperate system next × Failed rules faults before after (record { system = system; next = next })
-  OperatedAs system next (Err operator.OutOfMemory) = MayOperate system next × IsShort rules faults before after (event.Operator (Append system next))
+  OperatedAs system next (Err (operator.Full size)) = MayOperate system next × IsFull rules disk before after (record { system = system; next = next }) size
+  OperatedAs system next (Err operator.Volume) = MayOperate system next × Failed rules disk before after (record { system = system; next = next })
+  OperatedAs system next (Err operator.OutOfMemory) = MayOperate system next × IsShort rules disk before after (event.Operator (Append system next))

@@ -1,5 +1,6 @@
 -- How a call ends that is an event.
 use Rattle.std.specs.Prelude.{◌≡◌, ◌≢◌, ◌⊎◌, ℕ, ◌-◌, Some, None, Result, Ok, Err}
+use Rattle.ale_volumes.specs.Disk.{Disk}
 use Rattle.ale_base.specs.Faults.{Rose}
 use Rattle.trfc_protocol.specs.declared.event.Event.{Event}
 use Rattle.trfc_protocol.specs.declared.event.Event.TheVariants.{Fall}
@@ -16,10 +17,10 @@ use Rattle.unit_landscape.specs.Causes.{cause_in, with_cause, causes_after}
 use Rattle.unit_landscape.specs.AppendEnds.{HasOneMore}
 use Rattle.unit_landscape.specs.Writes.{IsTooLong, MomentsAs}
 
-module _ {R A V : Type 0} (rules : Meaning) (faults : V → ℕ → ℕ) (before after : KeptOf R A V) where
+module _ {R A V : Type 0} (rules : Meaning) (disk : Disk V) (before after : KeptOf R A V) where
   -- no volume failed
   abbrev pub NoFaults : Type 0
-  NoFaults = (place : ℕ) → faults after.vols place ≡ faults before.vols place
+  NoFaults = (place : ℕ) → disk.faults after.vols place ≡ disk.faults before.vols place
 
   -- a record fits on the volume of its system
   abbrev pub Fits : Writing → Type 0
@@ -39,8 +40,8 @@ module _ {R A V : Type 0} (rules : Meaning) (faults : V → ℕ → ℕ) (before
     pub world : after.world ≡ happens rules before.world (Fall it.system (Some it.next))
     pub journals : after.journals ≡ with_rest (it.system - 1) (next_moment before.journals (it.system - 1)) before.journals
     pub fits : Fits it
-    pub rose : Rose (faults before.vols (it.system - 1)) (faults after.vols (it.system - 1))
-    pub others : (place : ℕ) → place ≢ it.system - 1 → faults after.vols place ≡ faults before.vols place
+    pub rose : Rose (disk.faults before.vols (it.system - 1)) (disk.faults after.vols (it.system - 1))
+    pub others : (place : ℕ) → place ≢ it.system - 1 → disk.faults after.vols place ≡ disk.faults before.vols place
     pub causes : after.causes ≡ with_cause before.causes it.system Faulted
     pub told : cause_in after.causes it.system ≡ Faulted
 

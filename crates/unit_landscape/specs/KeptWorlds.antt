@@ -1,6 +1,6 @@
 -- The world kept with its tables, journals and volumes.
 use Rattle.std.specs.Prelude.{ℕ, List}
-use Rattle.ale_volumes.specs.declared.volume.Volume.{Volume}
+use Rattle.ale_volumes.specs.Disk.{Disk}
 use Rattle.unit_core.specs.declared.records.Record.{Record}
 use Rattle.trfc_protocol.specs.declared.world.World.{World}
 use Rattle.trfc_protocol.specs.Meaning.{Meaning}
@@ -24,23 +24,23 @@ pub record KeptOf (R A V : Type 0) : Type 0 where
   pub causes : List Cause
 
 -- the tables are in step with the world, and the volumes hold its logs
-pub record IsStored {R A V : Type 0} (meaning : R → Meaning) (stands : A → List Record → Type 0) (told : Type 0) (volume : V → ℕ → Volume)
+pub record IsStored {R A V : Type 0} (meaning : R → Meaning) (stands : A → List Record → Type 0) (disk : Disk V)
     (kept : KeptOf R A V) : Type 0 where
   pub in_step : AreInStepWith stands meaning kept.world kept.tables
-  pub on_volumes : AreOnVolumes told volume kept.vols kept.world.systems kept.journals
+  pub on_volumes : AreOnVolumes disk kept.vols kept.world.systems kept.journals
 
 -- the same, and a cause is kept for each system, which says up exactly where the system is up
-pub record IsKept {R A V : Type 0} (meaning : R → Meaning) (stands : A → List Record → Type 0) (told : Type 0) (volume : V → ℕ → Volume)
+pub record IsKept {R A V : Type 0} (meaning : R → Meaning) (stands : A → List Record → Type 0) (disk : Disk V)
     (kept : KeptOf R A V) : Type 0 where
   pub in_step : AreInStepWith stands meaning kept.world kept.tables
-  pub on_volumes : AreOnVolumes told volume kept.vols kept.world.systems kept.journals
+  pub on_volumes : AreOnVolumes disk kept.vols kept.world.systems kept.journals
   pub causes : AreCausesOf kept.world.systems kept.causes
 
 -- the same, and what is counted beside the logs is theirs
-pub record IsRoom {R A V : Type 0} (meaning : R → Meaning) (stands : A → List Record → Type 0) (told : Type 0) (volume : V → ℕ → Volume)
+pub record IsRoom {R A V : Type 0} (meaning : R → Meaning) (stands : A → List Record → Type 0) (disk : Disk V)
     (kept : KeptOf R A V) (counts : Counted) : Type 0 where
   pub in_step : AreInStepWith stands meaning kept.world kept.tables
-  pub on_volumes : AreOnVolumes told volume kept.vols kept.world.systems kept.journals
+  pub on_volumes : AreOnVolumes disk kept.vols kept.world.systems kept.journals
   pub causes : AreCausesOf kept.world.systems kept.causes
   pub counted : AreCounted kept.world.systems counts
 

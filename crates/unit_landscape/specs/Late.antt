@@ -1,6 +1,7 @@
 -- An earlier request of a unit comes to its receiver now, and nothing is told to its sender.
 use Rattle.std.specs.Prelude.{◌≡◌, ◌⊎◌, ℕ, ⊤, Bool, true, false, not, ◌&&◌, Option, Some, None, is_some, List, Result, Ok, Err}
 use Rattle.std.specs.Option.{option_and_then}
+use Rattle.ale_volumes.specs.Disk.{Disk}
 use Rattle.ale_base.specs.Tid.{TidOf}
 use Rattle.ale_base.specs.declared.mark.Mark.{Mark}
 use Rattle.ale_base.specs.declared.mark.Mark.TheVariants.{Cpicerr, Sysfail}
@@ -76,7 +77,7 @@ late_record rules world tid = option_and_then (λ unit. record_of_late unit (ans
 abbrev pub begun_by : {R A V : Type 0} → Meaning → KeptOf R A V → TidOf → KeptOf R A V
 begun_by rules before tid = record before { world = happens rules before.world (event.Arrive tid) }
 
-module _ {R A V : Type 0} (rules : Meaning) (faults : V → ℕ → ℕ) (before after : KeptOf R A V) where
+module _ {R A V : Type 0} (rules : Meaning) (disk : Disk V) (before after : KeptOf R A V) where
   module _ (unit : AleUnit) where
     abbrev Answers : Answer → Type 0
     Answers given = answer_to rules before.world unit ≡ given
@@ -84,33 +85,33 @@ module _ {R A V : Type 0} (rules : Meaning) (faults : V → ℕ → ℕ) (before
     -- how a unit came late: it arrived, or it was run as it arrived, which is its arrival and then the end of its run
     abbrev pub CameAs : Late → Type 0
     CameAs New =
-        (Answers answer.New × Happened rules faults before after (event.Arrive unit.tid))
-        ⊎ (Answers answer.Run × Happened rules faults (begun_by rules before unit.tid) after (event.Finish before.world.next_number))
-    CameAs Known = AnsweredIdle rules faults before after unit answer.Known
-    CameAs SysFail = AnsweredIdle rules faults before after unit answer.SysFail
+        (Answers answer.New × Happened rules disk before after (event.Arrive unit.tid))
+        ⊎ (Answers answer.Run × Happened rules disk (begun_by rules before unit.tid) after (event.Finish before.world.next_number))
+    CameAs Known = AnsweredIdle rules disk before after unit answer.Known
+    CameAs SysFail = AnsweredIdle rules disk before after unit answer.SysFail
     CameAs Down =
-        AnsweredIdle rules faults before after unit answer.Down
-        ⊎ ((Answers answer.New × Failed rules faults before after (at unit.receiver (log.Accept unit)))
-        ⊎ (Answers answer.Run × Failed rules faults (begun_by rules before unit.tid) after (at unit.receiver (log.Direct unit))))
+        AnsweredIdle rules disk before after unit answer.Down
+        ⊎ ((Answers answer.New × Failed rules disk before after (at unit.receiver (log.Accept unit)))
+        ⊎ (Answers answer.Run × Failed rules disk (begun_by rules before unit.tid) after (at unit.receiver (log.Direct unit))))
 
     -- its receiver's volume is full
     abbrev pub IsFullLate : ℕ → Type 0
     IsFullLate size =
-        (Answers answer.New × IsFull rules faults before after (at unit.receiver (log.Accept unit)) size)
-        ⊎ (Answers answer.Run × IsFull rules faults before after (at unit.receiver (log.Direct unit)) size)
+        (Answers answer.New × IsFull rules disk before after (at unit.receiver (log.Accept unit)) size)
+        ⊎ (Answers answer.Run × IsFull rules disk before after (at unit.receiver (log.Direct unit)) size)
 
     -- memory was wanting at its receiver
     abbrev pub IsShortLate : Type 0
     IsShortLate =
-        (Answers answer.New × FellBehind rules faults before after (event.Arrive unit.tid) (at unit.receiver (log.Accept unit)))
+        (Answers answer.New × FellBehind rules disk before after (event.Arrive unit.tid) (at unit.receiver (log.Accept unit)))
         ⊎ (Answers answer.Run
-        × FellBehind rules faults (begun_by rules before unit.tid) after (event.Finish before.world.next_number) (at unit.receiver (log.Direct unit)))
+        × FellBehind rules disk (begun_by rules before unit.tid) after (event.Finish before.world.next_number) (at unit.receiver (log.Direct unit)))
 
   -- what came of a late request of an id
   abbrev pub LateAs : TidOf → Result Late LateEnd → Type 0
   LateAs tid (Ok given) = (unit : AleUnit) × IsLate rules before.world tid unit × CameAs unit given
   LateAs tid (Err (Full size)) = (unit : AleUnit) × IsLate rules before.world tid unit × IsFullLate unit size
-  LateAs tid (Err OutOfMemory) = Stays rules faults before after ⊎ ((unit : AleUnit) × IsLate rules before.world tid unit × IsShortLate unit)
+  LateAs tid (Err OutOfMemory) = Stays rules disk before after ⊎ ((unit : AleUnit) × IsLate rules before.world tid unit × IsShortLate unit)
   LateAs tid (Err why) = IsRefused rules before.world tid why × (after ≡ before)
 
 -- ---- steps, which private functions alone cite

@@ -32,6 +32,8 @@ pub mod Kept
 pub mod Tables
 -- the record of an event, and what a crash leaves of it
 pub mod Writes
+-- what a crash inside a call leaves
+pub mod Crashes
 -- how a call ends that is an event
 pub mod Ends
 -- what the calls of a unit's way answer

@@ -1,5 +1,6 @@
 -- Volumes that are opened for a landscape that begins.
 use Rattle.std.specs.Prelude.{◌≡◌, ◌≢◌, ℕ, zero, suc, ⊤, List, [], ◌∷◌, ◌++◌, length, Result, Ok, Err}
+use Rattle.ale_volumes.specs.Disk.{Disk}
 use Rattle.ale_volumes.specs.declared.volume.Volume.{Volume as OneVolume}
 use Rattle.ale_volumes.specs.Volume.{settled}
 use Rattle.byte_journal.specs.Bytes.{IsAsBeforeButForTheGate, IsAsBeforeButForATornGate}
@@ -44,9 +45,9 @@ abbrev pub with_opened : {R : Type 0} → World R → World R
 with_opened world = record world { systems = world.systems ++ first_state [] ∷ [] }
 
 -- what is opened so far is kept, and the world begins with empty logs
-pub record IsOpening {R A V : Type 0} (meaning : R → Meaning) (stands : A → List Record → Type 0) (told : Type 0) (volume : V → ℕ → OneVolume)
+pub record IsOpening {R A V : Type 0} (meaning : R → Meaning) (stands : A → List Record → Type 0) (disk : Disk V)
     (now : KeptOf R A V) : Type 0 where
-  pub kept : IsKept meaning stands told volume now
+  pub kept : IsKept meaning stands disk now
   pub world : now.world ≡ begun_world now.world.rules [] (length now.world.systems)
 
 -- one system more is opened, with new tables and these of the application; its log has no moments, and all else is as before

@@ -1,5 +1,6 @@
 -- The record of an event, the claim that goes with it, and what a crash at any moment of its writing leaves.
 use Rattle.std.specs.Prelude.{◌≡◌, ℕ, ◌-◌, ◌<◌, Bool, true, false, Option, Some, None, List}
+use Rattle.ale_volumes.specs.Disk.{Disk}
 use Rattle.ale_volumes.specs.declared.volume.Volume.{Volume}
 use Rattle.ale_volumes.specs.Clock.{LeavesOnly, KeepsOthers}
 use Rattle.unit_core.specs.declared.records.Record.{Record}
@@ -57,15 +58,14 @@ MomentsAs before after (Some it) = HasOneMore (it.system - 1) before after
 
 -- a crash at any moment leaves of the volume of a record's system its log from before, perhaps with the record; and of every other
 -- volume what it left before
-pub record WritesOnly {R A V : Type 0} (told : Type 0) (volume : V → ℕ → Volume) (moment : V → ℕ) (images_since : V → ℕ → ℕ → List ℕ → Type 0)
+pub record WritesOnly {R A V : Type 0} (disk : Disk V)
     (before after : KeptOf R A V) (it : Writing) : Type 0 where
-  pub any_moment : told → LeavesOnly moment images_since before.vols after.vols (it.system - 1)
+  pub any_moment : disk.told → LeavesOnly disk before.vols after.vols (it.system - 1)
       (IsBeforeOrAfter (entries_at before.journals (it.system - 1) (log_of before.world it.system))
       (entry_with (next_moment before.journals (it.system - 1)) it.next))
-  pub others : told → KeepsOthers volume moment images_since before.vols after.vols (it.system - 1)
+  pub others : disk.told → KeepsOthers disk before.vols after.vols (it.system - 1)
 
 -- a call with a record leaves all volumes but that of its system; without one it calls none
-abbrev pub DiskAs : {R A V : Type 0} → Type 0 → (V → ℕ → Volume) → (V → ℕ) → (V → ℕ → ℕ → List ℕ → Type 0) → KeptOf R A V → KeptOf R A V → Option Writing →
-    Type 0
-DiskAs told volume moment images_since before after None = KeepsVolumes before after
-DiskAs told volume moment images_since before after (Some it) = WritesOnly told volume moment images_since before after it
+abbrev pub DiskAs : {R A V : Type 0} → Disk V → KeptOf R A V → KeptOf R A V → Option Writing → Type 0
+DiskAs disk before after None = KeepsVolumes before after
+DiskAs disk before after (Some it) = WritesOnly disk before after it

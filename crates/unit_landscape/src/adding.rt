@@ -34,17 +34,17 @@ pub(crate) fn add<R: Rules, A: Application, V: Volumes>(
     claim: Option<u64>,
     extra: A::Extra,
 ) -> Result<(), AppendEnd>
-    requires stored { IsStored R.meaning A.stands V.told V.volume (kept_of both.old journals.old vols.old) }
+    requires stored { IsStored R.meaning A.stands V.disk (kept_of both.old journals.old vols.old) }
     requires can { IsToAppend R.meaning A.goes_with (kept_of both.old journals.old vols.old) system next more.now claim extra }
-    ensures stored { IsStored R.meaning A.stands V.told V.volume (kept_of both.new journals.new vols.new) }
+    ensures stored { IsStored R.meaning A.stands V.disk (kept_of both.new journals.new vols.new) }
     ensures did { AppendedAs both.old.world both.new.world system next claim result }
     ensures journals { JournalsAs (system - 1) journals.old journals.new result }
     ensures unchanged { UnchangedAs (kept_of both.old journals.old vols.old) (kept_of both.new journals.new vols.new) result }
     ensures full { FullAs (system - 1) journals.old (log_of both.old.world system) next result }
-    ensures any_moment { V.told → LeavesOnly V.moment V.images_since vols.old vols.new (system - 1)
+    ensures any_moment { V.disk.told → LeavesOnly V.disk vols.old vols.new (system - 1)
         (IsBeforeOrAfter (entries_at journals.old (system - 1) (log_of both.old.world system)) (entry_with (next_moment journals.old (system - 1)) next)) }
-    ensures others { V.told → KeepsOthers V.volume V.moment V.images_since vols.old vols.new (system - 1) }
-    ensures faults { CountsFault (IsErrOf result AppendEnd.Volume) (V.faults vols.old) (V.faults vols.new) (system - 1) }
+    ensures others { V.disk.told → KeepsOthers V.disk vols.old vols.new (system - 1) }
+    ensures faults { CountsFault (IsErrOf result AppendEnd.Volume) (V.disk.faults vols.old) (V.disk.faults vols.new) (system - 1) }
 {
     match write(alloc, both, journals, vols, system, next, more) {
         Ok(()) => note(alloc, both, system, more, claim, extra),

@@ -4,6 +4,7 @@ ghost use Rattle.std.specs.Prelude.{[]};
 ghost use Rattle.unit_landscape.specs.Kept.{IsLandscape};
 ghost use Rattle.unit_landscape.specs.Writes.{WritesOnly};
 ghost use Rattle.unit_landscape.specs.Appending.{IsDue, EndsAs, EndsSo, at};
+ghost use Rattle.unit_landscape.specs.Crashes.{LeavesSound};
 
 use crate::{AppendEnd, Cause, KeptWorld};
 use ale_base::{OutOfMemory, SystemNo};
@@ -33,8 +34,9 @@ pub(crate) fn record<R: Rules, A: Application, V: Volumes>(
     requires landscape { IsLandscape R.meaning kept.old.world }
     requires due { IsDue R.meaning A.goes_with kept.old system next more.now claim extra }
     ensures landscape { IsLandscape R.meaning kept.new.world }
-    ensures ends { EndsAs (R.meaning kept.old.world.rules) V.faults kept.old kept.new system next claim result }
-    ensures disk { WritesOnly V.told V.volume V.moment V.images_since kept.old kept.new (at system next) }
+    ensures ends { EndsAs (R.meaning kept.old.world.rules) V.disk kept.old kept.new system next claim result }
+    ensures disk { WritesOnly V.disk kept.old kept.new (at system next) }
+    ensures sound { V.disk.told → LeavesSound R.meaning V.disk kept.old kept.new }
 {
     let _ = kept.world();
     kept.append(system, next, more, claim, extra)
@@ -51,8 +53,8 @@ pub(crate) fn append<R: Rules, A: Application, V: Volumes>(
     requires landscape { IsLandscape R.meaning kept.old.world }
     requires due { IsDue R.meaning A.goes_with kept.old system next [] claim extra }
     ensures landscape { IsLandscape R.meaning kept.new.world }
-    ensures ends { EndsSo (R.meaning kept.old.world.rules) V.faults kept.old kept.new system next claim result }
-    ensures disk { WritesOnly V.told V.volume V.moment V.images_since kept.old kept.new (at system next) }
+    ensures ends { EndsSo (R.meaning kept.old.world.rules) V.disk kept.old kept.new system next claim result }
+    ensures disk { WritesOnly V.disk kept.old kept.new (at system next) }
 {
     match record(kept, system, next, &[], claim, extra) {
         Ok(()) => Ok(Appended::Written),

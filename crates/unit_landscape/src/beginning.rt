@@ -48,10 +48,10 @@ pub fn begin<R: Rules, A: Application, V: Volumes>(
     ensures begun { BegunAs kept.old kept.new system text result }
 
     // A crash at any moment of the call leaves of the system's volume the empty log, or the Genesis alone; of others what it left.
-    ensures any_moment { V.told → LeavesOnly V.moment V.images_since kept.old.vols kept.new.vols (system - 1)
+    ensures any_moment { V.disk.told → LeavesOnly V.disk kept.old.vols kept.new.vols (system - 1)
         (IsBeforeOrAfter [] (entry_with (moment_of kept.old.journals) (Genesis system text))) }
-    ensures others { V.told → KeepsOthers V.volume V.moment V.images_since kept.old.vols kept.new.vols (system - 1) }
-    ensures faults { CountsFault (result ≡ Err BeginEnd.Volume) (V.faults kept.old.vols) (V.faults kept.new.vols) (system - 1) }
+    ensures others { V.disk.told → KeepsOthers V.disk kept.old.vols kept.new.vols (system - 1) }
+    ensures faults { CountsFault (result ≡ Err BeginEnd.Volume) (V.disk.faults kept.old.vols) (V.disk.faults kept.new.vols) (system - 1) }
 {
     let _ = kept.world();
     let genesis = Record::Genesis {

@@ -42,7 +42,7 @@ impl<R: Rules, A: Application, V: Volumes> Model for KeptWorld<R, A, V> {
       causes = kept.causes;
     } };
 
-    ghost invariant = { λ kept. IsRoom R.meaning A.stands V.told V.volume (record {
+    ghost invariant = { λ kept. IsRoom R.meaning A.stands V.disk (record {
       world = kept.both.world;
       tables = kept.both.tables;
       journals = kept.journals;
@@ -79,7 +79,7 @@ impl<R: Rules, A: Application, V: Volumes> KeptWorld<R, A, V> {
         journals: SystemJournals,
         vols: V,
     ) -> KeptWorld<R, A, V>
-        requires { IsKept R.meaning A.stands V.told V.volume (kept_of both journals vols) }
+        requires { IsKept R.meaning A.stands V.disk (kept_of both journals vols) }
         ensures { result ≡ kept_of both journals vols }
     {
         let counted = Counted::of(both.world.systems.as_slice());
@@ -96,7 +96,7 @@ impl<R: Rules, A: Application, V: Volumes> KeptWorld<R, A, V> {
     /// The world. The tables are in step with it, and the volumes hold its logs.
     pub(crate) fn world(&self) -> &World<R>
         ensures world { result.now ≡ self.now.world }
-        ensures kept { IsKept R.meaning A.stands V.told V.volume self.now }
+        ensures kept { IsKept R.meaning A.stands V.disk self.now }
     {
         &self.both.world
     }
@@ -126,10 +126,10 @@ impl<R: Rules, A: Application, V: Volumes> KeptWorld<R, A, V> {
         ensures full { FullAs (system - 1) self.old.journals (log_of self.old.world system) next result }
 
         // A crash at any moment of the call leaves of the system's volume the log, or the log and the record; of others what it left.
-        ensures any_moment { V.told → LeavesOnly V.moment V.images_since self.old.vols self.new.vols (system - 1)
+        ensures any_moment { V.disk.told → LeavesOnly V.disk self.old.vols self.new.vols (system - 1)
             (IsBeforeOrAfter (entries_at self.old.journals (system - 1) (log_of self.old.world system)) (entry_with (next_moment self.old.journals (system - 1)) next)) }
-        ensures others { V.told → KeepsOthers V.volume V.moment V.images_since self.old.vols self.new.vols (system - 1) }
-        ensures faults { CountsFault (IsErrOf result AppendEnd.Volume) (V.faults self.old.vols) (V.faults self.new.vols) (system - 1) }
+        ensures others { V.disk.told → KeepsOthers V.disk self.old.vols self.new.vols (system - 1) }
+        ensures faults { CountsFault (IsErrOf result AppendEnd.Volume) (V.disk.faults self.old.vols) (V.disk.faults self.new.vols) (system - 1) }
     {
         let adds = Adds::of(&next);
         let ended = add(

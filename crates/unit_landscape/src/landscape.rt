@@ -63,7 +63,7 @@ impl<R: Rules, A: Application, V: Volumes> UnitLandscape<R, A, V> {
     pub fn world(&self) -> &World<R>
         ensures world { result.now ≡ self.now.world }
         ensures safe { IsLandscape R.meaning self.now.world }
-        ensures kept { IsKept R.meaning A.stands V.told V.volume self.now }
+        ensures kept { IsKept R.meaning A.stands V.disk self.now }
     {
         self.kept.world()
     }

@@ -38,7 +38,7 @@ impl<R: Rules, A: Application, V: Volumes> Model for Opening<R, A, V> {
       causes = no_causes;
     } };
 
-    ghost invariant = { λ opening. IsOpening R.meaning A.stands V.told V.volume (record {
+    ghost invariant = { λ opening. IsOpening R.meaning A.stands V.disk (record {
       world = opening.both.world;
       tables = opening.both.tables;
       journals = opening.journals;
@@ -103,19 +103,19 @@ impl<R: Rules, A: Application, V: Volumes> Opening<R, A, V> {
 
         // The system is up with an empty log, behind all that were opened, which are as before.
         ensures opened { IfOk result (IsOpened application self) }
-        ensures why { V.told → OpenedAs (V.volume self.vols (length self.world.systems)).contents result }
+        ensures why { V.disk.told → OpenedAs (V.disk.volume self.vols (length self.world.systems)).contents result }
 
         // What a read gives is as before, but for a gate that is the last byte.
-        ensures leaves { V.told → LeavesAs (V.volume self.vols (length self.world.systems)) (V.volume (vols_of result) (length self.world.systems)) result }
+        ensures leaves { V.disk.told → LeavesAs (V.disk.volume self.vols (length self.world.systems)) (V.disk.volume (vols_of result) (length self.world.systems)) result }
 
         // A crash at any moment of the call leaves what was handed in, or what reads as it; from some moment on what stands for the
         // empty log, or after an `Err` what reads as what was handed in.
-        ensures any_moment { V.told → LeavesOnly V.moment V.images_since self.vols (vols_of result) (length self.world.systems)
-            (IsLeftByOpening (V.volume self.vols (length self.world.systems))) }
-        ensures from_sync { V.told → LeavesOnlyFromSync V.volume V.moment V.images_since self.vols (vols_of result) (length self.world.systems)
-            (HasFailed result) (LeftAs (V.volume self.vols (length self.world.systems)).contents result) }
-        ensures others { V.told → KeepsOthers V.volume V.moment V.images_since self.vols (vols_of result) (length self.world.systems) }
-        ensures faults { CountsFault (HasFailed result) (V.faults self.vols) (V.faults (vols_of result)) (length self.world.systems) }
+        ensures any_moment { V.disk.told → LeavesOnly V.disk self.vols (vols_of result) (length self.world.systems)
+            (IsLeftByOpening (V.disk.volume self.vols (length self.world.systems))) }
+        ensures from_sync { V.disk.told → LeavesOnlyFromSync V.disk self.vols (vols_of result) (length self.world.systems)
+            (HasFailed result) (LeftAs (V.disk.volume self.vols (length self.world.systems)).contents result) }
+        ensures others { V.disk.told → KeepsOthers V.disk self.vols (vols_of result) (length self.world.systems) }
+        ensures faults { CountsFault (HasFailed result) (V.disk.faults self.vols) (V.disk.faults (vols_of result)) (length self.world.systems) }
     {
         let Opening {
             alloc,

@@ -38,18 +38,18 @@ pub(crate) fn write<R: Rules, A: Application, V: Volumes>(
     next: Record,
     more: &[AleUnit],
 ) -> Result<(), AppendEnd>
-    requires stored { IsStored R.meaning A.stands V.told V.volume (kept_of both.old journals.old vols.old) }
+    requires stored { IsStored R.meaning A.stands V.disk (kept_of both.old journals.old vols.old) }
     requires can { IsToWrite both.old.world system next }
-    ensures written { OnOk result (IsWritten V.told V.volume (kept_of both.old journals.old vols.old) (kept_of both.new journals.new vols.new) system next more.now) }
+    ensures written { OnOk result (IsWritten V.disk (kept_of both.old journals.old vols.old) (kept_of both.new journals.new vols.new) system next more.now) }
     ensures ended { IfErr result (EndedAs both.old.world both.new.world system next) }
-    ensures stored { OnErr result (IsStored R.meaning A.stands V.told V.volume (kept_of both.new journals.new vols.new)) }
+    ensures stored { OnErr result (IsStored R.meaning A.stands V.disk (kept_of both.new journals.new vols.new)) }
     ensures journals { JournalsAs (system - 1) journals.old journals.new result }
     ensures unchanged { UnchangedAs (kept_of both.old journals.old vols.old) (kept_of both.new journals.new vols.new) result }
     ensures full { FullAs (system - 1) journals.old (log_of both.old.world system) next result }
-    ensures any_moment { V.told → LeavesOnly V.moment V.images_since vols.old vols.new (system - 1)
+    ensures any_moment { V.disk.told → LeavesOnly V.disk vols.old vols.new (system - 1)
         (IsBeforeOrAfter (entries_at journals.old (system - 1) (log_of both.old.world system)) (entry_with (next_moment journals.old (system - 1)) next)) }
-    ensures others { V.told → KeepsOthers V.volume V.moment V.images_since vols.old vols.new (system - 1) }
-    ensures faults { CountsFault (IsErrOf result AppendEnd.Volume) (V.faults vols.old) (V.faults vols.new) (system - 1) }
+    ensures others { V.disk.told → KeepsOthers V.disk vols.old vols.new (system - 1) }
+    ensures faults { CountsFault (IsErrOf result AppendEnd.Volume) (V.disk.faults vols.old) (V.disk.faults vols.new) (system - 1) }
 {
     let count = both.count(system);
     match both.enter(alloc, system, next, more) {
@@ -69,16 +69,16 @@ fn write_last<R: Rules, A: Application, V: Volumes>(
     system: SystemNo,
 ) -> Result<(), AppendFault>
     requires last { (next : Record) × (last_of (log_of both.now.world system) ≡ Some next) × IsWritable next }
-    requires on_disk { (log : List Record) × IsOnDisk V.told V.volume vols.old (system - 1) journals.old log }
+    requires on_disk { (log : List Record) × IsOnDisk V.disk vols.old (system - 1) journals.old log }
     ensures wrote { (next : Record) (log : List Record) → last_of (log_of both.now.world system) ≡ Some next
-        → IsOnDisk V.told V.volume vols.old (system - 1) journals.old log
-        → IsWriteOf V.told V.volume vols.old vols.new (system - 1) journals.old journals.new log next result }
-    ensures any_moment { V.told → (next : Record) (log : List Record) → last_of (log_of both.now.world system) ≡ Some next
-        → IsOnDisk V.told V.volume vols.old (system - 1) journals.old log
-        → LeavesOnly V.moment V.images_since vols.old vols.new (system - 1)
+        → IsOnDisk V.disk vols.old (system - 1) journals.old log
+        → IsWriteOf V.disk vols.old vols.new (system - 1) journals.old journals.new log next result }
+    ensures any_moment { V.disk.told → (next : Record) (log : List Record) → last_of (log_of both.now.world system) ≡ Some next
+        → IsOnDisk V.disk vols.old (system - 1) journals.old log
+        → LeavesOnly V.disk vols.old vols.new (system - 1)
         (IsBeforeOrAfter (entries_at journals.old (system - 1) log) (entry_with (next_moment journals.old (system - 1)) next)) }
-    ensures others { V.told → KeepsOthers V.volume V.moment V.images_since vols.old vols.new (system - 1) }
-    ensures faults { CountsFault (IsErrOf result AppendFault.Volume) (V.faults vols.old) (V.faults vols.new) (system - 1) }
+    ensures others { V.disk.told → KeepsOthers V.disk vols.old vols.new (system - 1) }
+    ensures faults { CountsFault (IsErrOf result AppendFault.Volume) (V.disk.faults vols.old) (V.disk.faults vols.new) (system - 1) }
 {
     let Some(next) = both.last(system) else {
         // The record was entered before it is written.

@@ -3,6 +3,7 @@ use Rattle.std.specs.Prelude.{Contains, Result, Ok, Err, IfOk, IfSome, OnErr}
 use Rattle.std.specs.Result.{is_ok}
 use Rattle.std.proofs.Common.{◌≡◌, ℕ, not, Bool, true, false, cond, Some, None, [], ◌∷◌, ◌++◌, inl, inr, refl, sym, ap, subst, ◌∙◌, arith}
 use Rattle.std.proofs.lemmas.Bool.{both_ways}
+use Rattle.ale_volumes.specs.Disk.{Disk}
 use Rattle.ale_base.specs.Tid.{TidOf}
 use Rattle.ale_base.specs.declared.out_of_memory.OutOfMemory.{OutOfMemory}
 use Rattle.unit_core.specs.declared.ale_unit.AleUnit.{AleUnit}
@@ -33,6 +34,7 @@ use Rattle.unit_landscape.specs.declared.claims.OutClaim.{OutClaim}
 use Rattle.unit_landscape.specs.Appending.{Arrives}
 use Rattle.unit_landscape.specs.Calls.{Answered, Arrived, stands_out}
 use Rattle.unit_landscape.specs.Ends.{Happened, IsShort}
+use Rattle.unit_landscape.specs.Crashes.{LeavesSound}
 use Rattle.unit_landscape.specs.Kept.{IsLandscape}
 use Rattle.unit_landscape.proofs.ArrivingLemmas.{arrival-after, arrival-record, accept-appends}
 use Rattle.unit_landscape.proofs.EventLemmas.{event-up}
@@ -132,34 +134,37 @@ module _ {R A V : Type 0} (meaning : R → Meaning) (lawful : (r : R) → IsLawf
       subst (λ f. IfSome f (λ (u : AleUnit). may_arrive (meaning before.world.rules) before.world u ≡ true))
       (ap (committed_unit (meaning before.world.rules) before.world) holds.its ∙ committed) may
 
-  module _ (faults : V → ℕ → ℕ) (after : KeptOf R A V) where
+  module _ (disk : Disk V) (after : KeptOf R A V) where
     abbrev Comes : Arrival → Type 0
-    Comes given = Arrived (meaning before.world.rules) faults before after unit given
+    Comes given = Arrived (meaning before.world.rules) disk before after unit given
 
-    pub went-arrived : (result : Result Arrival OutOfMemory) → IfOk result (Arrived (meaning before.world.rules) faults before after unit)
-        → OnErr result (IsShort (meaning before.world.rules) faults before after (event.Arrive unit.tid))
-        → WentOn meaning faults is_arrival (is_ok result) before after
-    went-arrived (Ok (arrival.New receipt)) did short =
-        went-happened meaning lawful faults is_arrival before after is true (event.Arrive unit.tid) refl refl did.0.1
-    went-arrived (Ok (arrival.Run begun)) did short =
-        went-happened meaning lawful faults is_arrival before after is true (event.Arrive unit.tid) refl refl did.0.1
-    went-arrived (Ok (arrival.Known receipt)) did short =
-        went-happened meaning lawful faults is_arrival before after is true (event.Arrive unit.tid) refl refl did.0.0.1
-    went-arrived (Ok arrival.Busy) did short = went-happened meaning lawful faults is_arrival before after is true (event.Arrive unit.tid) refl refl did.0.1
-    went-arrived (Ok arrival.SysFail) did short = went-happened meaning lawful faults is_arrival before after is true (event.Arrive unit.tid) refl refl did.0.1
-    went-arrived (Ok arrival.Down) did short = elim did [
-      | inl idle ↦ went-happened meaning lawful faults is_arrival before after is true (event.Arrive unit.tid) refl refl idle.0.1
-      | inr fell ↦ went-fell meaning lawful faults is_arrival before after is (λ system kept works. works) true (event.Arrive unit.tid) refl fell.1
+    pub went-arrived : (disk.told → LeavesSound meaning disk before after) → (result : Result Arrival OutOfMemory) →
+        IfOk result (Arrived (meaning before.world.rules) disk before after unit)
+        → OnErr result (IsShort (meaning before.world.rules) disk before after (event.Arrive unit.tid))
+        → WentOn meaning disk is_arrival (is_ok result) before after
+    went-arrived leaves (Ok (arrival.New receipt)) did short =
+        went-happened meaning lawful disk is_arrival before after is leaves true (event.Arrive unit.tid) refl refl did.0.1
+    went-arrived leaves (Ok (arrival.Run begun)) did short =
+        went-happened meaning lawful disk is_arrival before after is leaves true (event.Arrive unit.tid) refl refl did.0.1
+    went-arrived leaves (Ok (arrival.Known receipt)) did short =
+        went-happened meaning lawful disk is_arrival before after is leaves true (event.Arrive unit.tid) refl refl did.0.0.1
+    went-arrived leaves (Ok arrival.Busy) did short = went-happened meaning lawful disk is_arrival before after is leaves true
+        (event.Arrive unit.tid) refl refl did.0.1
+    went-arrived leaves (Ok arrival.SysFail) did short = went-happened meaning lawful disk is_arrival before after is leaves true
+        (event.Arrive unit.tid) refl refl did.0.1
+    went-arrived leaves (Ok arrival.Down) did short = elim did [
+      | inl idle ↦ went-happened meaning lawful disk is_arrival before after is leaves true (event.Arrive unit.tid) refl refl idle.0.1
+      | inr fell ↦ went-fell meaning lawful disk is_arrival before after is leaves (λ system kept works. works) true (event.Arrive unit.tid) refl fell.1
     ]
-    went-arrived (Err why) did short =
-        went-short meaning lawful faults is_arrival before after is (λ system kept works. works) (event.Arrive unit.tid) refl refl short
+    went-arrived leaves (Err why) did short =
+        went-short meaning lawful disk is_arrival before after is leaves (λ system kept works. works) (event.Arrive unit.tid) refl refl short
 
     arrives : (given : Answer) → answer_to (meaning before.world.rules) before.world unit ≡ given
         → Arrives (meaning before.world.rules) before.world unit given
     arrives given answers = record { committed = arrives-committed; may = arrives-may; answer = answers }
 
     -- a unit that is taken in is appended at its receiver, which is up
-    world-new : Answered (meaning before.world.rules) faults before after unit answer.New
+    world-new : Answered (meaning before.world.rules) disk before after unit answer.New
         → (after.world ≡ with_record before.world unit.receiver (log.Accept unit)) × (is_up before.world unit.receiver ≡ true)
     world-new did = let was = did.1 in (
       was.world ∙ arrival-after (meaning before.world.rules) before.world unit answer.New (arrives answer.New did.0),
@@ -168,7 +173,7 @@ module _ {R A V : Type 0} (meaning : R → Meaning) (lawful : (r : R) → IsLawf
           (accept-appends (meaning before.world.rules) before.world unit (arrives answer.New did.0)),
     )
 
-    world-run : Answered (meaning before.world.rules) faults before after unit answer.Run → after.world ≡ with_claim before.world unit.tid unit.receiver Direct
+    world-run : Answered (meaning before.world.rules) disk before after unit answer.Run → after.world ≡ with_claim before.world unit.tid unit.receiver Direct
     world-run did = let was = did.1 in was.world ∙ arrival-after (meaning before.world.rules) before.world unit answer.Run (arrives answer.Run did.0)
 
     same-world : after ≡ before → after.world ≡ before.world
@@ -186,7 +191,7 @@ module _ {R A V : Type 0} (meaning : R → Meaning) (lawful : (r : R) → IsLawf
     finished-arrived arrival.SysFail did = ap finished_in (same-world did.1)
     finished-arrived arrival.Down did = elim did [
       | inl idle ↦ ap finished_in (same-world idle.1)
-      | inr fell ↦ finished-fell meaning lawful faults before after is (event.Arrive unit.tid) fell.1
+      | inr fell ↦ finished-fell meaning lawful disk before after is (event.Arrive unit.tid) fell.1
     ]
 
     -- no claim is added but that of a run that begins
@@ -211,7 +216,7 @@ module _ {R A V : Type 0} (meaning : R → Meaning) (lawful : (r : R) → IsLawf
     claims-arrived arrival.SysFail did = same-claims did.1
     claims-arrived arrival.Down did = elim did [
       | inl idle ↦ same-claims idle.1
-      | inr fell ↦ gone-fell meaning lawful faults before after is (event.Arrive unit.tid) fell.1 before.world.claims
+      | inr fell ↦ gone-fell meaning lawful disk before after is (event.Arrive unit.tid) fell.1 before.world.claims
     ]
 
     -- a unit that arrives where it begins no run begins none
@@ -226,11 +231,11 @@ module _ {R A V : Type 0} (meaning : R → Meaning) (lawful : (r : R) → IsLawf
     -- ---- what is appended
 
     wholly-answered : (given : Answer) → answer_to (meaning before.world.rules) before.world unit ≡ given
-        → Happened (meaning before.world.rules) faults before after (event.Arrive unit.tid)
+        → Happened (meaning before.world.rules) disk before after (event.Arrive unit.tid)
         → Wholly before.world after.world (accepted (answer_to (meaning before.world.rules) before.world unit) unit)
     wholly-answered given answers did =
         subst (Wholly before.world after.world) (accepted-is unit given ∙ ap (λ a. accepted a unit) (sym answers))
-        (happened-wholly meaning lawful faults before after is (event.Arrive unit.tid) refl (record_of_answer unit given)
+        (happened-wholly meaning lawful disk before after is (event.Arrive unit.tid) refl (record_of_answer unit given)
         (arrival-record (meaning before.world.rules) before.world unit given (arrives given answers)) did)
 
     -- the record of an arrival, by how the receiver answers
@@ -274,7 +279,7 @@ module _ {R A V : Type 0} (meaning : R → Meaning) (lawful : (r : R) → IsLawf
         claims = ap (λ (k : KeptOf R A V). k.world.claims) idle.1;
       })
       | inr fell ↦ inr (
-        fell-was_cut meaning lawful faults before after is (event.Arrive unit.tid) fell.1
+        fell-was_cut meaning lawful disk before after is (event.Arrive unit.tid) fell.1
             (accepted (answer_to (meaning before.world.rules) before.world unit) unit) arrival-lists,
         refl,
       )
@@ -333,7 +338,7 @@ module _ {R A V : Type 0} (meaning : R → Meaning) (lawful : (r : R) → IsLawf
     again-arrived arrival.Down did still = elim did [
       | inl idle ↦ same-again idle.1 answer.Down idle.0.0 (λ is. cc) (λ is. cc)
       | inr fell ↦
-          let gone = claims-fell meaning lawful faults before after is (event.Arrive unit.tid) fell.1 in
+          let gone = claims-fell meaning lawful disk before after is (event.Arrive unit.tid) fell.1 in
           let stood = sym still ∙ stands-gone after.world claim gone in
           absurd (cc)
     ]
@@ -351,15 +356,15 @@ claimed-committed meaning lawful before is claim stands =
     (unit.0, subst (λ t. committed_unit (meaning before.world.rules) before.world t ≡ Some unit.0) holds.its unit.1)
 
 -- a unit that brings nothing leaves all as it is as it arrives
-pub nothing-arrived : {R A V : Type 0} (rules : Meaning) (faults : V → ℕ → ℕ) (before after : KeptOf R A V) (claim : OutClaim) (unit : AleUnit)
+pub nothing-arrived : {R A V : Type 0} (rules : Meaning) (disk : Disk V) (before after : KeptOf R A V) (claim : OutClaim) (unit : AleUnit)
     (given : Arrival)
-    → BringsNothing rules before.world claim unit → Arrived rules faults before after unit given → after ≡ before
-nothing-arrived rules faults before after claim unit (arrival.New receipt) none did = absurd (none.not_new did.0.0)
-nothing-arrived rules faults before after claim unit (arrival.Run begun) none did = absurd (none.none did.0.0)
-nothing-arrived rules faults before after claim unit (arrival.Known receipt) none did = did.0.1
-nothing-arrived rules faults before after claim unit arrival.Busy none did = did.1
-nothing-arrived rules faults before after claim unit arrival.SysFail none did = did.1
-nothing-arrived rules faults before after claim unit arrival.Down none did = elim did [
+    → BringsNothing rules before.world claim unit → Arrived rules disk before after unit given → after ≡ before
+nothing-arrived rules disk before after claim unit (arrival.New receipt) none did = absurd (none.not_new did.0.0)
+nothing-arrived rules disk before after claim unit (arrival.Run begun) none did = absurd (none.none did.0.0)
+nothing-arrived rules disk before after claim unit (arrival.Known receipt) none did = did.0.1
+nothing-arrived rules disk before after claim unit arrival.Busy none did = did.1
+nothing-arrived rules disk before after claim unit arrival.SysFail none did = did.1
+nothing-arrived rules disk before after claim unit arrival.Down none did = elim did [
   | inl idle ↦ idle.1
   | inr fell ↦ absurd (none.not_new fell.0)
 ]

@@ -3,6 +3,7 @@ use Rattle.std.specs.Prelude.{Result, Ok, Err, IfOk, IfSome, OnErr}
 use Rattle.std.specs.Result.{is_ok}
 use Rattle.std.proofs.Common.{◌≡◌, ◌&&◌, ◌||◌, ℕ, not, cond, List, Option, Some, None, [], ◌∷◌, ◌++◌, refl, sym, ap, subst, ◌∙◌, true, false}
 use Rattle.std.proofs.lemmas.Bool.{and_from, and_parts}
+use Rattle.ale_volumes.specs.Disk.{Disk}
 use Rattle.ale_base.specs.Tid.{TidOf, is_tid}
 use Rattle.unit_core.specs.declared.ale_unit.AleUnit.{AleUnit}
 use Rattle.unit_core.specs.Filters.{received}
@@ -21,6 +22,7 @@ use Rattle.unit_landscape.specs.KeptWorlds.{KeptOf}
 use Rattle.unit_landscape.specs.declared.claims.OutClaim.{OutClaim}
 use Rattle.unit_landscape.specs.declared.claims.InClaim.{InClaim}
 use Rattle.unit_landscape.specs.Calls.{ClaimedIn, ClaimedOut}
+use Rattle.unit_landscape.specs.Crashes.{LeavesSound}
 use Rattle.unit_landscape.specs.Kept.{IsLandscape}
 use Rattle.unit_landscape.proofs.OfferedLemmas.{claim-after, run-after}
 use Rattle.unit_works.specs.Events.{is_claim, is_run}
@@ -46,20 +48,22 @@ answer-claimed rules world tid system unit =
     (cond b answer.Busy (cond (is_empty unit.inq) (cond (offers_now rules world unit.receiver unit.function) answer.Run answer.SysFail) answer.New))))
     (no-run unit.tid tid world.next_number system world.claims)
 
-module _ {R A V : Type 0} (meaning : R → Meaning) (lawful : (r : R) → IsLawful (meaning r)) (faults : V → ℕ → ℕ) (before after : KeptOf R A V)
+module _ {R A V : Type 0} (meaning : R → Meaning) (lawful : (r : R) → IsLawful (meaning r)) (disk : Disk V) (before after : KeptOf R A V)
     (is : IsLandscape meaning before.world) (system : ℕ) where
   -- ---- the first unit that is offered outbound is claimed
 
   abbrev GaveOut : Result (Option OutClaim) OutOfMemory → Type 0
-  GaveOut result = IfOk result (ClaimedOut (meaning before.world.rules) faults before after system)
+  GaveOut result = IfOk result (ClaimedOut (meaning before.world.rules) disk before after system)
 
-  pub went-claimed_out : (result : Result (Option OutClaim) OutOfMemory) → GaveOut result → OnErr result (after ≡ before)
-      → WentOn meaning faults is_claim (is_ok result) before after
-  went-claimed_out (Ok None) did same = went-same meaning faults is_claim true before after did.0
-  went-claimed_out (Ok (Some claim)) did same = went-happened meaning lawful faults is_claim before after is true (event.Claim claim.tid) refl refl did.0
-  went-claimed_out (Err why) did same = went-same meaning faults is_claim false before after same
+  pub went-claimed_out : (disk.told → LeavesSound meaning disk before after) → (result : Result (Option OutClaim) OutOfMemory) → GaveOut result →
+      OnErr result (after ≡ before)
+      → WentOn meaning disk is_claim (is_ok result) before after
+  went-claimed_out leaves (Ok None) did same = went-same meaning disk is_claim true before after did.0
+  went-claimed_out leaves (Ok (Some claim)) did same = went-happened meaning lawful disk is_claim before after is leaves true
+      (event.Claim claim.tid) refl refl did.0
+  went-claimed_out leaves (Err why) did same = went-same meaning disk is_claim false before after same
 
-  module _ (claim : OutClaim) (did : ClaimedOut (meaning before.world.rules) faults before after system (Some claim)) where
+  module _ (claim : OutClaim) (did : ClaimedOut (meaning before.world.rules) disk before after system (Some claim)) where
     world-claimed_out : after.world ≡ with_claim before.world claim.tid claim.tid.system Out
     world-claimed_out =
         let was = did.0 in was.world ∙ claim-after (meaning before.world.rules) (lawful before.world.rules) before.world is.safe claim.tid did.1
@@ -119,15 +123,16 @@ module _ {R A V : Type 0} (meaning : R → Meaning) (lawful : (r : R) → IsLawf
   -- ---- the first unit that is offered inbound is claimed
 
   abbrev GaveIn : Result (Option InClaim) OutOfMemory → Type 0
-  GaveIn result = IfOk result (ClaimedIn (meaning before.world.rules) faults before after system)
+  GaveIn result = IfOk result (ClaimedIn (meaning before.world.rules) disk before after system)
 
-  pub went-claimed_in : (result : Result (Option InClaim) OutOfMemory) → GaveIn result → OnErr result (after ≡ before)
-      → WentOn meaning faults is_run (is_ok result) before after
-  went-claimed_in (Ok None) did same = went-same meaning faults is_run true before after did.0
-  went-claimed_in (Ok (Some claim)) did same = went-happened meaning lawful faults is_run before after is true (event.Run claim.tid) refl refl did.0
-  went-claimed_in (Err why) did same = went-same meaning faults is_run false before after same
+  pub went-claimed_in : (disk.told → LeavesSound meaning disk before after) → (result : Result (Option InClaim) OutOfMemory) → GaveIn result →
+      OnErr result (after ≡ before)
+      → WentOn meaning disk is_run (is_ok result) before after
+  went-claimed_in leaves (Ok None) did same = went-same meaning disk is_run true before after did.0
+  went-claimed_in leaves (Ok (Some claim)) did same = went-happened meaning lawful disk is_run before after is leaves true (event.Run claim.tid) refl refl did.0
+  went-claimed_in leaves (Err why) did same = went-same meaning disk is_run false before after same
 
-  module _ (claim : InClaim) (did : ClaimedIn (meaning before.world.rules) faults before after system (Some claim)) where
+  module _ (claim : InClaim) (did : ClaimedIn (meaning before.world.rules) disk before after system (Some claim)) where
     world-claimed_in : after.world ≡ with_claim before.world claim.tid system In
     world-claimed_in =
         let was = did.0 in was.world ∙ run-after (meaning before.world.rules) (lawful before.world.rules) before.world is.safe system claim.tid did.1

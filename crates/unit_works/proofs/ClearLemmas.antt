@@ -7,6 +7,7 @@ use Rattle.std.proofs.Common.{append-nil, append_assoc}
 use Rattle.std.proofs.lemmas.Bool.{and_parts, both_ways, cases_Bool, or_from}
 use Rattle.std.proofs.lemmas.List.Elements.{Contains-append_left, filter_map-append}
 use Rattle.std.proofs.lemmas.List.Sums.{fold-append}
+use Rattle.ale_volumes.specs.Disk.{Disk}
 use Rattle.ale_base.specs.Tid.{TidOf, is_tid}
 use Rattle.ale_base.specs.declared.mark.Mark.{Mark as Cause}
 use Rattle.ale_base.specs.declared.way.Way.{Way}
@@ -162,16 +163,16 @@ left-none tid lines after none takes other = elim (cases_Bool (is_tid tid other)
   | inr differs ↦ takes other ∙ ap (λ b. cond b (rest_letters (letters_left lines tid)) (letters_left lines other)) differs ∙ none other
 ]
 
-module _ {V : Type 0} (faults : V → ℕ → ℕ) where
+module _ {V : Type 0} (disk : Disk V) where
   only-works : (before after : KeptOf ModelRules DocumentTables V) → HaveOnlyClaimed before after → HaveWorksBehind before.world after.world
   only-works before after only = works-same before.world after.world (only-log before after only)
 
-  acted-works : (before after : KeptOf ModelRules DocumentTables V) (lines lines_after : Lines) (act : Act) → Acted faults before lines act after lines_after
+  acted-works : (before after : KeptOf ModelRules DocumentTables V) (lines lines_after : Lines) (act : Act) → Acted disk before lines act after lines_after
       → HaveWorksBehind before.world after.world
-  acted-works before after lines lines_after act did = let went = acted-went faults before after lines lines_after act did in went.logs
+  acted-works before after lines lines_after act did = let went = acted-went disk before after lines lines_after act did in went.logs
 
   all-works : (acts : List Act) (before after : KeptOf ModelRules DocumentTables V) (lines lines_after : Lines)
-      → HaveActed faults before lines acts after lines_after → HaveWorksBehind before.world after.world
+      → HaveActed disk before lines acts after lines_after → HaveWorksBehind before.world after.world
   all-works [] before after lines lines_after did = only-works before after did.0
   all-works (act ∷ acts) before after lines lines_after did =
       works-on before.world (did.0).world after.world (only-works before did.0 did.3)
@@ -180,12 +181,12 @@ module _ {V : Type 0} (faults : V → ℕ → ℕ) where
       (all-works acts did.1 after did.2 lines_after did.5))
 
   -- the units that are committed stay
-  acted-same : (before after : KeptOf ModelRules DocumentTables V) (lines lines_after : Lines) (act : Act) → Acted faults before lines act after lines_after
+  acted-same : (before after : KeptOf ModelRules DocumentTables V) (lines lines_after : Lines) (act : Act) → Acted disk before lines act after lines_after
       → (tid : TidOf) → committed_unit (meaning after.world.rules) after.world tid ≡ committed_unit (meaning before.world.rules) before.world tid
-  acted-same before after lines lines_after act did = let went = acted-went faults before after lines lines_after act did in went.committed
+  acted-same before after lines lines_after act did = let went = acted-went disk before after lines lines_after act did in went.committed
 
   all-same : (acts : List Act) (before after : KeptOf ModelRules DocumentTables V) (lines lines_after : Lines)
-      → HaveActed faults before lines acts after lines_after → (tid : TidOf)
+      → HaveActed disk before lines acts after lines_after → (tid : TidOf)
       → committed_unit (meaning after.world.rules) after.world tid ≡ committed_unit (meaning before.world.rules) before.world tid
   all-same [] before after lines lines_after did tid = only-committed before after did.0 tid
   all-same (act ∷ acts) before after lines lines_after did tid =
@@ -270,7 +271,7 @@ module _ {V : Type 0} (faults : V → ℕ → ℕ) where
 
     module _ (now after : KeptOf ModelRules DocumentTables V) (lines lines_after : Lines) (leads : Leads now.world) (clear : IsClear now.world)
         (none : NoneLeft lines) (stay : (system : ℕ) → is_up now.world system ≡ true → is_up after.world system ≡ true) where
-      acted-clear : (act : Act) → Acted faults now lines act after lines_after → Went now after lines_after act
+      acted-clear : (act : Act) → Acted disk now lines act after lines_after → Went now after lines_after act
       acted-clear (ship tid letter whole) did =
           let was = did.was in
           let unit : AleUnit = was.unit in
@@ -311,14 +312,14 @@ module _ {V : Type 0} (faults : V → ℕ → ℕ) where
 
     -- so do lists of acts
     pub acts-clear : (acts : List Act) (now : KeptOf ModelRules DocumentTables V) (lines lines_last : Lines)
-        → HaveActed faults now lines acts last lines_last → IsClear now.world → NoneLeft lines
+        → HaveActed disk now lines acts last lines_last → IsClear now.world → NoneLeft lines
         → ((system : ℕ) → is_up now.world system ≡ true → is_up last.world system ≡ true)
         → IsClear last.world × NoneLeft lines_last × ((tid : TidOf) → list_any (loses tid) acts ≡ false)
     acts-clear [] now lines lines_last did clear none stay = (only-clear now last did.0 clear, subst NoneLeft (sym did.1) none, λ tid. refl)
     acts-clear (act ∷ acts) now lines lines_last did clear none stay =
         let start : KeptOf ModelRules DocumentTables V = did.0 in
         let between : KeptOf ModelRules DocumentTables V = did.1 in
-        let back = all-up faults acts between last did.2 lines_last did.5 in
+        let back = all-up disk acts between last did.2 lines_last did.5 in
         let stay_start : (system : ℕ) → is_up start.world system ≡ true → is_up last.world system ≡ true =
         λ system up. stay system (sym (only-up now start did.3 system) ∙ up) in
         let leads : Leads start.world = record {
@@ -326,10 +327,10 @@ module _ {V : Type 0} (faults : V → ℕ → ℕ) where
               (acted-works start between lines did.2 act did.4)
               (all-works acts between last did.2 lines_last did.5);
           same = λ tid. all-same acts between last did.2 lines_last did.5 tid ∙ acted-same start between lines did.2 act did.4 tid;
-          back = λ system up. acted-up faults start between lines did.2 act did.4 system (back system up);
+          back = λ system up. acted-up disk start between lines did.2 act did.4 system (back system up);
         } in
         let went = acted-clear start between lines did.2 leads (only-clear now start did.3 clear) none (λ system up. back system (stay_start system up)) act
         did.4 in
         let rest = acts-clear acts between did.2 lines_last did.5 went.clear went.none
-        (λ system up. stay_start system (acted-up faults start between lines did.2 act did.4 system up)) in
+        (λ system up. stay_start system (acted-up disk start between lines did.2 act did.4 system up)) in
         (rest.0, rest.1, λ tid. or_from (loses tid act) (list_any (loses tid) acts) (went.lost tid) (rest.2 tid))

@@ -4,6 +4,7 @@ use Rattle.std.specs.Option.{option_and_then, option_map_or}
 use Rattle.std.specs.Result.{is_ok}
 use Rattle.std.proofs.Common.{◌≡◌, ◌+◌, ◌&&◌, ℕ, not, Bool, true, false, cond, Some, None, List, [], ◌∷◌, ◌++◌, inl, inr, refl, sym, ap, subst, ◌∙◌, arith}
 use Rattle.std.proofs.lemmas.Bool.{and_parts, both_ways, not-true}
+use Rattle.ale_volumes.specs.Disk.{Disk}
 use Rattle.ale_base.specs.Tid.{TidOf}
 use Rattle.ale_base.specs.declared.out_of_memory.OutOfMemory.{OutOfMemory}
 use Rattle.ale_base.proofs.MemberLemmas.{Contains-here, Contains-there, filter_map-Some}
@@ -31,6 +32,7 @@ use Rattle.unit_landscape.specs.declared.answers.Confirmed.{Confirmed}
 use Rattle.unit_landscape.specs.declared.answers.Confirmed.TheVariants as confirmed
 use Rattle.unit_landscape.specs.Calls.{ClosedAs, ConfirmedAs, is_forgotten, receiver_of}
 use Rattle.unit_landscape.specs.Ends.{FellInstead, Happened, IsShort}
+use Rattle.unit_landscape.specs.Crashes.{LeavesSound}
 use Rattle.unit_landscape.specs.Kept.{IsLandscape}
 use Rattle.unit_landscape.specs.Writes.{Appends}
 use Rattle.unit_landscape.proofs.ConfirmingLemmas.{end-appends, forget-appends}
@@ -58,7 +60,7 @@ listed-last tid records =
     last [] = Contains-here tid []
     last (t ∷ tids) = Contains-there t (tids ++ tid ∷ []) tid (last tids)
 
-module _ {R A V : Type 0} (meaning : R → Meaning) (lawful : (r : R) → IsLawful (meaning r)) (faults : V → ℕ → ℕ) (before after : KeptOf R A V)
+module _ {R A V : Type 0} (meaning : R → Meaning) (lawful : (r : R) → IsLawful (meaning r)) (disk : Disk V) (before after : KeptOf R A V)
     (is : IsLandscape meaning before.world) (tid : TidOf) where
   same-count : after ≡ before → finished_in after.world ≡ finished_in before.world
   same-count same = ap (λ (k : KeptOf R A V). finished_in k.world) same
@@ -68,7 +70,7 @@ module _ {R A V : Type 0} (meaning : R → Meaning) (lawful : (r : R) → IsLawf
 
   module _ (e : Event) (system : ℕ) (next : Record) (appends : Appends (meaning before.world.rules) before.world system next None e)
       (plain : is_ending next ≡ false)
-      (did : Happened (meaning before.world.rules) faults before after e) where
+      (did : Happened (meaning before.world.rules) disk before after e) where
     joined-up : is_up before.world system ≡ true
     joined-up = event-up (meaning before.world.rules) (lawful before.world.rules) before.world is.safe is.writable e system next None appends
 
@@ -88,20 +90,21 @@ module _ {R A V : Type 0} (meaning : R → Meaning) (lawful : (r : R) → IsLawf
 
   module _ (done : is_listed tid (done_in (log_of before.world tid.system)) ≡ true) where
     abbrev Sent : Confirmed → Type 0
-    Sent given = ConfirmedAs (meaning before.world.rules) faults before after tid given
+    Sent given = ConfirmedAs (meaning before.world.rules) disk before after tid given
 
-    pub went-confirmed : (result : Result Confirmed OutOfMemory) → IfOk result (ConfirmedAs (meaning before.world.rules) faults before after tid)
-        → OnErr result (IsShort (meaning before.world.rules) faults before after (event.Confirm tid))
-        → WentOn meaning faults is_confirmation (is_ok result) before after
-    went-confirmed (Ok confirmed.Forgotten) did short =
-        went-happened meaning lawful faults is_confirmation before after is true (event.Confirm tid) refl refl did.2
-    went-confirmed (Ok confirmed.Already) did short = went-same meaning faults is_confirmation true before after did.2
-    went-confirmed (Ok confirmed.Down) did short = elim did [
-      | inl idle ↦ went-same meaning faults is_confirmation true before after idle.1
-      | inr fell ↦ went-fell meaning lawful faults is_confirmation before after is (λ system kept works. works) true (event.Confirm tid) refl fell
+    pub went-confirmed : (disk.told → LeavesSound meaning disk before after) → (result : Result Confirmed OutOfMemory) →
+        IfOk result (ConfirmedAs (meaning before.world.rules) disk before after tid)
+        → OnErr result (IsShort (meaning before.world.rules) disk before after (event.Confirm tid))
+        → WentOn meaning disk is_confirmation (is_ok result) before after
+    went-confirmed leaves (Ok confirmed.Forgotten) did short =
+        went-happened meaning lawful disk is_confirmation before after is leaves true (event.Confirm tid) refl refl did.2
+    went-confirmed leaves (Ok confirmed.Already) did short = went-same meaning disk is_confirmation true before after did.2
+    went-confirmed leaves (Ok confirmed.Down) did short = elim did [
+      | inl idle ↦ went-same meaning disk is_confirmation true before after idle.1
+      | inr fell ↦ went-fell meaning lawful disk is_confirmation before after is leaves (λ system kept works. works) true (event.Confirm tid) refl fell
     ]
-    went-confirmed (Err why) did short =
-        went-short meaning lawful faults is_confirmation before after is (λ system kept works. works) (event.Confirm tid) refl refl short
+    went-confirmed leaves (Err why) did short =
+        went-short meaning lawful disk is_confirmation before after is leaves (λ system kept works. works) (event.Confirm tid) refl refl short
 
     abbrev Receiver : ℕ
     Receiver = receiver_of (meaning before.world.rules) before.world tid
@@ -117,7 +120,7 @@ module _ {R A V : Type 0} (meaning : R → Meaning) (lawful : (r : R) → IsLawf
     finished-confirmed confirmed.Already did = same-count did.2
     finished-confirmed confirmed.Down did = elim did [
       | inl idle ↦ same-count idle.1
-      | inr fell ↦ finished-fell meaning lawful faults before after is (event.Confirm tid) fell
+      | inr fell ↦ finished-fell meaning lawful disk before after is (event.Confirm tid) fell
     ]
 
     pub claims-confirmed : (given : Confirmed) → Sent given → AreOrGone before.world after.world before.world.claims
@@ -125,12 +128,12 @@ module _ {R A V : Type 0} (meaning : R → Meaning) (lawful : (r : R) → IsLawf
     claims-confirmed confirmed.Already did = same-claims did.2
     claims-confirmed confirmed.Down did = elim did [
       | inl idle ↦ same-claims idle.1
-      | inr fell ↦ gone-fell meaning lawful faults before after is (event.Confirm tid) fell before.world.claims
+      | inr fell ↦ gone-fell meaning lawful disk before after is (event.Confirm tid) fell before.world.claims
     ]
 
     -- the receiver has forgotten the unit in the event
     forgotten-now : is_up before.world Receiver ≡ true → is_forgotten (meaning before.world.rules) before.world tid ≡ false
-        → Happened (meaning before.world.rules) faults before after (event.Confirm tid) → is_forgotten (meaning before.world.rules) after.world tid ≡ true
+        → Happened (meaning before.world.rules) disk before after (event.Confirm tid) → is_forgotten (meaning before.world.rules) after.world tid ≡ true
     forgotten-now up known did =
         let appends = forgets up known in
         let world = joined (event.Confirm tid) Receiver (log.Forget tid) appends refl did in
@@ -178,7 +181,7 @@ module _ {R A V : Type 0} (meaning : R → Meaning) (lawful : (r : R) → IsLawf
           ap listed appends.writes
           ∙ ap (λ s. one_at s (log.Forget tid)) receiver ∙ ap (λ t. one_at unit.receiver (log.Forget t)) (sym its) ∙ sent-is false known
 
-      fell-lists : FellInstead (meaning before.world.rules) faults before after (event.Confirm tid)
+      fell-lists : FellInstead (meaning before.world.rules) disk before after (event.Confirm tid)
           → listed (record_of (meaning before.world.rules) before.world (event.Confirm tid)) ≡ sent_to (forgot before.world unit) unit
       fell-lists fell =
           let done_here = is_listed unit.tid (done_in (log_of before.world unit.tid.system)) && is_up before.world unit.receiver in
@@ -195,7 +198,7 @@ module _ {R A V : Type 0} (meaning : R → Meaning) (lawful : (r : R) → IsLawf
       has-sent up confirmed.Forgotten did = inl (record {
         its = its;
         grew = subst (Wholly before.world after.world) (sent-lists did.0 did.1)
-            (happened-wholly meaning lawful faults before after is (event.Confirm tid) refl
+            (happened-wholly meaning lawful disk before after is (event.Confirm tid) refl
             (record_of (meaning before.world.rules) before.world (event.Confirm tid)) refl did.2);
         came = λ down. cc;
       })
@@ -208,7 +211,7 @@ module _ {R A V : Type 0} (meaning : R → Meaning) (lawful : (r : R) → IsLawf
       has-sent up confirmed.Down did = elim did [
         | inl idle ↦ absurd (both_ways (is_up before.world unit.receiver) (sym (ap (is_up before.world) receiver) ∙ idle.0) up)
         | inr fell ↦
-            let cut = fell-was_cut meaning lawful faults before after is (event.Confirm tid) fell (sent_to (forgot before.world unit) unit)
+            let cut = fell-was_cut meaning lawful disk before after is (event.Confirm tid) fell (sent_to (forgot before.world unit) unit)
             (fell-lists fell) in
             inr (cut.cut, refl)
       ]
@@ -217,20 +220,22 @@ module _ {R A V : Type 0} (meaning : R → Meaning) (lawful : (r : R) → IsLawf
 
   module _ (gone : is_forgotten (meaning before.world.rules) before.world tid ≡ true) where
     abbrev Closes : Closed → Type 0
-    Closes given = ClosedAs (meaning before.world.rules) faults before after tid given
+    Closes given = ClosedAs (meaning before.world.rules) disk before after tid given
 
-    pub went-closed : (result : Result Closed OutOfMemory) → IfOk result (ClosedAs (meaning before.world.rules) faults before after tid)
-        → OnErr result (IsShort (meaning before.world.rules) faults before after (event.Reply (Forgotten tid)))
-        → WentOn meaning faults is_confirmation (is_ok result) before after
-    went-closed (Ok closed.Recorded) did short =
-        went-happened meaning lawful faults is_confirmation before after is true (event.Reply (Forgotten tid)) refl refl did.2
-    went-closed (Ok closed.Already) did short = went-same meaning faults is_confirmation true before after did.2
-    went-closed (Ok closed.Down) did short = elim did [
-      | inl idle ↦ went-same meaning faults is_confirmation true before after idle.1
-      | inr fell ↦ went-fell meaning lawful faults is_confirmation before after is (λ system kept works. works) true (event.Reply (Forgotten tid)) refl fell
+    pub went-closed : (disk.told → LeavesSound meaning disk before after) → (result : Result Closed OutOfMemory) →
+        IfOk result (ClosedAs (meaning before.world.rules) disk before after tid)
+        → OnErr result (IsShort (meaning before.world.rules) disk before after (event.Reply (Forgotten tid)))
+        → WentOn meaning disk is_confirmation (is_ok result) before after
+    went-closed leaves (Ok closed.Recorded) did short =
+        went-happened meaning lawful disk is_confirmation before after is leaves true (event.Reply (Forgotten tid)) refl refl did.2
+    went-closed leaves (Ok closed.Already) did short = went-same meaning disk is_confirmation true before after did.2
+    went-closed leaves (Ok closed.Down) did short = elim did [
+      | inl idle ↦ went-same meaning disk is_confirmation true before after idle.1
+      | inr fell ↦ went-fell meaning lawful disk is_confirmation before after is leaves (λ system kept works. works) true
+          (event.Reply (Forgotten tid)) refl fell
     ]
-    went-closed (Err why) did short =
-        went-short meaning lawful faults is_confirmation before after is (λ system kept works. works) (event.Reply (Forgotten tid)) refl refl short
+    went-closed leaves (Err why) did short =
+        went-short meaning lawful disk is_confirmation before after is leaves (λ system kept works. works) (event.Reply (Forgotten tid)) refl refl short
 
     ends : is_up before.world tid.system ≡ true → is_listed tid (ended_in (log_of before.world tid.system)) ≡ false
         → Appends (meaning before.world.rules) before.world tid.system (log.Ended tid) None (event.Reply (Forgotten tid))
@@ -243,7 +248,7 @@ module _ {R A V : Type 0} (meaning : R → Meaning) (lawful : (r : R) → IsLawf
     finished-closed closed.Already did = same-count did.2
     finished-closed closed.Down did = elim did [
       | inl idle ↦ same-count idle.1
-      | inr fell ↦ finished-fell meaning lawful faults before after is (event.Reply (Forgotten tid)) fell
+      | inr fell ↦ finished-fell meaning lawful disk before after is (event.Reply (Forgotten tid)) fell
     ]
 
     pub claims-closed : (given : Closed) → Closes given → AreOrGone before.world after.world before.world.claims
@@ -251,7 +256,7 @@ module _ {R A V : Type 0} (meaning : R → Meaning) (lawful : (r : R) → IsLawf
     claims-closed closed.Already did = same-claims did.2
     claims-closed closed.Down did = elim did [
       | inl idle ↦ same-claims idle.1
-      | inr fell ↦ gone-fell meaning lawful faults before after is (event.Reply (Forgotten tid)) fell before.world.claims
+      | inr fell ↦ gone-fell meaning lawful disk before after is (event.Reply (Forgotten tid)) fell before.world.claims
     ]
 
     -- the sender that is up appends that, unless it falls in its place
@@ -260,7 +265,7 @@ module _ {R A V : Type 0} (meaning : R → Meaning) (lawful : (r : R) → IsLawf
     appended-closed up lasts closed.Recorded did =
         let appends = ends did.0 did.1 in (
           true,
-          happened-wholly meaning lawful faults before after is (event.Reply (Forgotten tid)) refl
+          happened-wholly meaning lawful disk before after is (event.Reply (Forgotten tid)) refl
               (Some (record { system = tid.system; next = log.Ended tid })) appends.writes did.2,
         )
     appended-closed up lasts closed.Already did = absurd (both_ways (is_listed tid (ended_in (log_of before.world tid.system))) lasts did.1)
@@ -268,7 +273,7 @@ module _ {R A V : Type 0} (meaning : R → Meaning) (lawful : (r : R) → IsLawf
       | inl idle ↦ absurd (both_ways (is_up before.world tid.system) idle.0 up)
       | inr fell ↦
           let appends = ends up lasts in
-          let cut = fell-was_cut meaning lawful faults before after is (event.Reply (Forgotten tid)) fell (one_at tid.system (log.Ended tid))
+          let cut = fell-was_cut meaning lawful disk before after is (event.Reply (Forgotten tid)) fell (one_at tid.system (log.Ended tid))
           (ap listed appends.writes) in
           (false, cut.cut)
     ]

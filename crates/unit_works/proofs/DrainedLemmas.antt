@@ -10,6 +10,7 @@ use Rattle.std.proofs.lemmas.List.{take_more}
 use Rattle.std.proofs.lemmas.List.Elements.{filter-append}
 use Rattle.std.proofs.lemmas.List.Folds.{list_all-append, list_any-append}
 use Rattle.std.proofs.lemmas.Option.{same_Some}
+use Rattle.ale_volumes.specs.Disk.{Disk}
 use Rattle.ale_base.specs.Tid.{IsTid, TidOf, is_tid}
 use Rattle.ale_base.specs.declared.out_of_memory.OutOfMemory.{OutOfMemory}
 use Rattle.unit_core.specs.declared.ale_unit.AleUnit.{AleUnit}
@@ -31,6 +32,7 @@ use Rattle.unit_landscape.specs.Kept.{IsLandscape}
 use Rattle.landscape.specs.Shown.{AreUnconfirmedAt}
 use Rattle.document_state.specs.declared.document_tables.DocumentTables.{DocumentTables}
 use Rattle.document_state.specs.declared.model_rules.ModelRules.{ModelRules}
+use Rattle.landscape.specs.Crashes.{GoesSoundly}
 use Rattle.unit_works.specs.declared.letter.Letter.{Letter}
 use Rattle.unit_works.specs.Wires.{letters_left, next_letter, rest_letters}
 use Rattle.unit_works.specs.Acts.{Act, HaveActed, confirm, each_but_last_cut, execute, is_cut, loses, ship, takes}
@@ -236,7 +238,7 @@ found-here world is system tids are tid range listed =
     let place = (committed_place rules (is_lawful world.rules) world is.safe system was.0 was.2).1 in
     ap (λ (t : TidOf). t.system) (sym was.1 ∙ place.tid)
 
-module _ {V : Type 0} (faults : V → ℕ → ℕ) where
+module _ {V : Type 0} (disk : Disk V) where
   -- ---- acts
 
   -- claims that are made or given up, and more of that
@@ -254,17 +256,17 @@ module _ {V : Type 0} (faults : V → ℕ → ℕ) where
   only-same before after same = subst (HaveOnlyClaimed before) (sym same) (record { world = refl; journals = refl; vols = refl; causes = refl })
 
   only-first : (more : List Act) (before between after : KeptOf ModelRules DocumentTables V) (lines lines_after : Lines) → HaveOnlyClaimed before between
-      → HaveActed faults between lines more after lines_after → HaveActed faults before lines more after lines_after
+      → HaveActed disk between lines more after lines_after → HaveActed disk before lines more after lines_after
   only-first [] before between after lines lines_after first second = (only-on before between after first second.0, second.1)
   only-first (act ∷ acts) before between after lines lines_after first second =
       (second.0, second.1, second.2, only-on before between second.0 first second.3, second.4, second.5)
 
   -- acts, and then others
   pub acted-on : (acts more : List Act) (before between after : KeptOf ModelRules DocumentTables V) (lines lines_between lines_after : Lines)
-      → HaveActed faults before lines acts between lines_between → HaveActed faults between lines_between more after lines_after
-      → HaveActed faults before lines (acts ++ more) after lines_after
+      → HaveActed disk before lines acts between lines_between → HaveActed disk between lines_between more after lines_after
+      → HaveActed disk before lines (acts ++ more) after lines_after
   acted-on [] more before between after lines lines_between lines_after first second =
-      only-first more before between after lines lines_after first.0 (subst (λ l. HaveActed faults between l more after lines_after) first.1 second)
+      only-first more before between after lines lines_after first.0 (subst (λ l. HaveActed disk between l more after lines_after) first.1 second)
   acted-on (act ∷ acts) more before between after lines lines_between lines_after first second = (
     first.0,
     first.1,
@@ -278,11 +280,11 @@ module _ {V : Type 0} (faults : V → ℕ → ℕ) where
 
   -- none were done
   pub worked-same : (before after : KeptOf ModelRules DocumentTables V) (lines lines_after : Lines) → after ≡ before → lines_after ≡ lines
-      → HasWorked faults before lines after lines_after 0
+      → HasWorked disk before lines after lines_after 0
   worked-same before after lines lines_after same same_lines = record {
-    went = still faults is_work true before after same;
+    went = still disk is_work true before after same;
     taken = subst (HaveTaken lines) (sym same_lines) (taken-none lines);
-    finished = let ended = ended-same faults before after same in ended.finished;
+    finished = let ended = ended-same disk before after same in ended.finished;
     claims = inl (ap (λ (k : KeptOf ModelRules DocumentTables V). k.world.claims) same);
     acts = [];
     did = (only-same before after same, same_lines);
@@ -290,10 +292,10 @@ module _ {V : Type 0} (faults : V → ℕ → ℕ) where
 
   -- one after the other
   pub worked-on : (before between after : KeptOf ModelRules DocumentTables V) (lines lines_between lines_after : Lines) (n m : ℕ)
-      → HasWorked faults before lines between lines_between n → HasWorked faults between lines_between after lines_after m
-      → HasWorked faults before lines after lines_after (n + m)
+      → HasWorked disk before lines between lines_between n → HasWorked disk between lines_between after lines_after m
+      → HasWorked disk before lines after lines_after (n + m)
   worked-on before between after lines lines_between lines_after n m first second = record {
-    went = on faults is_work true before between after first.went second.went;
+    went = on disk is_work true before between after first.went second.went;
     taken = taken-on lines lines_between lines_after first.taken second.taken;
     finished = let one = first.finished in let two = second.finished in omega (arith, one, two);
     claims = none-on before.world.claims between.world.claims after.world.claims first.claims second.claims;
@@ -305,7 +307,7 @@ module _ {V : Type 0} (faults : V → ℕ → ℕ) where
 
   -- none were gone
   pub gone-same : (before after : KeptOf ModelRules DocumentTables V) (lines lines_after : Lines) → after ≡ before → lines_after ≡ lines
-      → HasGone faults before lines after lines_after 0
+      → HasGone disk before lines after lines_after 0
   unfolding worked-same
   gone-same before after lines lines_after same same_lines = record {
     worked = worked-same before after lines lines_after same same_lines;
@@ -315,8 +317,8 @@ module _ {V : Type 0} (faults : V → ℕ → ℕ) where
 
   -- one after the other
   pub gone-on : (before between after : KeptOf ModelRules DocumentTables V) (lines lines_between lines_after : Lines) (n m : ℕ)
-      → HasGone faults before lines between lines_between n → HasGone faults between lines_between after lines_after m
-      → HasGone faults before lines after lines_after (n + m)
+      → HasGone disk before lines between lines_between n → HasGone disk between lines_between after lines_after m
+      → HasGone disk before lines after lines_after (n + m)
   unfolding worked-on
   gone-on before between after lines lines_between lines_after n m first second =
       let one = first.worked in
@@ -325,15 +327,15 @@ module _ {V : Type 0} (faults : V → ℕ → ℕ) where
         worked = worked-on before between after lines lines_between lines_after n m one two;
         ships = list_all-append is_round one.acts two.acts ∙ and_from (list_all is_round one.acts) (list_all is_round two.acts) first.ships second.ships;
         once = λ none tid.
-            once-on faults one.acts two.acts before between after lines lines_between lines_after two.did second.ships tid (first.once none tid)
+            once-on disk one.acts two.acts before between after lines lines_between lines_after two.did second.ships tid (first.once none tid)
             (second.once (runs-left between.world.claims before.world.claims one.claims none) tid);
       }
 
   -- ---- what was found
 
   module _ (before after : KeptOf ModelRules DocumentTables V) (lines lines_after : Lines) where
-    pub shipped-found : (system : ℕ) (found : Option ℕ) → ShippedAs faults before after lines lines_after system (Ok found)
-        → Found faults before lines after lines_after 1 (NothingOut before.world system) found
+    pub shipped-found : (system : ℕ) (found : Option ℕ) → ShippedAs disk before after lines lines_after system (Ok found)
+        → Found disk before lines after lines_after 1 (NothingOut before.world system) found
     shipped-found system None did = did
     shipped-found system (Some n) did =
         let letter = next_letter (letters_left lines did.0) in
@@ -342,7 +344,7 @@ module _ {V : Type 0} (faults : V → ℕ → ℕ) where
         let ended = did.4 in (
           record {
             worked = record {
-              went = wider faults (is_shipping letter) is_work true before after (shipping-works letter) was.went;
+              went = wider disk (is_shipping letter) is_work true before after (shipping-works letter) was.went;
               taken = taken-one did.0 lines lines_after was.taken;
               finished = ended.finished;
               claims = none-gone before.world after.world ended.claims;
@@ -350,34 +352,34 @@ module _ {V : Type 0} (faults : V → ℕ → ℕ) where
               did = (before, after, lines_after, only-same before before refl, did.3, (only-same after after refl, refl));
             };
             ships = refl;
-            once = λ none tid. once-shipped faults before after lines lines_after did.0 letter did.2 did.3 none tid;
+            once = λ none tid. once-shipped disk before after lines lines_after did.0 letter did.2 did.3 none tid;
           },
           did.5,
         )
 
-    pub found-went : (most : ℕ) (nothing : Type 0) (found : Option ℕ) → Found faults before lines after lines_after most nothing found
-        → Worked faults before after is_work true
-    found-went most nothing None did = still faults is_work true before after did.0
+    pub found-went : (most : ℕ) (nothing : Type 0) (found : Option ℕ) → Found disk before lines after lines_after most nothing found
+        → Worked disk before after is_work true
+    found-went most nothing None did = still disk is_work true before after did.0
     found-went most nothing (Some n) did = let gone = did.0 in let worked = gone.worked in worked.went
 
     pub found-weaker : (most more : ℕ) (nothing less : Type 0) (found : Option ℕ) → most ≤ more → (nothing → less)
-        → Found faults before lines after lines_after most nothing found → Found faults before lines after lines_after more less found
+        → Found disk before lines after lines_after most nothing found → Found disk before lines after lines_after more less found
     found-weaker most more nothing less None below follows did = (did.0, did.1, follows did.2)
     found-weaker most more nothing less (Some n) below follows did = (did.0, let few = did.1 in omega arith)
 
     -- where memory is wanting
-    pub found-short : (most : ℕ) (nothing : Type 0) (result : Result (Option ℕ) OutOfMemory) → IsErr result → Worked faults before after is_work false
-        → FoundAs faults before lines after lines_after most nothing result
+    pub found-short : (most : ℕ) (nothing : Type 0) (result : Result (Option ℕ) OutOfMemory) → IsErr result → Worked disk before after is_work false
+        → FoundAs disk before lines after lines_after most nothing result
     found-short most nothing (Ok found) short went = absurd (cc)
     found-short most nothing (Err why) short went = went
 
-    pub visited-short : {T : Type 0} (These : TidOf → Type 0) (result : Result T OutOfMemory) → IsErr result → Worked faults before after is_work false
-        → VisitedSo faults before lines after lines_after These result
+    pub visited-short : {T : Type 0} (These : TidOf → Type 0) (result : Result T OutOfMemory) → IsErr result → Worked disk before after is_work false
+        → VisitedSo disk before lines after lines_after These result
     visited-short These (Ok done) short went = absurd (cc)
     visited-short These (Err why) short went = went
 
-    pub rounds-short : (result : Result ℕ OutOfMemory) → IsErr result → Worked faults before after is_work false
-        → RoundsAs faults before lines after lines_after result
+    pub rounds-short : (result : Result ℕ OutOfMemory) → IsErr result → Worked disk before after is_work false
+        → RoundsAs disk before lines after lines_after result
     rounds-short (Ok n) short went = absurd (cc)
     rounds-short (Err why) short went = went
 
@@ -385,7 +387,7 @@ module _ {V : Type 0} (faults : V → ℕ → ℕ) where
     pub visited-none : (These : TidOf → Type 0) → after ≡ before → lines_after ≡ lines
         → ((unit : AleUnit) → These unit.tid → committed_unit (meaning before.world.rules) before.world unit.tid ≡ Some unit
         → is_due before.world unit ≡ true → ⊥)
-        → HasVisited faults before lines after lines_after These
+        → HasVisited disk before lines after lines_after These
     unfolding worked-same
     visited-none These same same_lines not_due = record {
       worked = worked-same before after lines lines_after same same_lines;
@@ -399,7 +401,7 @@ module _ {V : Type 0} (faults : V → ℕ → ℕ) where
         → ((unit : AleUnit) → Those unit.tid → committed_unit (meaning before.world.rules) before.world unit.tid ≡ Some unit
         → is_due before.world unit ≡ true → These unit.tid)
         → ((tid : TidOf) → IsTid tid → These tid → Those tid)
-        → HasVisited faults before lines after lines_after These → HasVisited faults before lines after lines_after Those
+        → HasVisited disk before lines after lines_after These → HasVisited disk before lines after lines_after Those
     visited-among These Those among back did = record {
       worked = did.worked;
       confirms = did.confirms;
@@ -414,23 +416,23 @@ module _ {V : Type 0} (faults : V → ℕ → ℕ) where
         → ((unit : AleUnit) → Those unit.tid → committed_unit (meaning before.world.rules) before.world unit.tid ≡ Some unit
         → is_due before.world unit ≡ true → These unit.tid)
         → ((tid : TidOf) → IsTid tid → These tid → Those tid)
-        → VisitedSo faults before lines after lines_after These result → VisitedSo faults before lines after lines_after Those result
+        → VisitedSo disk before lines after lines_after These result → VisitedSo disk before lines after lines_after Those result
     visited-so These Those (Ok done) among back did = visited-among These Those among back did
     visited-so These Those (Err why) among back did = did
 
   -- a unit that took a letter was confirmed, or was not
   pub visited-confirmed : {T : Type 0} (before after : KeptOf ModelRules DocumentTables V) (lines lines_after : Lines) (result : Result T OutOfMemory)
       → IsLandscape meaning before.world
-      → Worked faults before after is_confirmation (is_ok result) → OnOk result (HaveEnded faults before after 0) → HaveTaken lines lines_after
+      → Worked disk before after is_confirmation (is_ok result) → OnOk result (HaveEnded disk before after 0) → HaveTaken lines lines_after
       → (tid : TidOf) (letter : Letter) → letter ≡ next_letter (letters_left lines tid) → HasTaken tid lines lines_after
       → IsDueOf (meaning before.world.rules) before.world tid
       → ((unit : AleUnit) → committed_unit (meaning before.world.rules) before.world tid ≡ Some unit → is_due before.world unit ≡ true
       → OnOk result (Appended before after (confirmation letter (forgot before.world unit) unit)))
-      → VisitedSo faults before lines after lines_after (λ (other : TidOf). other ≡ tid) result
+      → VisitedSo disk before lines after lines_after (λ (other : TidOf). other ≡ tid) result
   visited-confirmed before after lines lines_after (Ok done) safe went ended taken tid letter next takes is grew =
       let appended = grew is.unit is.committed is.due in
       let act : Act = confirm tid letter appended.0 in
-      let acted : HaveActed faults before lines (act ∷ []) after lines_after = (
+      let acted : HaveActed disk before lines (act ∷ []) after lines_after = (
         before,
         after,
         lines_after,
@@ -448,7 +450,7 @@ module _ {V : Type 0} (faults : V → ℕ → ℕ) where
       ) in
       record {
         worked = record {
-          went = wider faults is_confirmation is_work true before after confirmation-works went;
+          went = wider disk is_confirmation is_work true before after confirmation-works went;
           taken = taken;
           finished = ended.finished;
           claims = none-gone before.world after.world ended.claims;
@@ -465,7 +467,7 @@ module _ {V : Type 0} (faults : V → ℕ → ℕ) where
                 rw same refl,
                 equal,
                 subst IsTid (sym equal) (range is.unit is.committed is.due),
-                all-done faults (act ∷ []) before after lines lines_after acted other
+                all-done disk (act ∷ []) before after lines lines_after acted other
                     (subst (λ (t : TidOf). is_listed t (done_in (log_of before.world t.system)) ≡ true) (sym equal) (done_before is.unit is.committed is.due)),
               )
           | inr differs ↦ inl (rw differs refl)
@@ -490,14 +492,14 @@ module _ {V : Type 0} (faults : V → ℕ → ℕ) where
           (and_parts (is_listed unit.tid (done_in (log_of before.world unit.tid.system)))
           (not (is_listed unit.tid (ended_in (log_of before.world unit.tid.system)))) parts.2).0
   visited-confirmed before after lines lines_after (Err why) safe went ended taken tid letter next takes is grew =
-      wider faults is_confirmation is_work false before after confirmation-works went
+      wider disk is_confirmation is_work false before after confirmation-works went
 
   -- units were visited, and then others
   pub visited-on : (before between after : KeptOf ModelRules DocumentTables V) (lines lines_between lines_after : Lines) (These Those All : TidOf → Type 0)
       → ((tid : TidOf) → All tid → These tid ⊎ Those tid) → ((tid : TidOf) → These tid ⊎ Those tid → All tid)
       → ((tid : TidOf) → These tid → Those tid → ⊥)
-      → HasVisited faults before lines between lines_between These → HasVisited faults between lines_between after lines_after Those
-      → HasVisited faults before lines after lines_after All
+      → HasVisited disk before lines between lines_between These → HasVisited disk between lines_between after lines_after Those
+      → HasVisited disk before lines after lines_after All
   unfolding worked-on
   visited-on before between after lines lines_between lines_after These Those All covers back apart first second =
       let one = first.worked in
@@ -507,12 +509,12 @@ module _ {V : Type 0} (faults : V → ℕ → ℕ) where
         confirms = list_all-append is_confirmed one.acts two.acts
             ∙ and_from (list_all is_confirmed one.acts) (list_all is_confirmed two.acts) first.confirms second.confirms;
         visited = λ unit all named due sender receiver.
-            let sender_then = all-up faults two.acts between after lines_between lines_after two.did unit.tid.system sender in
-            let receiver_then = all-up faults two.acts between after lines_between lines_after two.did unit.receiver receiver in
+            let sender_then = all-up disk two.acts between after lines_between lines_after two.did unit.tid.system sender in
+            let receiver_then = all-up disk two.acts between after lines_between lines_after two.did unit.receiver receiver in
             list_any-append (takes unit.tid) one.acts two.acts
             ∙ elim (covers unit.tid all) [
               | inl these ↦ ap (λ b. b || list_any (takes unit.tid) two.acts) (first.visited unit these named due sender_then receiver_then)
-              | inr those ↦ elim (due-or-on faults one.acts before between lines lines_between one.did unit due sender_then receiver_then) [
+              | inr those ↦ elim (due-or-on disk one.acts before between lines lines_between one.did unit due sender_then receiver_then) [
                 | inl still_due ↦
                     let went = one.went in
                     ap (λ b. list_any (takes unit.tid) one.acts || b)
@@ -536,7 +538,7 @@ module _ {V : Type 0} (faults : V → ℕ → ℕ) where
                       both ∙ ap (λ l. filter (takes tid) one.acts ++ l) none_too ∙ append-nil (filter (takes tid) one.acts) ∙ sooner.1,
                       back tid (inl sooner.2),
                       sooner.3,
-                      all-done faults two.acts between after lines_between lines_after two.did tid sooner.4,
+                      all-done disk two.acts between after lines_between lines_after two.did tid sooner.4,
                     )
                 | inr later ↦ absurd (apart tid sooner.2 later.2)
               ]
@@ -545,23 +547,23 @@ module _ {V : Type 0} (faults : V → ℕ → ℕ) where
 
   -- claims that stay or go as units are visited, and then as others are
   pub visited-claims : (before between after : KeptOf ModelRules DocumentTables V) (lines lines_between lines_after : Lines) (These Those : TidOf → Type 0)
-      → HasVisited faults before lines between lines_between These → HasVisited faults between lines_between after lines_after Those
+      → HasVisited disk before lines between lines_between These → HasVisited disk between lines_between after lines_after Those
       → AreOrGone before.world between.world before.world.claims → AreOrGone between.world after.world between.world.claims
       → AreOrGone before.world after.world before.world.claims
   visited-claims before between after lines lines_between lines_after These Those first second at_first at_last =
       let one = first.worked in
       let two = second.worked in
-      claims-on faults is_work is_work true before between after one.went two.went before.world.claims at_first at_last
+      claims-on disk is_work is_work true before between after one.went two.went before.world.claims at_first at_last
 
   -- claims were given up, and then units were visited
   visited-first : (before start after : KeptOf ModelRules DocumentTables V) (lines lines_after : Lines) (These : TidOf → Type 0)
-      → Worked faults before start is_work true → HaveOnlyClaimed before start → start.world.claims ≡ []
-      → HasVisited faults start lines after lines_after These → HasVisited faults before lines after lines_after These
+      → Worked disk before start is_work true → HaveOnlyClaimed before start → start.world.claims ≡ []
+      → HasVisited disk start lines after lines_after These → HasVisited disk before lines after lines_after These
   visited-first before start after lines lines_after These went only none did =
       let worked = did.worked in
       record {
         worked = record {
-          went = on faults is_work true before start after went worked.went;
+          went = on disk is_work true before start after went worked.went;
           taken = worked.taken;
           finished = worked.finished ∙ ap (λ n. n + 0) (ap finished_in only.world);
           claims = inr (none-left after.world.claims start.world.claims worked.claims none);
@@ -575,34 +577,34 @@ module _ {V : Type 0} (faults : V → ℕ → ℕ) where
       }
 
   module _ (before between after : KeptOf ModelRules DocumentTables V) (lines lines_between lines_after : Lines)
-      (is : IsLandscape meaning before.world) (first : HasVisited faults before lines between lines_between (IsTo 16)) (bare : between.world.claims ≡ [])
-      (n : ℕ) (gone : HasGone faults between lines_between after lines_after n) where
+      (is : IsLandscape meaning before.world) (first : HasVisited disk before lines between lines_between (IsTo 16)) (bare : between.world.claims ≡ [])
+      (n : ℕ) (gone : HasGone disk between lines_between after lines_after n) where
     -- units were visited, and works were done: each unit whose confirmation is due lost it
-    visited-lost : AreLost faults before lines after lines_after ((first.worked).acts ++ (gone.worked).acts)
+    visited-lost : AreLost disk before lines after lines_after ((first.worked).acts ++ (gone.worked).acts)
     visited-lost unit named due =
         let one = first.worked in
         let two = gone.worked in
         let did = acted-on one.acts two.acts before between after lines lines_between lines_after one.did two.did in
-        elim (lost-or-due faults (one.acts ++ two.acts) before after lines lines_after did unit named due) [
+        elim (lost-or-due disk (one.acts ++ two.acts) before after lines lines_after did unit named due) [
           | inr lost ↦ lost
           | inl was ↦
               let sent = due-committed before.world is unit was.0 in
-              let went = on faults is_work true before between after one.went two.went in
+              let went = on disk is_work true before between after one.went two.went in
               let equal : sent.0 ≡ unit = same_Some sent.0 unit (sym (went.committed unit.tid ∙ sent.1) ∙ named) in
               let found : committed_unit (meaning before.world.rules) before.world unit.tid ≡ Some unit = sent.1 ∙ ap Some equal in
               let up = due-parts before.world unit was.0 in
               let range = committed-range before.world is unit found up.0 in
               let now = due-parts after.world unit due in
               let visited = first.visited unit (range.system_least, range.system_most) found was.0
-              (all-up faults two.acts between after lines_between lines_after two.did unit.tid.system now.0)
-              (all-up faults two.acts between after lines_between lines_after two.did unit.receiver now.1) in
+              (all-up disk two.acts between after lines_between lines_after two.did unit.tid.system now.0)
+              (all-up disk two.acts between after lines_between lines_after two.did unit.receiver now.1) in
               let parts = or_parts (list_any (takes unit.tid) one.acts) (list_any (takes unit.tid) two.acts)
               (sym (list_any-append (takes unit.tid) one.acts two.acts) ∙ was.1) in
               absurd (both_ways (list_any (takes unit.tid) one.acts) parts.0 visited)
         ]
 
     -- and each took one letter, and more only where a system fell
-    visited-once : AreOnce faults before lines after lines_after ((first.worked).acts ++ (gone.worked).acts)
+    visited-once : AreOnce disk before lines after lines_after ((first.worked).acts ++ (gone.worked).acts)
     visited-once tid =
         let one = first.worked in
         let two = gone.worked in
@@ -619,22 +621,22 @@ module _ {V : Type 0} (faults : V → ℕ → ℕ) where
               let left : filter (takes tid) (one.acts ++ two.acts) ≡ one_act.0 ∷ [] =
               both_taken
               ∙ ap (λ l. filter (takes tid) one.acts ++ l)
-              (none-taken faults two.acts between after lines_between lines_after two.did gone.ships tid (inl one_act.4))
+              (none-taken disk two.acts between after lines_between lines_after two.did gone.ships tid (inl one_act.4))
               ∙ append-nil (filter (takes tid) one.acts) ∙ one_act.1 in
-              inr (ap each_but_last_cut left, inl (all-done faults two.acts between after lines_between lines_after two.did tid one_act.4))
+              inr (ap each_but_last_cut left, inl (all-done disk two.acts between after lines_between lines_after two.did tid one_act.4))
         ]
 
   -- where nothing held units up before acts until none is offered, each went its whole way
   went-through : (acts : List Act) (before after : KeptOf ModelRules DocumentTables V) (lines lines_after : Lines)
       → IsLandscape meaning before.world → IsLandscape meaning after.world → after.world.rules ≡ before.world.rules
-      → HaveActed faults before lines acts after lines_after → IsIdle after.world → after.world.claims ≡ []
-      → AreLost faults before lines after lines_after acts → GoThrough faults before lines after lines_after
+      → HaveActed disk before lines acts after lines_after → IsIdle after.world → after.world.claims ≡ []
+      → AreLost disk before lines after lines_after acts → GoThrough disk before lines after lines_after
   went-through acts before after lines lines_after is is_after rules did idle unclaimed lost clear none ups offers_all =
       let stay : (system : ℕ) → is_up before.world system ≡ true → is_up after.world system ≡ true =
       λ system up.
       let known = up-known (meaning before.world.rules) before.world is.safe system up in
       ups system known.0 (subst (λ (r : ModelRules). system ≤ r.systems) (sym rules) known.1) in
-      let went = acts-clear faults after is_after ups offers_all acts before lines lines_after did clear none stay in (
+      let went = acts-clear disk after is_after ups offers_all acts before lines lines_after did clear none stay in (
         went.0,
         went.1,
         idle-through (meaning after.world.rules) (is_lawful after.world.rules) after.world is_after.safe went.0 unclaimed ups idle.outbound idle.inbound
@@ -644,9 +646,9 @@ module _ {V : Type 0} (faults : V → ℕ → ℕ) where
   -- claims were given up, units were visited, and then works were done until none is left
   pub drained-on : (before start between after : KeptOf ModelRules DocumentTables V) (lines lines_between lines_after : Lines) (result : Result ℕ OutOfMemory)
       → IsLandscape meaning before.world → IsLandscape meaning after.world
-      → Worked faults before start is_work true → HaveOnlyClaimed before start → start.world.claims ≡ []
-      → HasVisited faults start lines between lines_between (IsTo 16) → RoundsAs faults between lines_between after lines_after result
-      → DrainedAs faults before lines after lines_after result
+      → Worked disk before start is_work true → HaveOnlyClaimed before start → start.world.claims ≡ []
+      → HasVisited disk start lines between lines_between (IsTo 16) → RoundsAs disk between lines_between after lines_after result
+      → DrainedAs disk before lines after lines_after result
   unfolding worked-on
   drained-on before start between after lines lines_between lines_after (Ok n) is is_after begun only none visited second =
       let first = visited-first before start between lines lines_between (IsTo 16) begun only none visited in
@@ -676,26 +678,26 @@ module _ {V : Type 0} (faults : V → ℕ → ℕ) where
       }
   drained-on before start between after lines lines_between lines_after (Err why) is is_after begun only none visited second =
       let one = visited.worked in
-      on faults is_work false before between after (on faults is_work true before start between begun one.went) second
+      on disk is_work false before between after (on disk is_work true before start between begun one.went) second
 
   -- works, and then nothing more is found
   pub rounds-idle : (before between after : KeptOf ModelRules DocumentTables V) (lines lines_between lines_after : Lines) (n : ℕ)
-      → HasGone faults before lines between lines_between n → Found faults between lines_between after lines_after 32 (IsIdle between.world) None
-      → RoundsAs faults before lines after lines_after (Ok n)
+      → HasGone disk before lines between lines_between n → Found disk between lines_between after lines_after 32 (IsIdle between.world) None
+      → RoundsAs disk before lines after lines_after (Ok n)
   rounds-idle before between after lines lines_between lines_after n worked none = (
-    subst (λ (k : KeptOf ModelRules DocumentTables V). HasGone faults before lines k lines_after n) (sym none.0)
-        (subst (λ l. HasGone faults before lines between l n) (sym none.1) worked),
+    subst (λ (k : KeptOf ModelRules DocumentTables V). HasGone disk before lines k lines_after n) (sym none.0)
+        (subst (λ l. HasGone disk before lines between l n) (sym none.1) worked),
     subst (λ (k : KeptOf ModelRules DocumentTables V). IsIdle k.world) (sym none.0) none.2,
   )
 
   pub executed-found : (before after : KeptOf ModelRules DocumentTables V) (lines : Lines) (system : ℕ) (found : Option ℕ)
-      → ExecutedAs faults before after system (Ok found)
-      → Found faults before lines after lines 1 (NothingIn before.world system) found
+      → ExecutedAs disk before after system (Ok found)
+      → Found disk before lines after lines 1 (NothingIn before.world system) found
   executed-found before after lines system None did = (did.0, refl, did.1)
   executed-found before after lines system (Some n) did = (
     record {
       worked = record {
-        went = let executed = did.3 in wider faults is_execution is_work true before after execution-works executed.went;
+        went = let executed = did.3 in wider disk is_execution is_work true before after execution-works executed.went;
         taken = taken-none lines;
         finished = let ended = did.4 in ended.finished;
         claims = let ended = did.4 in none-gone before.world after.world ended.claims;
@@ -712,28 +714,28 @@ module _ {V : Type 0} (faults : V → ℕ → ℕ) where
       few true is = omega (arith, is)
       few false is = omega (arith, is)
 
-  pub executed-went : (whole : Bool) (before after : KeptOf ModelRules DocumentTables V) → Worked faults before after is_execution whole
-      → Worked faults before after is_work whole
-  executed-went whole before after went = wider faults is_execution is_work whole before after execution-works went
+  pub executed-went : (whole : Bool) (before after : KeptOf ModelRules DocumentTables V) → Worked disk before after is_execution whole
+      → Worked disk before after is_work whole
+  executed-went whole before after went = wider disk is_execution is_work whole before after execution-works went
 
   -- what was found here, and then there
   pub found-on : (before between after : KeptOf ModelRules DocumentTables V) (lines lines_between lines_after : Lines) (few many : ℕ) (here : Type 0)
       → (there : KeptOf ModelRules DocumentTables V → Type 0) → (first second : Option ℕ)
-      → Found faults before lines between lines_between few here first → Found faults between lines_between after lines_after many (there between) second
-      → Found faults before lines after lines_after (few + many) (here × there before) (joined first second)
+      → Found disk before lines between lines_between few here first → Found disk between lines_between after lines_after many (there between) second
+      → Found disk before lines after lines_after (few + many) (here × there before) (joined first second)
   found-on before between after lines lines_between lines_after few many here there None None first second = (
     second.0 ∙ first.0,
     second.1 ∙ first.1,
     (first.2, subst there first.0 second.2),
   )
   found-on before between after lines lines_between lines_after few many here there None (Some m) first second = (
-    subst (λ (k : KeptOf ModelRules DocumentTables V). HasGone faults k lines after lines_after m) first.0
-        (subst (λ l. HasGone faults between l after lines_after m) first.1 second.0),
+    subst (λ (k : KeptOf ModelRules DocumentTables V). HasGone disk k lines after lines_after m) first.0
+        (subst (λ l. HasGone disk between l after lines_after m) first.1 second.0),
     let below = second.1 in omega arith,
   )
   found-on before between after lines lines_between lines_after few many here there (Some n) None first second = (
-    subst (λ (k : KeptOf ModelRules DocumentTables V). HasGone faults before lines k lines_after n) (sym second.0)
-        (subst (λ l. HasGone faults before lines between l n) (sym second.1) first.0),
+    subst (λ (k : KeptOf ModelRules DocumentTables V). HasGone disk before lines k lines_after n) (sym second.0)
+        (subst (λ l. HasGone disk before lines between l n) (sym second.1) first.0),
     let below = first.1 in omega arith,
   )
   found-on before between after lines lines_between lines_after few many here there (Some n) (Some m) first second = (
@@ -794,18 +796,24 @@ module _ (world : World ModelRules) where
       ]
 
 -- so nothing is left where nothing was found at any system
-pub found-idle : {V : Type 0} (faults : V → ℕ → ℕ) (before after : KeptOf ModelRules DocumentTables V) (lines lines_after : Lines) (found : Option ℕ)
+pub found-idle : {V : Type 0} (disk : Disk V) (before after : KeptOf ModelRules DocumentTables V) (lines lines_after : Lines) (found : Option ℕ)
     → IsLandscape meaning after.world
-    → Found faults before lines after lines_after 32 (NothingTo before.world 16) found
-    → Found faults before lines after lines_after 32 (IsIdle before.world) found
-found-idle {V} faults before after lines lines_after None is did = (
+    → Found disk before lines after lines_after 32 (NothingTo before.world 16) found
+    → Found disk before lines after lines_after 32 (IsIdle before.world) found
+found-idle {V} disk before after lines lines_after None is did = (
   did.0,
   did.1,
   idle-all before.world (subst (λ (k : KeptOf ModelRules DocumentTables V). IsLandscape meaning k.world) did.0 is) did.2,
 )
-found-idle faults before after lines lines_after (Some n) is did = did
+found-idle disk before after lines lines_after (Some n) is did = did
 
 -- a drain that gave up at once did no works
-pub drained-none : {V : Type 0} (faults : V → ℕ → ℕ) (kept : KeptOf ModelRules DocumentTables V) (lines : Lines)
-    → DrainedAs faults kept lines kept lines (Err (record {}))
-drained-none faults kept lines = still faults is_work false kept kept refl
+pub drained-none : {V : Type 0} (disk : Disk V) (kept : KeptOf ModelRules DocumentTables V) (lines : Lines)
+    → DrainedAs disk kept lines kept lines (Err (record {}))
+drained-none disk kept lines = still disk is_work false kept kept refl
+
+-- a drain goes by calls, inside each of which a crash leaves sound logs
+pub drained-goes : {V : Type 0} (disk : Disk V) (before : KeptOf ModelRules DocumentTables V) (lines : Lines) (after : KeptOf ModelRules DocumentTables V)
+    (lines_after : Lines) (result : Result ℕ OutOfMemory) → DrainedAs disk before lines after lines_after result → GoesSoundly disk before after
+drained-goes disk before lines after lines_after (Ok n) did = let worked = did.worked in let went = worked.went in went.calls
+drained-goes disk before lines after lines_after (Err short) went = went.calls

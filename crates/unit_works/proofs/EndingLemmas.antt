@@ -3,6 +3,7 @@ use Rattle.std.specs.Prelude.{Result, Ok, Err, IfOk, filter}
 use Rattle.std.proofs.Common.{◌≡◌, ◌==◌, ◌+◌, ℕ, not, Bool, true, false, cond, Option, Some, [], ◌∷◌, inl, inr, refl, sym, ap, subst, ◌∙◌, arith}
 use Rattle.std.specs.Option.{option_and_then}
 use Rattle.std.proofs.lemmas.Bool.{both_ways, cases_Bool, cond_both, not-true}
+use Rattle.ale_volumes.specs.Disk.{Disk}
 use Rattle.ale_base.specs.declared.way.Way.TheVariants.{Incoming}
 use Rattle.unit_core.specs.declared.ale_unit.AleUnit.{AleUnit}
 use Rattle.unit_core.specs.declared.records.Record.{Record}
@@ -37,6 +38,7 @@ use Rattle.unit_landscape.specs.declared.claims.Receipt.{Receipt}
 use Rattle.unit_landscape.specs.Appending.{HoldsIn, at}
 use Rattle.unit_landscape.specs.Calls.{FinishedAs, finish_event, is_offered_function, stands_in}
 use Rattle.unit_landscape.specs.Ends.{Happened}
+use Rattle.unit_landscape.specs.Crashes.{LeavesSound}
 use Rattle.unit_landscape.specs.Kept.{IsLandscape}
 use Rattle.unit_landscape.proofs.EventLemmas.{event-after, event-up}
 use Rattle.unit_landscape.proofs.FinishingLemmas.{direct-appends, execute-appends, executed-record, failed-record, failing, in-found, in-number, in-stands}
@@ -101,9 +103,9 @@ module _ {R A V : Type 0} (meaning : R → Meaning) (lawful : (r : R) → IsLawf
       (down unit.0 (subst (λ t. committed_unit (meaning before.world.rules) before.world t ≡ Some unit.0) holds.its unit.1))
       (receiver-up there.0 holds (there.0).kind refl unit.0 unit.1)
 
-  module _ (faults : V → ℕ → ℕ) (after : KeptOf R A V) where
+  module _ (disk : Disk V) (after : KeptOf R A V) where
     abbrev Ends : Result Finished WorkEnd → Type 0
-    Ends result = FinishedAs (meaning before.world.rules) faults before after claim result
+    Ends result = FinishedAs (meaning before.world.rules) disk before after claim result
 
     is_end-finish : is_end (finish_event (meaning before.world.rules) before.world claim) ≡ true
     is_end-finish =
@@ -115,22 +117,25 @@ module _ {R A V : Type 0} (meaning : R → Meaning) (lawful : (r : R) → IsLawf
         cond_both (is_offered_function (meaning before.world.rules) before.world claim.tid) (event.Finish claim.number) (event.Fail claim.number)
         (λ e. is_step e ≡ true) (λ _. refl) (λ _. refl)
 
-    pub went-finished : (result : Result Finished WorkEnd) → Ends result → (result ≡ Err end.OutOfMemory → ⊥) → WentOn meaning faults is_end true before after
-    went-finished (Ok (finished.Executed receipt)) did other =
-        went-happened meaning lawful faults is_end before after is true (event.Finish claim.number) refl refl did.2
-    went-finished (Ok finished.Failed) did other = went-happened meaning lawful faults is_end before after is true (event.Fail claim.number) refl refl did.2
-    went-finished (Ok finished.Down) did other =
-        went-fell meaning lawful faults is_end before after is (λ system kept works. works) true
+    pub went-finished : (disk.told → LeavesSound meaning disk before after) → (result : Result Finished WorkEnd) → Ends result →
+        (result ≡ Err end.OutOfMemory → ⊥) → WentOn meaning disk is_end true before after
+    went-finished leaves (Ok (finished.Executed receipt)) did other =
+        went-happened meaning lawful disk is_end before after is leaves true (event.Finish claim.number) refl refl did.2
+    went-finished leaves (Ok finished.Failed) did other = went-happened meaning lawful disk is_end before after is leaves true
+        (event.Fail claim.number) refl refl did.2
+    went-finished leaves (Ok finished.Down) did other =
+        went-fell meaning lawful disk is_end before after is leaves (λ system kept works. works) true
         (finish_event (meaning before.world.rules) before.world claim) is_step-finish did.1
-    went-finished (Err end.Stale) did other = went-same meaning faults is_end true before after did.1
-    went-finished (Err end.OutOfMemory) did other = absurd (other refl)
+    went-finished leaves (Err end.Stale) did other = went-same meaning disk is_end true before after did.1
+    went-finished leaves (Err end.OutOfMemory) did other = absurd (other refl)
 
     -- the same where memory may be wanting
-    pub went-finished_short : (result : Result Finished WorkEnd) → Ends result → WentOn meaning faults is_end false before after
-    went-finished_short (Ok given) did = went-whole meaning faults is_end false before after (went-finished (Ok given) did (λ is. cc))
-    went-finished_short (Err end.Stale) did = went-same meaning faults is_end false before after did.1
-    went-finished_short (Err end.OutOfMemory) did =
-        went-short meaning lawful faults is_end before after is (λ system kept works. works) (finish_event (meaning before.world.rules) before.world claim)
+    pub went-finished_short : (disk.told → LeavesSound meaning disk before after) → (result : Result Finished WorkEnd) → Ends result →
+        WentOn meaning disk is_end false before after
+    went-finished_short leaves (Ok given) did = went-whole meaning disk is_end false before after (went-finished leaves (Ok given) did (λ is. cc))
+    went-finished_short leaves (Err end.Stale) did = went-same meaning disk is_end false before after did.1
+    went-finished_short leaves (Err end.OutOfMemory) did =
+        went-short meaning lawful disk is_end before after is leaves (λ system kept works. works) (finish_event (meaning before.world.rules) before.world claim)
         is_step-finish is_end-finish did.1
 
     -- the record of an execution or a run
@@ -191,11 +196,11 @@ module _ {R A V : Type 0} (meaning : R → Meaning) (lawful : (r : R) → IsLawf
         }
 
     executed-is : stands_in before.world claim ≡ true → is_offered_function (meaning before.world.rules) before.world claim.tid ≡ true
-        → Happened (meaning before.world.rules) faults before after (event.Finish claim.number) → HasEnded before.world after.world claim.number
+        → Happened (meaning before.world.rules) disk before after (event.Finish claim.number) → HasEnded before.world after.world claim.number
     executed-is stands offered did = let there = held-in before.world claim stands in executed-ended there.0 there.1 (there.0).kind refl offered did.world
 
     failed-is : stands_in before.world claim ≡ true → is_offered_function (meaning before.world.rules) before.world claim.tid ≡ false
-        → Happened (meaning before.world.rules) faults before after (event.Fail claim.number) → HasEnded before.world after.world claim.number
+        → Happened (meaning before.world.rules) disk before after (event.Fail claim.number) → HasEnded before.world after.world claim.number
     failed-is stands offered did = let there = held-in before.world claim stands in failed-ended there.0 there.1 offered did.world
 
     one-ended : HasEnded before.world after.world claim.number → finished_in after.world ≡ finished_in before.world + 1
@@ -212,7 +217,7 @@ module _ {R A V : Type 0} (meaning : R → Meaning) (lawful : (r : R) → IsLawf
     finished-finished (Ok (finished.Executed receipt)) did = one-ended (executed-is did.0 did.1 did.2)
     finished-finished (Ok finished.Failed) did = one-ended (failed-is did.0 did.1 did.2)
     finished-finished (Ok finished.Down) did =
-        let count = finished-fell meaning lawful faults before after is (finish_event (meaning before.world.rules) before.world claim) did.1 in omega
+        let count = finished-fell meaning lawful disk before after is (finish_event (meaning before.world.rules) before.world claim) did.1 in omega
         (arith, count)
     finished-finished (Err end.Stale) did = same-count did.1
     finished-finished (Err end.OutOfMemory) did = tt
@@ -228,7 +233,7 @@ module _ {R A V : Type 0} (meaning : R → Meaning) (lawful : (r : R) → IsLawf
     left-finished (Ok (finished.Executed receipt)) did = λ stands. inl (claims-ended (executed-is did.0 did.1 did.2))
     left-finished (Ok finished.Failed) did = λ stands. inl (claims-ended (failed-is did.0 did.1 did.2))
     left-finished (Ok finished.Down) did = λ stands.
-        gone-fell meaning lawful faults before after is (finish_event (meaning before.world.rules) before.world claim) did.1
+        gone-fell meaning lawful disk before after is (finish_event (meaning before.world.rules) before.world claim) did.1
         (filter (λ (h : Held). not (h.number == claim.number)) before.world.claims)
     left-finished (Err end.Stale) did = λ stands. absurd (both_ways (stands_in before.world claim) did.0 stands)
     left-finished (Err end.OutOfMemory) did = tt
@@ -327,7 +332,7 @@ module _ {R A V : Type 0} (meaning : R → Meaning) (lawful : (r : R) → IsLawf
         let lists = executed-lists held holds held.kind refl did.1 in
         inl (record {
           grew = subst (Wholly before.world after.world) lists.2
-              (happened-wholly meaning lawful faults before after is (event.Finish claim.number) refl (Some lists.0) lists.1 did.2);
+              (happened-wholly meaning lawful disk before after is (event.Finish claim.number) refl (Some lists.0) lists.1 did.2);
           claims = claims-ended (executed-is did.0 did.1 did.2);
           run = executed-run held held.kind refl receipt did.3;
           ended = refl;
@@ -336,14 +341,14 @@ module _ {R A V : Type 0} (meaning : R → Meaning) (lawful : (r : R) → IsLawf
         let lists = failed-lists held holds held.kind refl did.1 in
         inl (record {
           grew = subst (Wholly before.world after.world) lists.0
-              (happened-wholly meaning lawful faults before after is (event.Fail claim.number) refl (Some (at held.system (log.Fail held.tid)))
+              (happened-wholly meaning lawful disk before after is (event.Fail claim.number) refl (Some (at held.system (log.Fail held.tid)))
               (failed-writes held holds did.1) did.2);
           claims = claims-ended (failed-is did.0 did.1 did.2);
           run = lists.1;
           ended = refl;
         })
     has-finished held holds (Ok finished.Down) did = inr (
-      fell-was_cut meaning lawful faults before after is (finish_event (meaning before.world.rules) before.world claim) did.1
+      fell-was_cut meaning lawful disk before after is (finish_event (meaning before.world.rules) before.world claim) did.1
           (worked_by (meaning before.world.rules) before.world held held.kind) (finish-lists held holds),
       refl,
     )

@@ -1,6 +1,7 @@
 -- A system fell as it was to append the record of an event: nothing more has ended, and there are no claims.
 use Rattle.std.proofs.Common.{◌≡◌, ◌⊎◌, ◌-◌, ℕ, true, Option, Some, None, List, [], inl, inr, sym, ap, subst, ◌∙◌}
 use Rattle.std.proofs.lemmas.Bool.{cond-true}
+use Rattle.ale_volumes.specs.Disk.{Disk}
 use Rattle.unit_core.specs.declared.records.Record.{Record}
 use Rattle.trfc_protocol.specs.declared.event.Event.{Event}
 use Rattle.trfc_protocol.specs.declared.held.Held.{Held}
@@ -33,13 +34,13 @@ record HasFallen {R : Type 0} (before after : World R) : Type 0 where
   up : is_up before system ≡ true
   world : after ≡ with_fall before system rest
 
-module _ {R A V : Type 0} (meaning : R → Meaning) (lawful : (r : R) → IsLawful (meaning r)) (faults : V → ℕ → ℕ) (before after : KeptOf R A V)
-    (is : IsLandscape meaning before.world) (e : Event) (did : FellInstead (meaning before.world.rules) faults before after e) where
+module _ {R A V : Type 0} (meaning : R → Meaning) (lawful : (r : R) → IsLawful (meaning r)) (disk : Disk V) (before after : KeptOf R A V)
+    (is : IsLandscape meaning before.world) (e : Event) (did : FellInstead (meaning before.world.rules) disk before after e) where
   pub fell-up : is_up before.world (did.0).system ≡ true
   fell-up = (MayWrite-record (meaning before.world.rules) (lawful before.world.rules) before.world is.safe e did.0 did.1).up
 
   -- its volume failed
-  pub fell-failed : Failed (meaning before.world.rules) faults before after did.0 → after.world ≡ with_fall before.world (did.0).system (Some (did.0).next)
+  pub fell-failed : Failed (meaning before.world.rules) disk before after did.0 → after.world ≡ with_fall before.world (did.0).system (Some (did.0).next)
   fell-failed failed =
       let it : Writing = did.0 in
       failed.world
@@ -47,7 +48,7 @@ module _ {R A V : Type 0} (meaning : R → Meaning) (lawful : (r : R) → IsLawf
       ((kept-is (meaning before.world.rules) (lawful before.world.rules) before.world is.safe it.system it.next).1 (e, did.1))
 
   -- or the record did not fit
-  pub fell-full : Overflowed (meaning before.world.rules) faults before after did.0 → after.world ≡ with_fall before.world (did.0).system None
+  pub fell-full : Overflowed (meaning before.world.rules) disk before after did.0 → after.world ≡ with_fall before.world (did.0).system None
   fell-full full = full.world ∙ falls-up (meaning before.world.rules) before.world (did.0).system fell-up
 
   fell : HasFallen before.world after.world

@@ -1,6 +1,7 @@
 -- What is appended, one after the other, until a system falls: of works each, and of one event.
 use Rattle.std.proofs.Common.{◌≡◌, ℕ, Bool, true, false, Option, List, [], ◌∷◌, ◌++◌, sym, ap, subst, ◌∙◌, append_assoc}
 use Rattle.std.proofs.lemmas.Bool.{both_ways}
+use Rattle.ale_volumes.specs.Disk.{Disk}
 use Rattle.trfc_protocol.specs.declared.event.Event.{Event}
 use Rattle.trfc_protocol.specs.declared.world.World.{World}
 use Rattle.trfc_protocol.specs.Happens.{happens}
@@ -72,11 +73,11 @@ module _ {R A V : Type 0} where
       let cut = did.4 in
       sym (cut.others system (λ same. both_ways (is_up after.world system) (ap (is_up after.world) same ∙ cut.fell) up)).0 ∙ up
 
-module _ {R A V : Type 0} (meaning : R → Meaning) (lawful : (r : R) → IsLawful (meaning r)) (faults : V → ℕ → ℕ) (before after : KeptOf R A V)
+module _ {R A V : Type 0} (meaning : R → Meaning) (lawful : (r : R) → IsLawful (meaning r)) (disk : Disk V) (before after : KeptOf R A V)
     (is : IsLandscape meaning before.world) (e : Event) (step : is_step e ≡ true) where
   -- an event that happened let the logs grow by its record, where it has one
   pub happened-wholly : (found : Option Writing) → record_of (meaning before.world.rules) before.world e ≡ found
-      → Happened (meaning before.world.rules) faults before after e → Wholly before.world after.world (listed found)
+      → Happened (meaning before.world.rules) disk before after e → Wholly before.world after.world (listed found)
   happened-wholly found writes did = record {
     grew = subst (λ (w : World R). HaveGrown before.world w (listed found)) (sym did.world)
         (subst (λ f. HaveGrown before.world (happens (meaning before.world.rules) before.world e) (listed f)) writes

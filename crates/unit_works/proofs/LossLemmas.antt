@@ -7,6 +7,7 @@ use Rattle.std.proofs.lemmas.Bool.{and_from, and_parts, both_ways, cases_Bool, n
 use Rattle.std.proofs.lemmas.Option.{same_Some}
 use Rattle.std.proofs.lemmas.List.Elements.{filter_map-append}
 use Rattle.std.proofs.lemmas.List.Folds.{list_any-append}
+use Rattle.ale_volumes.specs.Disk.{Disk}
 use Rattle.ale_base.specs.Tid.{TidOf, is_tid}
 use Rattle.ale_base.specs.declared.mark.Mark.TheVariants.{Cpicerr, Sysfail}
 use Rattle.ale_base.specs.declared.way.Way.TheVariants.{Outgoing}
@@ -314,10 +315,10 @@ module _ {V : Type 0} (before after : KeptOf ModelRules DocumentTables V) (only 
   pub only-committed : (tid : TidOf) → committed_unit (meaning after.world.rules) after.world tid ≡ committed_unit (meaning before.world.rules) before.world tid
   only-committed tid = ap (λ (w : World ModelRules). committed_unit (meaning w.rules) w tid) only.world
 
-module _ {V : Type 0} (faults : V → ℕ → ℕ) where
+module _ {V : Type 0} (disk : Disk V) where
   module _ (before after : KeptOf ModelRules DocumentTables V) (lines lines_after : Lines) where
     -- a system that is up after an act was before
-    pub acted-up : (act : Act) → Acted faults before lines act after lines_after → (system : ℕ) → is_up after.world system ≡ true
+    pub acted-up : (act : Act) → Acted disk before lines act after lines_after → (system : ℕ) → is_up after.world system ≡ true
         → is_up before.world system ≡ true
     acted-up (ship tid letter whole) did system up =
         let was = did.was in
@@ -331,20 +332,20 @@ module _ {V : Type 0} (faults : V → ℕ → ℕ) where
         appended-up before after (confirmation letter (forgot before.world did.unit) did.unit) whole did.grew system up
 
     -- an act is work
-    pub acted-went : (act : Act) → Acted faults before lines act after lines_after → Worked faults before after is_work true
+    pub acted-went : (act : Act) → Acted disk before lines act after lines_after → Worked disk before after is_work true
     acted-went (ship of letter whole) did =
-        let was = did.was in wider faults (is_shipping letter) is_work true before after (shipping-works letter) was.went
+        let was = did.was in wider disk (is_shipping letter) is_work true before after (shipping-works letter) was.went
     acted-went (execute place of whole) did =
-        let executed = did.0 in wider faults is_execution is_work true before after execution-works executed.went
-    acted-went (confirm of letter whole) did = wider faults is_confirmation is_work true before after confirmation-works did.went
+        let executed = did.0 in wider disk is_execution is_work true before after execution-works executed.went
+    acted-went (confirm of letter whole) did = wider disk is_confirmation is_work true before after confirmation-works did.went
 
     -- a unit that was committed is
-    acted-committed : (act : Act) → Acted faults before lines act after lines_after → (tid : TidOf) (unit : AleUnit)
+    acted-committed : (act : Act) → Acted disk before lines act after lines_after → (tid : TidOf) (unit : AleUnit)
         → committed_unit (meaning before.world.rules) before.world tid ≡ Some unit → committed_unit (meaning after.world.rules) after.world tid ≡ Some unit
     acted-committed act did tid unit named = let went = acted-went act did in went.committed tid ∙ named
 
     -- an act on no unit of an id leaves what is read of it
-    reads-other : (tid : TidOf) (act : Act) → Acted faults before lines act after lines_after → takes tid act ≡ false
+    reads-other : (tid : TidOf) (act : Act) → Acted disk before lines act after lines_after → takes tid act ≡ false
         → ReadsSame before.world after.world tid
     reads-other tid (ship other letter whole) did off =
         let was = did.was in
@@ -380,7 +381,7 @@ module _ {V : Type 0} (faults : V → ℕ → ℕ) where
 
     -- a shipment of a unit whose confirmation is due after it lost it
     shipped-lost : (unit : AleUnit) (tid : TidOf) (letter : Letter) (whole : Bool) → tid ≡ unit.tid
-        → HasShipped faults before after lines lines_after tid letter whole
+        → HasShipped disk before after lines lines_after tid letter whole
         → committed_unit (meaning after.world.rules) after.world unit.tid ≡ Some unit → is_due after.world unit ≡ true → letter ≡ LostConfirmation
     shipped-lost unit tid letter whole same did named due = by letter refl
       where
@@ -437,7 +438,7 @@ module _ {V : Type 0} (faults : V → ℕ → ℕ) where
 
     -- so did a confirmation
     confirmed-lost : (unit : AleUnit) (tid : TidOf) (letter : Letter) (whole : Bool) → tid ≡ unit.tid
-        → HasConfirmed faults before after lines lines_after tid letter whole
+        → HasConfirmed disk before after lines lines_after tid letter whole
         → committed_unit (meaning after.world.rules) after.world unit.tid ≡ Some unit → is_due after.world unit ≡ true → letter ≡ LostConfirmation
     confirmed-lost unit tid letter whole same did named due = by letter refl
       where
@@ -474,7 +475,7 @@ module _ {V : Type 0} (faults : V → ℕ → ℕ) where
         by Twice is = absurd (wrong Twice (λ lost. cc) whole (grew_so Twice is))
 
     -- an act on the unit of an id that is due after it lost its confirmation
-    lost-on : (unit : AleUnit) (act : Act) → Acted faults before lines act after lines_after → takes unit.tid act ≡ true
+    lost-on : (unit : AleUnit) (act : Act) → Acted disk before lines act after lines_after → takes unit.tid act ≡ true
         → committed_unit (meaning after.world.rules) after.world unit.tid ≡ Some unit → is_due after.world unit ≡ true → loses unit.tid act ≡ true
     lost-on unit (execute system other whole) did on_it named due = cc
     lost-on unit (ship other letter whole) did on_it named due =
@@ -487,14 +488,14 @@ module _ {V : Type 0} (faults : V → ℕ → ℕ) where
   -- ---- lists of acts
 
   pub all-up : (acts : List Act) (before after : KeptOf ModelRules DocumentTables V) (lines lines_after : Lines)
-      → HaveActed faults before lines acts after lines_after → (system : ℕ) → is_up after.world system ≡ true → is_up before.world system ≡ true
+      → HaveActed disk before lines acts after lines_after → (system : ℕ) → is_up after.world system ≡ true → is_up before.world system ≡ true
   all-up [] before after lines lines_after did system up = sym (only-up before after did.0 system) ∙ up
   all-up (act ∷ acts) before after lines lines_after did system up =
       sym (only-up before did.0 did.3 system)
       ∙ acted-up did.0 did.1 lines did.2 act did.4 system (all-up acts did.1 after did.2 lines_after did.5 system up)
 
   all-committed : (acts : List Act) (before after : KeptOf ModelRules DocumentTables V) (lines lines_after : Lines)
-      → HaveActed faults before lines acts after lines_after → (tid : TidOf) (unit : AleUnit)
+      → HaveActed disk before lines acts after lines_after → (tid : TidOf) (unit : AleUnit)
       → committed_unit (meaning before.world.rules) before.world tid ≡ Some unit → committed_unit (meaning after.world.rules) after.world tid ≡ Some unit
   all-committed [] before after lines lines_after did tid unit named = only-committed before after did.0 tid ∙ named
   all-committed (act ∷ acts) before after lines lines_after did tid unit named =
@@ -503,7 +504,7 @@ module _ {V : Type 0} (faults : V → ℕ → ℕ) where
 
   -- the unit of an id in which an act took a letter was committed
   taken-committed : (before after : KeptOf ModelRules DocumentTables V) (lines lines_after : Lines) (tid : TidOf) (act : Act)
-      → Acted faults before lines act after lines_after → takes tid act ≡ true
+      → Acted disk before lines act after lines_after → takes tid act ≡ true
       → (sent : AleUnit) × (committed_unit (meaning before.world.rules) before.world tid ≡ Some sent)
   taken-committed before after lines lines_after tid (ship other letter whole) did on_it =
       let was = did.was in
@@ -514,7 +515,7 @@ module _ {V : Type 0} (faults : V → ℕ → ℕ) where
 
   -- a unit that is due after acts was due before, and took a letter in none of them; or its confirmation was lost
   pub lost-or-due : (acts : List Act) (before after : KeptOf ModelRules DocumentTables V) (lines lines_after : Lines)
-      → HaveActed faults before lines acts after lines_after → (unit : AleUnit)
+      → HaveActed disk before lines acts after lines_after → (unit : AleUnit)
       → committed_unit (meaning after.world.rules) after.world unit.tid ≡ Some unit → is_due after.world unit ≡ true
       → ((is_due before.world unit ≡ true) × (list_any (takes unit.tid) acts ≡ false)) ⊎ (list_any (loses unit.tid) acts ≡ true)
   lost-or-due [] before after lines lines_after did unit named due = inl (sym (only-due before after did.0 unit) ∙ due, refl)
@@ -543,7 +544,7 @@ module _ {V : Type 0} (faults : V → ℕ → ℕ) where
 
   -- a unit that is due before acts is due after them where its systems are up, or it took a letter in one of them
   pub due-or-on : (acts : List Act) (before after : KeptOf ModelRules DocumentTables V) (lines lines_after : Lines)
-      → HaveActed faults before lines acts after lines_after → (unit : AleUnit) → is_due before.world unit ≡ true
+      → HaveActed disk before lines acts after lines_after → (unit : AleUnit) → is_due before.world unit ≡ true
       → is_up after.world unit.tid.system ≡ true → is_up after.world unit.receiver ≡ true
       → (is_due after.world unit ≡ true) ⊎ (list_any (takes unit.tid) acts ≡ true)
   due-or-on [] before after lines lines_after did unit due sender receiver = inl (only-due before after did.0 unit ∙ due)

@@ -8,6 +8,7 @@ use Rattle.std.proofs.lemmas.Bool.{and_from, and_parts, both_ways, cases_Bool, e
 use Rattle.std.proofs.lemmas.List.Elements.{filter-append, filter_map-append}
 use Rattle.std.proofs.lemmas.List.Folds.{list_all-append, list_any-append}
 use Rattle.std.proofs.lemmas.List.Sums.{fold-append}
+use Rattle.ale_volumes.specs.Disk.{Disk}
 use Rattle.ale_base.specs.Tid.{TidOf, is_tid}
 use Rattle.ale_base.specs.declared.mark.Mark.{Mark as Cause}
 use Rattle.ale_base.specs.declared.mark.Mark.TheVariants.{Cpicerr, Sysfail}
@@ -201,9 +202,9 @@ module _ (before after : World ModelRules) (unit : AleUnit) (letter : Letter) (g
       inr (mark-settles before after unit.tid (delivery letter given unit) Closing (log.Mark unit.tid Cpicerr)
       (there None (log.Mark unit.tid Cpicerr) is refl) Cpicerr refl closing-works)
 
-module _ {V : Type 0} (faults : V → ℕ → ℕ) where
+module _ {V : Type 0} (disk : Disk V) where
   module _ (before after : KeptOf ModelRules DocumentTables V) (lines lines_after : Lines) where
-    shipped-settles : (tid : TidOf) (letter : Letter) → HasShipped faults before after lines lines_after tid letter true → NoneRuns before.world.claims
+    shipped-settles : (tid : TidOf) (letter : Letter) → HasShipped disk before after lines lines_after tid letter true → NoneRuns before.world.claims
         → IsSettled after.world tid
     shipped-settles tid letter did none =
         let was = did.was in
@@ -216,7 +217,7 @@ module _ {V : Type 0} (faults : V → ℕ → ℕ) where
         (λ busy. never-busy (meaning before.world.rules) before.world unit none (busy-is (is_answered_under letter) given busy)))
 
     -- an act appends records of works
-    pub acted-appended : (act : Act) → Acted faults before lines act after lines_after → AreAppended IsOfWork before.world after.world
+    pub acted-appended : (act : Act) → Acted disk before lines act after lines_after → AreAppended IsOfWork before.world after.world
     acted-appended (ship tid letter whole) did =
         let was = did.was in
         let given = answer_to (meaning before.world.rules) before.world was.unit in
@@ -230,7 +231,7 @@ module _ {V : Type 0} (faults : V → ℕ → ℕ) where
         (confirmation-works letter (forgot before.world did.unit) did.unit)
 
     -- a unit that is settled is not shipped
-    settled-not : (tid : TidOf) (letter : Letter) (whole : Bool) → HasShipped faults before after lines lines_after tid letter whole
+    settled-not : (tid : TidOf) (letter : Letter) (whole : Bool) → HasShipped disk before after lines lines_after tid letter whole
         → IsSettled before.world tid → ⊥
     settled-not tid letter whole did is =
         let was = did.was in
@@ -259,7 +260,7 @@ module _ {V : Type 0} (faults : V → ℕ → ℕ) where
   ]
 
   pub all-settled : (acts : List Act) (before after : KeptOf ModelRules DocumentTables V) (lines lines_after : Lines)
-      → HaveActed faults before lines acts after lines_after → (tid : TidOf) → IsSettled before.world tid → IsSettled after.world tid
+      → HaveActed disk before lines acts after lines_after → (tid : TidOf) → IsSettled before.world tid → IsSettled after.world tid
   all-settled [] before after lines lines_after did tid is = only-settled before after did.0 tid is
   all-settled (act ∷ acts) before after lines lines_after did tid is =
       all-settled acts did.1 after did.2 lines_after did.5 tid
@@ -267,7 +268,7 @@ module _ {V : Type 0} (faults : V → ℕ → ℕ) where
 
   -- what is done stays done
   pub all-done : (acts : List Act) (before after : KeptOf ModelRules DocumentTables V) (lines lines_after : Lines)
-      → HaveActed faults before lines acts after lines_after → (tid : TidOf) → is_listed tid (done_in (log_of before.world tid.system)) ≡ true
+      → HaveActed disk before lines acts after lines_after → (tid : TidOf) → is_listed tid (done_in (log_of before.world tid.system)) ≡ true
       → is_listed tid (done_in (log_of after.world tid.system)) ≡ true
   all-done [] before after lines lines_after did tid done = ap (λ l. is_listed tid (done_in l)) (only-log before after did.0 tid.system) ∙ done
   all-done (act ∷ acts) before after lines lines_after did tid done =
@@ -279,7 +280,7 @@ module _ {V : Type 0} (faults : V → ℕ → ℕ) where
 
   -- a unit that is settled takes no letter in a round
   pub none-taken : (acts : List Act) (before after : KeptOf ModelRules DocumentTables V) (lines lines_after : Lines)
-      → HaveActed faults before lines acts after lines_after → list_all is_round acts ≡ true → (tid : TidOf) → IsSettled before.world tid
+      → HaveActed disk before lines acts after lines_after → list_all is_round acts ≡ true → (tid : TidOf) → IsSettled before.world tid
       → filter (takes tid) acts ≡ []
   none-taken [] before after lines lines_after did rounds tid is = refl
   none-taken (ship other letter whole ∷ acts) before after lines lines_after did rounds tid is =
@@ -312,11 +313,11 @@ cut-all [] ys cut each = each
 cut-all (x ∷ xs) ys cut each =
     let parts = and_parts (is_cut x) (list_all is_cut xs) cut in cut-more x (xs ++ ys) parts.0 (cut-all xs ys parts.1 each)
 
-module _ {V : Type 0} (faults : V → ℕ → ℕ) where
+module _ {V : Type 0} (disk : Disk V) where
   -- a unit that was shipped took one letter
   pub once-shipped : (before after : KeptOf ModelRules DocumentTables V) (lines lines_after : Lines) (tid : TidOf) (letter : Letter) (whole : Bool)
-      → HasShipped faults before after lines lines_after tid letter whole → NoneRuns before.world.claims → (other : TidOf)
-      → TakesOnce faults before lines after lines_after (ship tid letter whole ∷ []) other
+      → HasShipped disk before after lines lines_after tid letter whole → NoneRuns before.world.claims → (other : TidOf)
+      → TakesOnce disk before lines after lines_after (ship tid letter whole ∷ []) other
   once-shipped before after lines lines_after tid letter false did none other = elim (cases_Bool (is_tid tid other)) [
     | inl same ↦ inl (rw same refl)
     | inr differs ↦ inl (rw differs refl)
@@ -326,16 +327,16 @@ module _ {V : Type 0} (faults : V → ℕ → ℕ) where
         inr (
           rw same refl,
           subst (IsSettled after.world) (is_tid-true tid other same)
-              (shipped-settles faults before after lines lines_after tid letter did none),
+              (shipped-settles disk before after lines lines_after tid letter did none),
         )
     | inr differs ↦ inl (rw differs refl)
   ]
 
   -- acts, and then rounds
   pub once-on : (acts more : List Act) (before between after : KeptOf ModelRules DocumentTables V) (lines lines_between lines_after : Lines)
-      → HaveActed faults between lines_between more after lines_after → list_all is_round more ≡ true → (tid : TidOf)
-      → TakesOnce faults before lines between lines_between acts tid → TakesOnce faults between lines_between after lines_after more tid
-      → TakesOnce faults before lines after lines_after (acts ++ more) tid
+      → HaveActed disk between lines_between more after lines_after → list_all is_round more ≡ true → (tid : TidOf)
+      → TakesOnce disk before lines between lines_between acts tid → TakesOnce disk between lines_between after lines_after more tid
+      → TakesOnce disk before lines after lines_after (acts ++ more) tid
   once-on acts more before between after lines lines_between lines_after did rounds tid first second =
       let both = filter-append (takes tid) acts more in
       elim first [
@@ -346,9 +347,9 @@ module _ {V : Type 0} (faults : V → ℕ → ℕ) where
           | inr once ↦ inr (ap each_but_last_cut both ∙ cut-all (filter (takes tid) acts) (filter (takes tid) more) cut once.0, once.1)
         ]
         | inr once ↦
-            let none = none-taken faults more between after lines_between lines_after did rounds tid once.1 in
+            let none = none-taken disk more between after lines_between lines_after did rounds tid once.1 in
             inr (
               ap each_but_last_cut (both ∙ ap (λ l. filter (takes tid) acts ++ l) none ∙ append-nil (filter (takes tid) acts)) ∙ once.0,
-              all-settled faults more between after lines_between lines_after did tid once.1,
+              all-settled disk more between after lines_between lines_after did tid once.1,
             )
       ]

@@ -2,6 +2,7 @@
 use Rattle.std.specs.Prelude.{Result, Ok, Err, filter}
 use Rattle.std.proofs.Common.{◌≡◌, ◌==◌, ◌+◌, ◌&&◌, ℕ, not, Bool, true, false, cond, Option, Some, None, inl, refl, sym, ap, subst, ◌∙◌, arith}
 use Rattle.std.proofs.lemmas.Bool.{both_ways, cond_both}
+use Rattle.ale_volumes.specs.Disk.{Disk}
 use Rattle.ale_base.specs.Tid.{TidOf, is_tid}
 use Rattle.ale_base.specs.declared.mark.Mark.TheVariants.{Cpicerr, Sysfail}
 use Rattle.unit_core.specs.declared.records.Record.{Record}
@@ -32,6 +33,7 @@ use Rattle.unit_landscape.specs.declared.claims.OutClaim.{OutClaim}
 use Rattle.unit_landscape.specs.Appending.{HoldsOut, record_of_receipt, record_of_refusal}
 use Rattle.unit_landscape.specs.Calls.{RepliedAs, is_refused, reply_event, stands_out, was_received}
 use Rattle.unit_landscape.specs.Ends.{Happened}
+use Rattle.unit_landscape.specs.Crashes.{LeavesSound}
 use Rattle.unit_landscape.specs.Kept.{IsLandscape}
 use Rattle.unit_landscape.specs.Writes.{Appends}
 use Rattle.unit_landscape.proofs.EventLemmas.{event-after, event-up}
@@ -56,7 +58,7 @@ record HasClosed {R : Type 0} (before after : World R) (number : ℕ) : Type 0 w
   claims : after.claims ≡ filter (λ (h : Held). not (h.number == number)) before.claims
 
 module _ {R A V : Type 0} (meaning : R → Meaning) (lawful : (r : R) → IsLawful (meaning r)) (before : KeptOf R A V) (is : IsLandscape meaning before.world)
-    (claim : OutClaim) (given : Reply) (faults : V → ℕ → ℕ) (after : KeptOf R A V) where
+    (claim : OutClaim) (given : Reply) (disk : Disk V) (after : KeptOf R A V) where
   abbrev ItsEvent : Event
   ItsEvent = reply_event (meaning before.world.rules) before.world claim given
 
@@ -81,24 +83,27 @@ module _ {R A V : Type 0} (meaning : R → Meaning) (lawful : (r : R) → IsLawf
   step-reply reply.Lost = refl
   step-reply reply.Busy = refl
 
-  pub went-replied : (result : Result Replied WorkEnd) → RepliedAs (meaning before.world.rules) faults before after claim given result
-      → (result ≡ Err end.OutOfMemory → ⊥) → WentOn meaning faults (is_reply given) true before after
-  went-replied (Ok replied.Recorded) did other =
-      went-happened meaning lawful faults (is_reply given) before after is true ItsEvent (step-reply given) (is_reply-event given) did.2
-  went-replied (Ok replied.Released) did other =
-      went-happened meaning lawful faults (is_reply given) before after is true ItsEvent (step-reply given) (is_reply-event given) did.2
-  went-replied (Ok replied.Down) did other =
-      went-fell meaning lawful faults (is_reply given) before after is (λ system kept works. works) true ItsEvent (step-reply given) did.1
-  went-replied (Err end.Stale) did other = went-same meaning faults (is_reply given) true before after did.1
-  went-replied (Err end.OutOfMemory) did other = absurd (other refl)
+  pub went-replied : (disk.told → LeavesSound meaning disk before after) → (result : Result Replied WorkEnd) →
+      RepliedAs (meaning before.world.rules) disk before after claim given result
+      → (result ≡ Err end.OutOfMemory → ⊥) → WentOn meaning disk (is_reply given) true before after
+  went-replied leaves (Ok replied.Recorded) did other =
+      went-happened meaning lawful disk (is_reply given) before after is leaves true ItsEvent (step-reply given) (is_reply-event given) did.2
+  went-replied leaves (Ok replied.Released) did other =
+      went-happened meaning lawful disk (is_reply given) before after is leaves true ItsEvent (step-reply given) (is_reply-event given) did.2
+  went-replied leaves (Ok replied.Down) did other =
+      went-fell meaning lawful disk (is_reply given) before after is leaves (λ system kept works. works) true ItsEvent (step-reply given) did.1
+  went-replied leaves (Err end.Stale) did other = went-same meaning disk (is_reply given) true before after did.1
+  went-replied leaves (Err end.OutOfMemory) did other = absurd (other refl)
 
   -- the same where memory may be wanting
-  pub went-replied_short : (result : Result Replied WorkEnd) → RepliedAs (meaning before.world.rules) faults before after claim given result
-      → WentOn meaning faults (is_reply given) false before after
-  went-replied_short (Ok done) did = went-whole meaning faults (is_reply given) false before after (went-replied (Ok done) did (λ is. cc))
-  went-replied_short (Err end.Stale) did = went-same meaning faults (is_reply given) false before after did.1
-  went-replied_short (Err end.OutOfMemory) did =
-      went-short meaning lawful faults (is_reply given) before after is (λ system kept works. works) ItsEvent (step-reply given) (is_reply-event given) did.1
+  pub went-replied_short : (disk.told → LeavesSound meaning disk before after) → (result : Result Replied WorkEnd) →
+      RepliedAs (meaning before.world.rules) disk before after claim given result
+      → WentOn meaning disk (is_reply given) false before after
+  went-replied_short leaves (Ok done) did = went-whole meaning disk (is_reply given) false before after (went-replied leaves (Ok done) did (λ is. cc))
+  went-replied_short leaves (Err end.Stale) did = went-same meaning disk (is_reply given) false before after did.1
+  went-replied_short leaves (Err end.OutOfMemory) did =
+      went-short meaning lawful disk (is_reply given) before after is leaves (λ system kept works. works) ItsEvent (step-reply given)
+      (is_reply-event given) did.1
 
   -- the record of a reply
   closed-by : (held : Held) → HoldsOut before.world claim held → (e : Event) (next : Record)
@@ -136,7 +141,7 @@ module _ {R A V : Type 0} (meaning : R → Meaning) (lawful : (r : R) → IsLawf
   recorded held holds reply.Busy other same = absurd (other refl)
 
   -- a claim that is given up
-  released : given ≡ reply.Busy → stands_out before.world claim ≡ true → Happened (meaning before.world.rules) faults before after ItsEvent
+  released : given ≡ reply.Busy → stands_out before.world claim ≡ true → Happened (meaning before.world.rules) disk before after ItsEvent
       → HasClosed before.world after.world claim.number
   released busy stands did =
       let there = held-out before.world claim stands in
@@ -150,28 +155,28 @@ module _ {R A V : Type 0} (meaning : R → Meaning) (lawful : (r : R) → IsLawf
             ∙ ap (λ n. filter (λ (h : Held). not (h.number == n)) before.world.claims) (out-number before.world claim held there.1);
       }
 
-  recorded-is : stands_out before.world claim ≡ true → (given ≡ reply.Busy → ⊥) → Happened (meaning before.world.rules) faults before after ItsEvent
+  recorded-is : stands_out before.world claim ≡ true → (given ≡ reply.Busy → ⊥) → Happened (meaning before.world.rules) disk before after ItsEvent
       → HasClosed before.world after.world claim.number
   recorded-is stands other did = let there = held-out before.world claim stands in recorded there.0 there.1 given other did.world
 
-  pub finished-replied : (result : Result Replied WorkEnd) → RepliedAs (meaning before.world.rules) faults before after claim given result
+  pub finished-replied : (result : Result Replied WorkEnd) → RepliedAs (meaning before.world.rules) disk before after claim given result
       → (result ≡ Err end.OutOfMemory → ⊥) → finished_in after.world ≡ finished_in before.world
   finished-replied (Ok replied.Recorded) did other = let closed = recorded-is did.0 did.1 did.2 in closed.count
   finished-replied (Ok replied.Released) did other = let closed = released did.1 did.0 did.2 in closed.count
-  finished-replied (Ok replied.Down) did other = finished-fell meaning lawful faults before after is ItsEvent did.1
+  finished-replied (Ok replied.Down) did other = finished-fell meaning lawful disk before after is ItsEvent did.1
   finished-replied (Err end.Stale) did other = let same = did.1 in ap (λ (k : KeptOf R A V). finished_in k.world) same
   finished-replied (Err end.OutOfMemory) did other = absurd (other refl)
 
   -- ---- the claims
 
   -- that of the reply goes, or all do
-  pub left-replied : (result : Result Replied WorkEnd) → RepliedAs (meaning before.world.rules) faults before after claim given result
+  pub left-replied : (result : Result Replied WorkEnd) → RepliedAs (meaning before.world.rules) disk before after claim given result
       → (result ≡ Err end.OutOfMemory → ⊥) → stands_out before.world claim ≡ true
       → AreOrGone before.world after.world (without_claim before.world claim.number).claims
   left-replied (Ok replied.Recorded) did other stands = let closed = recorded-is did.0 did.1 did.2 in inl closed.claims
   left-replied (Ok replied.Released) did other stands = let closed = released did.1 did.0 did.2 in inl closed.claims
   left-replied (Ok replied.Down) did other stands =
-      gone-fell meaning lawful faults before after is ItsEvent did.1 (filter (λ (h : Held). not (h.number == claim.number)) before.world.claims)
+      gone-fell meaning lawful disk before after is ItsEvent did.1 (filter (λ (h : Held). not (h.number == claim.number)) before.world.claims)
   left-replied (Err end.Stale) did other stands = absurd (both_ways (stands_out before.world claim) did.0 stands)
   left-replied (Err end.OutOfMemory) did other stands = absurd (other refl)
 
@@ -264,33 +269,33 @@ module _ {R A V : Type 0} (meaning : R → Meaning) (lawful : (r : R) → IsLawf
   -- the sender appends what it notes of what it learnt, unless it falls in its place
   pub appended-replied : (learnt : Option CoreAnswer) → stands_out before.world claim ≡ true
       → reply_event (meaning before.world.rules) before.world claim given ≡ event_of learnt claim.number
-      → (result : Result Replied WorkEnd) → RepliedAs (meaning before.world.rules) faults before after claim given result
+      → (result : Result Replied WorkEnd) → RepliedAs (meaning before.world.rules) disk before after claim given result
       → (result ≡ Err end.OutOfMemory → ⊥) → Appended before after (noted_of learnt claim.tid)
   appended-replied learnt stands same result did other = by_end result did other
     where
       lists : listed (record_of (meaning before.world.rules) before.world ItsEvent) ≡ noted_of learnt claim.tid
       lists = let there = held-out before.world claim stands in noted there.0 there.1 learnt given same
 
-      appended : Happened (meaning before.world.rules) faults before after ItsEvent → Appended before after (noted_of learnt claim.tid)
+      appended : Happened (meaning before.world.rules) disk before after ItsEvent → Appended before after (noted_of learnt claim.tid)
       appended was = (
         true,
         subst (Wholly before.world after.world) lists
-            (happened-wholly meaning lawful faults before after is ItsEvent (step-reply given)
+            (happened-wholly meaning lawful disk before after is ItsEvent (step-reply given)
             (record_of (meaning before.world.rules) before.world ItsEvent) refl was),
       )
 
-      by_end : (r : Result Replied WorkEnd) → RepliedAs (meaning before.world.rules) faults before after claim given r
+      by_end : (r : Result Replied WorkEnd) → RepliedAs (meaning before.world.rules) disk before after claim given r
           → (r ≡ Err end.OutOfMemory → ⊥) → Appended before after (noted_of learnt claim.tid)
       by_end (Ok replied.Recorded) ends some = appended ends.2
       by_end (Ok replied.Released) ends some = appended ends.2
       by_end (Ok replied.Down) ends some =
-          let fell = fell-was_cut meaning lawful faults before after is ItsEvent ends.1 (noted_of learnt claim.tid) lists in (false, fell.cut)
+          let fell = fell-was_cut meaning lawful disk before after is ItsEvent ends.1 (noted_of learnt claim.tid) lists in (false, fell.cut)
       by_end (Err end.Stale) ends some = absurd (both_ways (stands_out before.world claim) ends.0 stands)
       by_end (Err end.OutOfMemory) ends some = absurd (some refl)
 
   -- a reply to a claim that does not stand leaves all as it is
   pub stale-replied : stands_out before.world claim ≡ false → (result : Result Replied WorkEnd)
-      → RepliedAs (meaning before.world.rules) faults before after claim given result → (result ≡ Err end.OutOfMemory → ⊥) → after ≡ before
+      → RepliedAs (meaning before.world.rules) disk before after claim given result → (result ≡ Err end.OutOfMemory → ⊥) → after ≡ before
   stale-replied stale (Ok replied.Recorded) did other = absurd (both_ways (stands_out before.world claim) stale did.0)
   stale-replied stale (Ok replied.Released) did other = absurd (both_ways (stands_out before.world claim) stale did.0)
   stale-replied stale (Ok replied.Down) did other = absurd (both_ways (stands_out before.world claim) stale did.0)

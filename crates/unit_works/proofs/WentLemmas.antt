@@ -2,11 +2,13 @@
 use Rattle.std.specs.Prelude.{slice_get}
 use Rattle.std.specs.List.{list_all}
 use Rattle.std.specs.Option.{unwrap_or}
-use Rattle.std.proofs.Common.{◌≡◌, ◌≢◌, ◌≤◌, ◌-◌, ◌^◌, ℕ, Bool, true, false, ◌&&◌, Option, Some, None, List, [], ◌∷◌, ◌++◌, inl, inr, refl, sym, ap, subst, ◌∙◌}
+use Rattle.std.proofs.Common.{◌≡◌, ◌≢◌, ◌≤◌, ◌-◌, ◌^◌, ℕ, Bool, true, false, ◌&&◌, Option, Some, None, List, [], ◌∷◌, ◌++◌, length, inl, inr, refl, sym, ap}
+use Rattle.std.proofs.Common.{subst, ◌∙◌}
 use Rattle.std.proofs.Common.{zero, suc, ◌+◌, arith}
 use Rattle.std.proofs.lemmas.Bool.{and_parts, and_from, both_ways, cases_Bool, cases_eq}
 use Rattle.std.proofs.lemmas.List.{get_or-set_other}
 use Rattle.std.proofs.lemmas.List.Folds.{list_all-append}
+use Rattle.ale_volumes.specs.Disk.{Disk}
 use Rattle.ale_base.specs.Tid.{TidOf}
 use Rattle.unit_core.specs.declared.records.Record.{Record}
 use Rattle.trfc_protocol.specs.declared.event.Event.{Event}
@@ -30,8 +32,10 @@ use Rattle.unit_landscape.specs.declared.cause.Cause.{Cause}
 use Rattle.unit_landscape.specs.declared.cause.Cause.TheVariants.{Up, Faulted, Overran, Short}
 use Rattle.unit_landscape.specs.Causes.{cause_in, with_cause, causes_after}
 use Rattle.unit_landscape.specs.Ends.{NoFaults, Happened, Failed, FellBehind, Stays, FellInstead, IsShort, Overflowed}
+use Rattle.unit_landscape.specs.Crashes.{GoesByCalls, LeavesSound}
 use Rattle.unit_landscape.specs.Kept.{IsLandscape}
 use Rattle.unit_landscape.specs.Writes.{MomentsAs}
+use Rattle.unit_landscape.proofs.CrashLemmas.{calls-none, calls-on, calls-one}
 use Rattle.unit_landscape.proofs.EndsLemmas.{falls-up, too_long-same}
 use Rattle.unit_works.specs.Events.{is_works_record, is_works_rest}
 use Rattle.unit_works.specs.Went.{AreStamped, HasCause, HasNotFallen, HasRisen, HaveWorksBehind, IsUnfit, StaysDown, WentOn, with_more}
@@ -88,11 +92,11 @@ quiet-step (Fall system kept) causes step = cc
 quiet-step (Open system) causes step = cc
 quiet-step e causes step = refl
 
-module _ {R A V : Type 0} (meaning : R → Meaning) (faults : V → ℕ → ℕ) (before between after : KeptOf R A V) (system : ℕ) where
+module _ {R A V : Type 0} (meaning : R → Meaning) (disk : Disk V) (before between after : KeptOf R A V) (system : ℕ) where
   -- a record that did not fit does not where its system stays down
   unfit-still : (rules : after.world.rules ≡ between.world.rules)
       → ((tid : TidOf) → committed_unit (meaning after.world.rules) after.world tid ≡ committed_unit (meaning between.world.rules) between.world tid)
-      → StaysDown between after system → IsUnfit meaning faults before between system → IsUnfit meaning faults before after system
+      → StaysDown between after system → IsUnfit meaning disk before between system → IsUnfit meaning disk before after system
   unfit-still rules committed stays unfit =
       record {
         next = unfit.next;
@@ -106,7 +110,7 @@ module _ {R A V : Type 0} (meaning : R → Meaning) (faults : V → ℕ → ℕ)
       }
 
   -- a record that does not fit at last did not
-  unfit-last : IsUnfit meaning faults between after system → IsUnfit meaning faults before after system
+  unfit-last : IsUnfit meaning disk between after system → IsUnfit meaning disk before after system
   unfit-last unfit = record {
     next = unfit.next;
     works = unfit.works;
@@ -118,19 +122,19 @@ module _ {R A V : Type 0} (meaning : R → Meaning) (faults : V → ℕ → ℕ)
   }
 
   -- a system that fell at last did so for its cause
-  cause-last : (rest : Option Record) → HasNotFallen (faults before.vols (system - 1)) (faults between.vols (system - 1))
-      → HasCause meaning faults between after system rest → HasCause meaning faults before after system rest
+  cause-last : (rest : Option Record) → HasNotFallen (disk.faults before.vols (system - 1)) (disk.faults between.vols (system - 1))
+      → HasCause meaning disk between after system rest → HasCause meaning disk before after system rest
   cause-last (Some next) held cause =
-      (then-risen (faults before.vols (system - 1)) (faults between.vols (system - 1)) (faults after.vols (system - 1)) held cause.0, cause.1)
+      (then-risen (disk.faults before.vols (system - 1)) (disk.faults between.vols (system - 1)) (disk.faults after.vols (system - 1)) held cause.0, cause.1)
   cause-last None held cause = unfit-last cause
 
   -- so did one that fell before, and stays down
   cause-first : (rest : Option Record) → (rules : after.world.rules ≡ between.world.rules)
       → ((tid : TidOf) → committed_unit (meaning after.world.rules) after.world tid ≡ committed_unit (meaning between.world.rules) between.world tid)
-      → HasNotFallen (faults between.vols (system - 1)) (faults after.vols (system - 1)) → StaysDown between after system
-      → HasCause meaning faults before between system rest → HasCause meaning faults before after system rest
+      → HasNotFallen (disk.faults between.vols (system - 1)) (disk.faults after.vols (system - 1)) → StaysDown between after system
+      → HasCause meaning disk before between system rest → HasCause meaning disk before after system rest
   cause-first (Some next) rules committed holds stays cause = (
-    risen-then (faults before.vols (system - 1)) (faults between.vols (system - 1)) (faults after.vols (system - 1)) cause.0 holds,
+    risen-then (disk.faults before.vols (system - 1)) (disk.faults between.vols (system - 1)) (disk.faults after.vols (system - 1)) cause.0 holds,
     stays.cause ∙ cause.1,
   )
   cause-first None rules committed holds stays cause = unfit-still rules committed stays cause
@@ -158,9 +162,9 @@ up-known rules world safe system up =
     let known = is_up-known world system up in
     (up-least world system up, subst (λ n. system ≤ n) safe.systems (state_of-most world.systems system known.0 known.1))
 
-module _ {R A V : Type 0} (meaning : R → Meaning) (faults : V → ℕ → ℕ) (may : Event → Bool) where
+module _ {R A V : Type 0} (meaning : R → Meaning) (disk : Disk V) (may : Event → Bool) where
   -- nothing has happened
-  went-nowhere : (whole : Bool) (kept : KeptOf R A V) → WentOn meaning faults may whole kept kept
+  went-nowhere : (whole : Bool) (kept : KeptOf R A V) → WentOn meaning disk may whole kept kept
   went-nowhere whole kept = record {
     events = [];
     each = refl;
@@ -174,13 +178,14 @@ module _ {R A V : Type 0} (meaning : R → Meaning) (faults : V → ℕ → ℕ)
     unharmed = λ system least up. refl;
     stays = λ system least down. record { down = down; rest = refl; log = refl; moments = refl; moment = refl; rest_moment = refl; cause = refl };
     falls = λ is system up down. absurd (both_ways (is_up kept.world system) down up);
+    calls = λ tells. calls-none meaning disk kept kept refl;
   }
 
-  pub went-same : (whole : Bool) (before after : KeptOf R A V) → after ≡ before → WentOn meaning faults may whole before after
-  went-same whole before after same = subst (WentOn meaning faults may whole before) (sym same) (went-nowhere whole before)
+  pub went-same : (whole : Bool) (before after : KeptOf R A V) → after ≡ before → WentOn meaning disk may whole before after
+  went-same whole before after same = subst (WentOn meaning disk may whole before) (sym same) (went-nowhere whole before)
 
   -- whole work is work
-  pub went-whole : (whole : Bool) (before after : KeptOf R A V) → WentOn meaning faults may true before after → WentOn meaning faults may whole before after
+  pub went-whole : (whole : Bool) (before after : KeptOf R A V) → WentOn meaning disk may true before after → WentOn meaning disk may whole before after
   went-whole whole before after went = record {
     events = went.events;
     each = went.each;
@@ -194,12 +199,13 @@ module _ {R A V : Type 0} (meaning : R → Meaning) (faults : V → ℕ → ℕ)
     unharmed = went.unharmed;
     stays = went.stays;
     falls = λ is. went.falls refl;
+    calls = went.calls;
   }
 
   -- on and on
-  pub went-on : (whole : Bool) (before between after : KeptOf R A V) → WentOn meaning faults may true before between
-      → WentOn meaning faults may whole between after
-      → WentOn meaning faults may whole before after
+  pub went-on : (whole : Bool) (before between after : KeptOf R A V) → WentOn meaning disk may true before between
+      → WentOn meaning disk may whole between after
+      → WentOn meaning disk may whole before after
   went-on whole before between after first second = record {
     events = first.events ++ second.events;
     each = list_all-append may first.events second.events ∙ and_from (list_all may first.events) (list_all may second.events) first.each second.each;
@@ -216,7 +222,7 @@ module _ {R A V : Type 0} (meaning : R → Meaning) (faults : V → ℕ → ℕ)
       | inl still ↦ second.unharmed system least up ∙ first.unharmed system least still
       | inr down ↦ let stays = second.stays system least down in absurd (both_ways (is_up after.world system) stays.down up)
     ];
-    counts = λ place. not_fallen-on (faults before.vols place) (faults between.vols place) (faults after.vols place) (first.counts place)
+    counts = λ place. not_fallen-on (disk.faults before.vols place) (disk.faults between.vols place) (disk.faults after.vols place) (first.counts place)
         (second.counts place);
     stays = λ system least down.
         let one = first.stays system least down in
@@ -231,19 +237,20 @@ module _ {R A V : Type 0} (meaning : R → Meaning) (faults : V → ℕ → ℕ)
           cause = two.cause ∙ one.cause;
         };
     falls = λ is system up down. elim (cases_Bool (is_up between.world system)) [
-      | inl still ↦ cause-last meaning faults before between after system (rest_of after.world system) (first.counts (system - 1))
+      | inl still ↦ cause-last meaning disk before between after system (rest_of after.world system) (first.counts (system - 1))
           (second.falls is system still down)
       | inr fell ↦
           let stays = second.stays system (up-least before.world system up) fell in
-          subst (HasCause meaning faults before after system) (sym stays.rest)
-          (cause-first meaning faults before between after system (rest_of between.world system) second.rules second.committed (second.counts (system - 1))
+          subst (HasCause meaning disk before after system) (sym stays.rest)
+          (cause-first meaning disk before between after system (rest_of between.world system) second.rules second.committed (second.counts (system - 1))
           stays (first.falls refl system up fell))
     ];
+    calls = λ tells. calls-on meaning disk before between after (first.calls tells) (second.calls tells);
   }
 
   -- where more may happen
   pub went-wider : (whole : Bool) (might : Event → Bool) (before after : KeptOf R A V) → ((e : Event) → may e ≡ true → might e ≡ true)
-      → WentOn meaning faults may whole before after → WentOn meaning faults might whole before after
+      → WentOn meaning disk may whole before after → WentOn meaning disk might whole before after
   went-wider whole might before after wider went = record {
     events = went.events;
     each = all-wider may might went.events wider went.each;
@@ -257,6 +264,7 @@ module _ {R A V : Type 0} (meaning : R → Meaning) (faults : V → ℕ → ℕ)
     unharmed = went.unharmed;
     stays = went.stays;
     falls = went.falls;
+    calls = went.calls;
   }
 
 -- ---- what became of an event
@@ -311,10 +319,26 @@ none-noted-rest place moment before after left = record {
   };
 }
 
-module _ {R A V : Type 0} (meaning : R → Meaning) (lawful : (r : R) → IsLawful (meaning r)) (faults : V → ℕ → ℕ) (may : Event → Bool)
+module _ {R A V : Type 0} (meaning : R → Meaning) (lawful : (r : R) → IsLawful (meaning r)) (disk : Disk V) (may : Event → Bool)
     (before after : KeptOf R A V)
-    (is : IsLandscape meaning before.world) where
-  counted-same : NoFaults (meaning before.world.rules) faults before after → (place : ℕ) → HasNotFallen (faults before.vols place) (faults after.vols place)
+    (is : IsLandscape meaning before.world) (leaves : disk.told → LeavesSound meaning disk before after) where
+  -- one call, of which it is known what it leaves
+  linked : disk.told → after.world.rules ≡ before.world.rules → HaveWorksBehind before.world after.world
+      → length after.world.systems ≡ length before.world.systems → GoesByCalls meaning disk before after
+  linked tells rules logs many = calls-one meaning disk before after (record {
+    leaves = leaves tells;
+    rules = rules;
+    many = many;
+    grows = λ system. let its = logs system in (its.0, its.1);
+  })
+
+  -- a safe landscape by the same rules has as many systems
+  as-many : after.world.rules ≡ before.world.rules → Safe (meaning after.world.rules) after.world
+      → length after.world.systems ≡ length before.world.systems
+  as-many rules safe = safe.systems ∙ ap (λ (r : R). (meaning r).systems) rules ∙ sym is.safe.systems
+
+  counted-same : NoFaults (meaning before.world.rules) disk before after → (place : ℕ) →
+      HasNotFallen (disk.faults before.vols place) (disk.faults after.vols place)
   counted-same none place = let same = none place in inl (omega arith)
 
   -- a system that is down is other than one that is up, and so is its journal
@@ -383,8 +407,8 @@ module _ {R A V : Type 0} (meaning : R → Meaning) (lawful : (r : R) → IsLawf
   stamped-by (Some it) more place = stamped-one (it.system - 1) more place
 
   -- an event happened
-  pub went-happened : (whole : Bool) (e : Event) → is_step e ≡ true → may e ≡ true → Happened (meaning before.world.rules) faults before after e
-      → WentOn meaning faults may whole before after
+  pub went-happened : (whole : Bool) (e : Event) → is_step e ≡ true → may e ≡ true → Happened (meaning before.world.rules) disk before after e
+      → WentOn meaning disk may whole before after
   went-happened whole e step is_may did = record {
     events = e ∷ [];
     each = and_from (may e) true is_may refl;
@@ -409,10 +433,15 @@ module _ {R A V : Type 0} (meaning : R → Meaning) (lawful : (r : R) → IsLawf
         absurd (both_ways (is_up before.world other)
         (sym (step-up (meaning before.world.rules) (lawful before.world.rules) before.world is.safe e step other)
         ∙ sym (ap (λ (w : World R). is_up w other) did.world) ∙ down) up);
+    calls = λ tells. linked tells (Safe-step meaning lawful before.world after.world e is.safe did.world).0
+        (subst (HaveWorksBehind before.world) (sym did.world)
+        (works-event (meaning before.world.rules) (lawful before.world.rules) before.world is.safe e step))
+        (as-many (Safe-step meaning lawful before.world after.world e is.safe did.world).0
+        (Safe-step meaning lawful before.world after.world e is.safe did.world).1);
   }
 
   -- memory was wanting before
-  pub went-stays : (whole : Bool) → Stays (meaning before.world.rules) faults before after → WentOn meaning faults may whole before after
+  pub went-stays : (whole : Bool) → Stays (meaning before.world.rules) disk before after → WentOn meaning disk may whole before after
   went-stays whole did = record {
     events = [];
     each = refl;
@@ -428,6 +457,9 @@ module _ {R A V : Type 0} (meaning : R → Meaning) (lawful : (r : R) → IsLawf
         same-state other down (ap (λ (w : World R). state_of w.systems other) did.world)
         (still-same before.journals after.journals (other - 1) did.journals) (same-cause did.causes other);
     falls = λ is_whole other up down. absurd (both_ways (is_up before.world other) (sym (ap (λ (w : World R). is_up w other) did.world) ∙ down) up);
+    calls = λ tells. linked tells (ap (λ (w : World R). w.rules) did.world)
+        (works-same before.world after.world (λ system. ap (λ (w : World R). log_of w system) did.world))
+        (ap (λ (w : World R). length w.systems) did.world);
   }
 
   module _ (falls : (system : ℕ) (kept : Option Record) → is_works_rest kept ≡ true → may (Fall system kept) ≡ true) where
@@ -436,9 +468,9 @@ module _ {R A V : Type 0} (meaning : R → Meaning) (lawful : (r : R) → IsLawf
         → after.world ≡ happens (meaning before.world.rules) before.world (Fall system rest) → after.world ≡ with_fall before.world system rest
         → NoneNoted (system - 1) before.journals after.journals
         → ((other : ℕ) → 1 ≤ other → is_up before.world other ≡ false → cause_at after other ≡ cause_at before other)
-        → ((place : ℕ) → HasNotFallen (faults before.vols place) (faults after.vols place))
-        → ((other : ℕ) → 1 ≤ other → is_up after.world other ≡ true → faults after.vols (other - 1) ≡ faults before.vols (other - 1))
-        → HasCause meaning faults before after system rest → WentOn meaning faults may whole before after
+        → ((place : ℕ) → HasNotFallen (disk.faults before.vols place) (disk.faults after.vols place))
+        → ((other : ℕ) → 1 ≤ other → is_up after.world other ≡ true → disk.faults after.vols (other - 1) ≡ disk.faults before.vols (other - 1))
+        → HasCause meaning disk before after system rest → WentOn meaning disk may whole before after
     one-fall whole system rest works up world fall journals causes counts unharmed cause = record {
       events = Fall system rest ∷ [];
       each = and_from (may (Fall system rest)) true (falls system rest works) refl;
@@ -458,26 +490,31 @@ module _ {R A V : Type 0} (meaning : R → Meaning) (lawful : (r : R) → IsLawf
           (journals.others (other - 1) (places-differ system other up least down)) (causes other least down);
       falls = λ is_whole other was down.
           let its : other ≡ system = fall-only before.world system up rest other was (sym (ap (λ (w : World R). is_up w other) fall) ∙ down) in
-          subst (λ s. HasCause meaning faults before after s (rest_of after.world s)) (sym its)
-          (subst (HasCause meaning faults before after system) (sym (ap (λ (w : World R). rest_of w system) fall ∙ fall-rest before.world system up rest))
+          subst (λ s. HasCause meaning disk before after s (rest_of after.world s)) (sym its)
+          (subst (HasCause meaning disk before after system) (sym (ap (λ (w : World R). rest_of w system) fall ∙ fall-rest before.world system up rest))
           cause);
+      calls = λ tells. linked tells (Safe-step meaning lawful before.world after.world (Fall system rest) is.safe world).0
+          (works-same before.world after.world
+          (λ other. ap (λ (w : World R). log_of w other) fall ∙ fall-log before.world system up rest other))
+          (as-many (Safe-step meaning lawful before.world after.world (Fall system rest) is.safe world).0
+          (Safe-step meaning lawful before.world after.world (Fall system rest) is.safe world).1);
     }
 
-    failed-counts : (it : Writing) → Failed (meaning before.world.rules) faults before after it → (place : ℕ)
-        → HasNotFallen (faults before.vols place) (faults after.vols place)
+    failed-counts : (it : Writing) → Failed (meaning before.world.rules) disk before after it → (place : ℕ)
+        → HasNotFallen (disk.faults before.vols place) (disk.faults after.vols place)
     failed-counts it did place = elim (cases_eq place (it.system - 1)) [
       | inl here ↦
-          subst (λ p. HasNotFallen (faults before.vols p) (faults after.vols p)) (sym here)
-          (elim (cases_eq (faults after.vols (it.system - 1)) (2 ^ 64 - 1)) [
+          subst (λ p. HasNotFallen (disk.faults before.vols p) (disk.faults after.vols p)) (sym here)
+          (elim (cases_eq (disk.faults after.vols (it.system - 1)) (2 ^ 64 - 1)) [
             | inl end ↦ inr (omega (arith, end))
             | inr less ↦ inl (omega (arith, did.rose less))
           ])
       | inr other ↦ inl (omega (arith, did.others place other))
     ]
 
-    failed-risen : (it : Writing) → Failed (meaning before.world.rules) faults before after it
-        → HasRisen (faults before.vols (it.system - 1)) (faults after.vols (it.system - 1))
-    failed-risen it did = elim (cases_eq (faults after.vols (it.system - 1)) (2 ^ 64 - 1)) [
+    failed-risen : (it : Writing) → Failed (meaning before.world.rules) disk before after it
+        → HasRisen (disk.faults before.vols (it.system - 1)) (disk.faults after.vols (it.system - 1))
+    failed-risen it did = elim (cases_eq (disk.faults after.vols (it.system - 1)) (2 ^ 64 - 1)) [
       | inl end ↦ inr (omega (arith, end))
       | inr less ↦ inl (did.rose less)
     ]
@@ -488,9 +525,9 @@ module _ {R A V : Type 0} (meaning : R → Meaning) (lawful : (r : R) → IsLawf
         subst (IsOfWorks (meaning before.world.rules) before.world) writes (step-works (meaning before.world.rules) before.world e step)
 
     -- no other volume failed
-    failed-unharmed : (it : Writing) → is_up before.world it.system ≡ true → Failed (meaning before.world.rules) faults before after it
+    failed-unharmed : (it : Writing) → is_up before.world it.system ≡ true → Failed (meaning before.world.rules) disk before after it
         → after.world ≡ with_fall before.world it.system (Some it.next)
-        → (other : ℕ) → 1 ≤ other → is_up after.world other ≡ true → faults after.vols (other - 1) ≡ faults before.vols (other - 1)
+        → (other : ℕ) → 1 ≤ other → is_up after.world other ≡ true → disk.faults after.vols (other - 1) ≡ disk.faults before.vols (other - 1)
     failed-unharmed it up did fall other least still =
         did.others (other - 1) (λ same.
         let lowest = up-least before.world it.system up in
@@ -501,8 +538,8 @@ module _ {R A V : Type 0} (meaning : R → Meaning) (lawful : (r : R) → IsLawf
     -- the record that did not fit
     unfit : (e : Event) (it : Writing) → is_step e ≡ true → record_of (meaning before.world.rules) before.world e ≡ Some it
         → is_up before.world it.system ≡ true
-        → after.world ≡ with_fall before.world it.system None → Overflowed (meaning before.world.rules) faults before after it
-        → IsUnfit meaning faults before after it.system
+        → after.world ≡ with_fall before.world it.system None → Overflowed (meaning before.world.rules) disk before after it
+        → IsUnfit meaning disk before after it.system
     unfit e it step writes up fall did =
         let rules : after.world.rules ≡ before.world.rules = (Safe-step meaning lawful before.world after.world (Fall it.system None) is.safe did.world).0 in
         let same : log_of after.world it.system ≡ log_of before.world it.system =
@@ -524,30 +561,30 @@ module _ {R A V : Type 0} (meaning : R → Meaning) (lawful : (r : R) → IsLawf
           told = did.told;
         }
 
-    pub went-fell : (whole : Bool) (e : Event) → is_step e ≡ true → FellInstead (meaning before.world.rules) faults before after e
-        → WentOn meaning faults may whole before after
+    pub went-fell : (whole : Bool) (e : Event) → is_step e ≡ true → FellInstead (meaning before.world.rules) disk before after e
+        → WentOn meaning disk may whole before after
     went-fell whole e step did =
         let it : Writing = did.0 in
-        let up = fell-up meaning lawful faults before after is e did in
+        let up = fell-up meaning lawful disk before after is e did in
         elim did.2 [
           | inl failed ↦
               one-fall whole it.system (Some it.next) (works-of e it step did.1) up failed.world
-              (fell-failed meaning lawful faults before after is e did failed)
+              (fell-failed meaning lawful disk before after is e did failed)
               (none-noted-rest (it.system - 1) (next_moment before.journals (it.system - 1)) before.journals after.journals failed.journals)
               (other-cause it.system Faulted up failed.causes) (failed-counts it failed)
-              (failed-unharmed it up failed (fell-failed meaning lawful faults before after is e did failed)) (failed-risen it failed, failed.told)
+              (failed-unharmed it up failed (fell-failed meaning lawful disk before after is e did failed)) (failed-risen it failed, failed.told)
           | inr full ↦
-              one-fall whole it.system None refl up full.world (fell-full meaning lawful faults before after is e did full)
+              one-fall whole it.system None refl up full.world (fell-full meaning lawful disk before after is e did full)
               (none-noted-same (it.system - 1) before.journals after.journals full.journals)
               (other-cause it.system (Overran full.size) up full.causes)
-              (λ place. inl (omega (arith, ap (λ (vols : V). faults vols place) full.vols)))
-              (λ other least still. ap (λ (vols : V). faults vols (other - 1)) full.vols)
-              (unfit e it step did.1 up (fell-full meaning lawful faults before after is e did full) full)
+              (λ place. inl (omega (arith, ap (λ (vols : V). disk.faults vols place) full.vols)))
+              (λ other least still. ap (λ (vols : V). disk.faults vols (other - 1)) full.vols)
+              (unfit e it step did.1 up (fell-full meaning lawful disk before after is e did full) full)
         ]
 
     -- memory was wanting behind a record
     behind : (e : Event) (it : Writing) → is_step e ≡ true → may e ≡ true → record_of (meaning before.world.rules) before.world e ≡ Some it
-        → FellBehind (meaning before.world.rules) faults before after e it → WentOn meaning faults may false before after
+        → FellBehind (meaning before.world.rules) disk before after e it → WentOn meaning disk may false before after
     behind e it step is_may writes did =
         let rules : Meaning = meaning before.world.rules in
         let law = lawful before.world.rules in
@@ -581,10 +618,15 @@ module _ {R A V : Type 0} (meaning : R → Meaning) (lawful : (r : R) → IsLawf
               ∙ fall-down between it.system still None other (step-up rules law before.world is.safe e step other ∙ down)
               ∙ step-down rules law before.world is.safe e step other down) journals (other-cause it.system Short up did.causes other least down);
           falls = λ is_whole. absurd (cc);
+          calls = λ tells. linked tells ((Safe-step meaning lawful between after.world (Fall it.system None) first.1 by).0 ∙ first.0)
+              (works-on before.world between after.world (works-event rules law before.world is.safe e step)
+              (works-same between after.world (λ other. ap (λ (w : World R). log_of w other) fall ∙ fall-log between it.system still None other)))
+              (as-many ((Safe-step meaning lawful between after.world (Fall it.system None) first.1 by).0 ∙ first.0)
+              (Safe-step meaning lawful between after.world (Fall it.system None) first.1 by).1);
         }
 
-    pub went-short : (e : Event) → is_step e ≡ true → may e ≡ true → IsShort (meaning before.world.rules) faults before after e
-        → WentOn meaning faults may false before after
+    pub went-short : (e : Event) → is_step e ≡ true → may e ≡ true → IsShort (meaning before.world.rules) disk before after e
+        → WentOn meaning disk may false before after
     went-short e step is_may did = elim did [
       | inl stays ↦ went-stays false stays
       | inr fell ↦ behind e fell.0 step is_may fell.1 fell.2

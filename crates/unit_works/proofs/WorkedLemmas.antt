@@ -1,4 +1,5 @@
 -- Works one after the other, of a landscape whose systems work by models.
+use Rattle.ale_volumes.specs.Disk.{Disk}
 use Rattle.unit_landscape.proofs.FinishingLemmas.{in-stands}
 use Rattle.std.specs.Prelude.{Result, Ok, Err, IfOk, IsErr, OnOk, ◌==◌, filter}
 use Rattle.ale_base.specs.declared.out_of_memory.OutOfMemory.{OutOfMemory}
@@ -80,32 +81,32 @@ ok-of (Err e) P is follows = tt
 
 -- ---- events
 
-module _ {V : Type 0} (faults : V → ℕ → ℕ) where
+module _ {V : Type 0} (disk : Disk V) where
   pub wider : (may might : Event → Bool) (whole : Bool) (before after : KeptOf ModelRules DocumentTables V) → ((e : Event) → may e ≡ true → might e ≡ true)
-      → Worked faults before after may whole → Worked faults before after might whole
-  wider may might whole before after wide went = went-wider meaning faults may whole might before after wide went
+      → Worked disk before after may whole → Worked disk before after might whole
+  wider may might whole before after wide went = went-wider meaning disk may whole might before after wide went
 
-  pub still : (may : Event → Bool) (whole : Bool) (before after : KeptOf ModelRules DocumentTables V) → after ≡ before → Worked faults before after may whole
-  still may whole before after same = went-same meaning faults may whole before after same
+  pub still : (may : Event → Bool) (whole : Bool) (before after : KeptOf ModelRules DocumentTables V) → after ≡ before → Worked disk before after may whole
+  still may whole before after same = went-same meaning disk may whole before after same
 
-  pub on : (may : Event → Bool) (whole : Bool) (before between after : KeptOf ModelRules DocumentTables V) → Worked faults before between may true
-      → Worked faults between after may whole → Worked faults before after may whole
-  on may whole before between after first second = went-on meaning faults may whole before between after first second
+  pub on : (may : Event → Bool) (whole : Bool) (before between after : KeptOf ModelRules DocumentTables V) → Worked disk before between may true
+      → Worked disk between after may whole → Worked disk before after may whole
+  on may whole before between after first second = went-on meaning disk may whole before between after first second
 
-  pub part : (may : Event → Bool) (before after : KeptOf ModelRules DocumentTables V) → Worked faults before after may true
-      → Worked faults before after may false
-  part may before after went = went-whole meaning faults may false before after went
+  pub part : (may : Event → Bool) (before after : KeptOf ModelRules DocumentTables V) → Worked disk before after may true
+      → Worked disk before after may false
+  part may before after went = went-whole meaning disk may false before after went
 
   -- a call that ends short did no whole work
   pub short-of : {T E : Type 0} (may : Event → Bool) (before after : KeptOf ModelRules DocumentTables V) (result : Result T E) → IsErr result
-      → Worked faults before after may false → Worked faults before after may (is_ok result)
+      → Worked disk before after may false → Worked disk before after may (is_ok result)
   short-of may before after (Ok done) short went = absurd (cc)
   short-of may before after (Err why) short went = went
 
 -- ---- claims
 
-module _ {V : Type 0} (faults : V → ℕ → ℕ) (may might : Event → Bool) (whole : Bool) (before between after : KeptOf ModelRules DocumentTables V)
-    (first : Worked faults before between may true) (second : Worked faults between after might whole) where
+module _ {V : Type 0} (disk : Disk V) (may might : Event → Bool) (whole : Bool) (before between after : KeptOf ModelRules DocumentTables V)
+    (first : Worked disk before between may true) (second : Worked disk between after might whole) where
   -- a system that fell stays down
   fell-first : OneFell before.world between.world → OneFell before.world after.world
   fell-first fell = let stays = second.stays fell.0 (up-least before.world fell.0 fell.1) fell.2 in (fell.0, fell.1, stays.down)
@@ -148,18 +149,18 @@ module _ {V : Type 0} (faults : V → ℕ → ℕ) (may might : Event → Bool) 
   come-on arrival.Down come answers = gone-on before.world.claims come (answers between.world.claims refl)
 
 -- the same of a call
-pub come-answered : {T E V : Type 0} (faults : V → ℕ → ℕ) (may might : Event → Bool) (before between after : KeptOf ModelRules DocumentTables V)
-    (given : Arrival) (result : Result T E) → Worked faults before between may true → Worked faults between after might (is_ok result)
+pub come-answered : {T E V : Type 0} (disk : Disk V) (may might : Event → Bool) (before between after : KeptOf ModelRules DocumentTables V)
+    (given : Arrival) (result : Result T E) → Worked disk before between may true → Worked disk between after might (is_ok result)
     → ClaimsCome before.world between.world given
     → ((others : List Held) → ClaimsAre between.world.claims others given → OnOk result (AreOrGone between.world after.world others))
     → OnOk result (AreOrGone before.world after.world before.world.claims)
-come-answered faults may might before between after given (Ok x) first second come answers =
-    come-on faults may might true before between after first second given come answers
-come-answered faults may might before between after given (Err why) first second come answers = tt
+come-answered disk may might before between after given (Ok x) first second come answers =
+    come-on disk may might true before between after first second given come answers
+come-answered disk may might before between after given (Err why) first second come answers = tt
 
-module _ {V : Type 0} (faults : V → ℕ → ℕ) (may might all last : Event → Bool) (before delivered replied confirmed : KeptOf ModelRules DocumentTables V)
-    (first : Worked faults before delivered may true) (second : Worked faults delivered replied might true) (both : Worked faults before replied all true)
-    (third : Worked faults replied confirmed last true) where
+module _ {V : Type 0} (disk : Disk V) (may might all last : Event → Bool) (before delivered replied confirmed : KeptOf ModelRules DocumentTables V)
+    (first : Worked disk before delivered may true) (second : Worked disk delivered replied might true) (both : Worked disk before replied all true)
+    (third : Worked disk replied confirmed last true) where
   -- the claim of a shipment goes, once it was delivered, replied to and confirmed
   pub shipped-left : (claim : OutClaim) → stands_out before.world claim ≡ true → AreOrGone before.world delivered.world before.world.claims
       → (stands_out delivered.world claim ≡ true → AreOrGone delivered.world replied.world (without_claim delivered.world claim.number).claims)
@@ -167,7 +168,7 @@ module _ {V : Type 0} (faults : V → ℕ → ℕ) (may might all last : Event �
       → AreOrGone replied.world confirmed.world replied.world.claims
       → AreOrGone before.world confirmed.world (without_claim before.world claim.number).claims
   shipped-left claim stands delivers replies stale confirms =
-      gone-on faults all last true before replied confirmed both third Others left confirms
+      gone-on disk all last true before replied confirmed both third Others left confirms
     where
       Others : List Held
       Others = filter (λ (h : Held). not (h.number == claim.number)) before.world.claims
@@ -175,7 +176,7 @@ module _ {V : Type 0} (faults : V → ℕ → ℕ) (may might all last : Event �
       left : AreOrGone before.world replied.world Others
       left = elim delivers [
         | inl same ↦
-            gone-last faults may might true before delivered replied first second Others
+            gone-last disk may might true before delivered replied first second Others
             (subst (λ claims. AreOrGone delivered.world replied.world (filter (λ (h : Held). not (h.number == claim.number)) claims)) same
             (replies (ap (λ claims. is_on claim.tid (claim_of claim.number claims) && is_out (claim_of claim.number claims)) same ∙ stands)))
         | inr gone ↦
@@ -266,16 +267,16 @@ confirming-works letter _ is = cc
 
 -- ---- what has ended
 
-module _ {V : Type 0} (faults : V → ℕ → ℕ) where
-  pub ended-on : (may : Event → Bool) (before between after : KeptOf ModelRules DocumentTables V) (n m : ℕ) → Worked faults before between may true
-      → Worked faults between after may true → HaveEnded faults before between n → HaveEnded faults between after m
-      → HaveEnded faults before after (n + m)
+module _ {V : Type 0} (disk : Disk V) where
+  pub ended-on : (may : Event → Bool) (before between after : KeptOf ModelRules DocumentTables V) (n m : ℕ) → Worked disk before between may true
+      → Worked disk between after may true → HaveEnded disk before between n → HaveEnded disk between after m
+      → HaveEnded disk before after (n + m)
   ended-on may before between after n m went_first went_second first second = record {
     finished = let one = first.finished in let two = second.finished in omega (arith, one, two);
-    claims = gone-on faults may may true before between after went_first went_second before.world.claims first.claims second.claims;
+    claims = gone-on disk may may true before between after went_first went_second before.world.claims first.claims second.claims;
   }
 
-  pub ended-same : (before after : KeptOf ModelRules DocumentTables V) → after ≡ before → HaveEnded faults before after 0
+  pub ended-same : (before after : KeptOf ModelRules DocumentTables V) → after ≡ before → HaveEnded disk before after 0
   ended-same before after same = record {
     finished = let count = ap (λ (k : KeptOf ModelRules DocumentTables V). finished_in k.world) same in omega (arith, count);
     claims = inl (ap (λ (k : KeptOf ModelRules DocumentTables V). k.world.claims) same);
@@ -284,26 +285,26 @@ module _ {V : Type 0} (faults : V → ℕ → ℕ) where
   -- a unit that was claimed and shipped under its letter
   pub shipped : (before claimed after : KeptOf ModelRules DocumentTables V) (lines lines_after : Lines) (system : ℕ) (claim : OutClaim) (tid : TidOf)
       (letter : Letter) (n : ℕ)
-      → Worked faults before claimed is_claim true → finished_in claimed.world ≡ finished_in before.world
+      → Worked disk before claimed is_claim true → finished_in claimed.world ≡ finished_in before.world
       → IsShipped (meaning before.world.rules) before.world claimed.world system claim
       → tid ≡ claim.tid → letter ≡ next_letter (letters_left lines tid) → HasTaken tid lines lines_after
-      → Worked faults claimed after (is_shipping letter) true → IsAnswered claimed.world after.world n
+      → Worked disk claimed after (is_shipping letter) true → IsAnswered claimed.world after.world n
       → AreOrGone claimed.world after.world (without_claim claimed.world claim.number).claims
       → ((unit : AleUnit) → committed_unit (meaning claimed.world.rules) claimed.world claim.tid ≡ Some unit
       → Appended claimed after (shipment letter (answer_to (meaning claimed.world.rules) claimed.world unit) unit))
-      → ShippedAs faults before after lines lines_after system (Ok (Some n))
+      → ShippedAs disk before after lines lines_after system (Ok (Some n))
   shipped before claimed after lines lines_after system claim tid letter n went_claim count is its next taken went answered left grew = (
     tid,
     is.first ∙ ap Some (sym its),
     appended.0,
-    subst (λ l. HasShipped faults before after lines lines_after tid l appended.0) next (record {
+    subst (λ l. HasShipped disk before after lines lines_after tid l appended.0) next (record {
       may = ap (may_ship (meaning before.world.rules) before.world) its ∙ is.may;
       was = record {
         unit = is.unit;
         committed = ap (committed_unit (meaning before.world.rules) before.world) its ∙ is.committed;
         next = next;
         taken = taken;
-        went = on faults (is_shipping letter) true before claimed after (wider faults is_claim (is_shipping letter) true before claimed (claim-ships letter)
+        went = on disk (is_shipping letter) true before claimed after (wider disk is_claim (is_shipping letter) true before claimed (claim-ships letter)
             went_claim) went;
         grew = appended-on before claimed after [] (shipment letter (answer_to (meaning before.world.rules) before.world is.unit) is.unit)
             is.grew
@@ -314,7 +315,7 @@ module _ {V : Type 0} (faults : V → ℕ → ℕ) where
     }),
     record {
       finished = let more = answered.count in omega (arith, count, more);
-      claims = gone-last faults is_claim (is_shipping letter) true before claimed after went_claim went before.world.claims
+      claims = gone-last disk is_claim (is_shipping letter) true before claimed after went_claim went before.world.claims
           (left-last claimed.world after.world before.world.claims (out_held claim) claim.number refl is.fresh is.claims left);
     },
     answered.few,
@@ -325,12 +326,12 @@ module _ {V : Type 0} (faults : V → ℕ → ℕ) where
 
   -- a unit that was claimed and executed
   pub executed : (before claimed after : KeptOf ModelRules DocumentTables V) (system : ℕ) (claim : InClaim) (given : Finished)
-      → Worked faults before claimed is_run true → finished_in claimed.world ≡ finished_in before.world
+      → Worked disk before claimed is_run true → finished_in claimed.world ≡ finished_in before.world
       → IsExecuted (meaning before.world.rules) before.world claimed.world system claim
-      → Worked faults claimed after is_end true → finished_in after.world ≡ finished_in claimed.world + ended_by given
+      → Worked disk claimed after is_end true → finished_in after.world ≡ finished_in claimed.world + ended_by given
       → (stands_in claimed.world claim ≡ true → AreOrGone claimed.world after.world (without_claim claimed.world claim.number).claims)
       → ((held : Held) → HoldsIn claimed.world claim held → FinishedSo (meaning claimed.world.rules) claimed after claim held given)
-      → (n : ℕ) → n ≡ ended_by given → ExecutedAs faults before after system (Ok (Some n))
+      → (n : ℕ) → n ≡ ended_by given → ExecutedAs disk before after system (Ok (Some n))
   executed before claimed after system claim given went_run count is went more left grew n told = elim (grew (in_held claim) holds) [
     | inl ended ↦ made true ended.grew (told ∙ ended.ended)
     | inr fell ↦ let cut = fell.0 in made false cut.cut (told ∙ fell.1)
@@ -344,15 +345,15 @@ module _ {V : Type 0} (faults : V → ℕ → ℕ) where
       }
 
       made : (whole : Bool) → AppendedAs claimed after (worked_by (meaning claimed.world.rules) claimed.world (in_held claim) In) whole
-          → n ≡ cond whole 1 0 → ExecutedAs faults before after system (Ok (Some n))
+          → n ≡ cond whole 1 0 → ExecutedAs disk before after system (Ok (Some n))
       made whole appended ends = (
         claim.tid,
         is.first,
         whole,
         record {
           may = is.may;
-          went = on faults is_execution true before claimed after (wider faults is_run is_execution true before claimed run-executes went_run)
-              (wider faults is_end is_execution true claimed after end-executes went);
+          went = on disk is_execution true before claimed after (wider disk is_run is_execution true before claimed run-executes went_run)
+              (wider disk is_end is_execution true claimed after end-executes went);
           grew = appended-on before claimed after []
               (execution (offers_received_now (meaning before.world.rules) before.world system claim.tid) system claim.tid) is.grew whole
               (subst (λ xs. AppendedAs claimed after xs whole)
@@ -362,7 +363,7 @@ module _ {V : Type 0} (faults : V → ℕ → ℕ) where
         },
         record {
           finished = omega (arith, count, more, told);
-          claims = gone-last faults is_run is_end true before claimed after went_run went before.world.claims
+          claims = gone-last disk is_run is_end true before claimed after went_run went before.world.claims
               (left-last claimed.world after.world before.world.claims (in_held claim) claim.number refl is.fresh is.claims
               (left (in-stands claimed.world claim (in_held claim) holds)));
         },
@@ -370,30 +371,30 @@ module _ {V : Type 0} (faults : V → ℕ → ℕ) where
       )
 
   -- claims as one work leaves them
-  pub ended-claims : {T E : Type 0} (before after : KeptOf ModelRules DocumentTables V) (result : Result T E) → OnOk result (HaveEnded faults before after 0)
+  pub ended-claims : {T E : Type 0} (before after : KeptOf ModelRules DocumentTables V) (result : Result T E) → OnOk result (HaveEnded disk before after 0)
       → OnOk result (AreOrGone before.world after.world before.world.claims)
   ended-claims before after (Ok done) ended = ended.claims
   ended-claims before after (Err why) ended = tt
 
   pub shipped-claims : (before after : KeptOf ModelRules DocumentTables V) (lines lines_after : Lines) (system : ℕ) (found : Option ℕ)
-      → ShippedAs faults before after lines lines_after system (Ok found) → AreOrGone before.world after.world before.world.claims
+      → ShippedAs disk before after lines lines_after system (Ok found) → AreOrGone before.world after.world before.world.claims
   shipped-claims before after lines lines_after system None did = inl (ap (λ (k : KeptOf ModelRules DocumentTables V). k.world.claims) did.0)
   shipped-claims before after lines lines_after system (Some n) did = let ended = did.4 in ended.claims
 
   pub executed-claims : (before after : KeptOf ModelRules DocumentTables V) (system : ℕ) (found : Option ℕ)
-      → ExecutedAs faults before after system (Ok found) → AreOrGone before.world after.world before.world.claims
+      → ExecutedAs disk before after system (Ok found) → AreOrGone before.world after.world before.world.claims
   executed-claims before after system None did = inl (ap (λ (k : KeptOf ModelRules DocumentTables V). k.world.claims) did.0)
   executed-claims before after system (Some n) did = let ended = did.4 in ended.claims
 
   -- where memory is wanting, what was done is work
   pub shipped-short : (before after : KeptOf ModelRules DocumentTables V) (lines lines_after : Lines) (system : ℕ) (result : Result (Option ℕ) OutOfMemory)
       → IsErr result
-      → Worked faults before after is_work false → ShippedAs faults before after lines lines_after system result
+      → Worked disk before after is_work false → ShippedAs disk before after lines lines_after system result
   shipped-short before after lines lines_after system (Ok found) short went = absurd (cc)
   shipped-short before after lines lines_after system (Err why) short went = went
 
   pub executed-short : (before after : KeptOf ModelRules DocumentTables V) (system : ℕ) (result : Result (Option ℕ) OutOfMemory) → IsErr result
-      → Worked faults before after is_execution false → ExecutedAs faults before after system result
+      → Worked disk before after is_execution false → ExecutedAs disk before after system result
   executed-short before after system (Ok found) short went = absurd (cc)
   executed-short before after system (Err why) short went = went
 
@@ -401,16 +402,16 @@ module _ {V : Type 0} (faults : V → ℕ → ℕ) where
   pub claim-shipped : (before after : KeptOf ModelRules DocumentTables V) (lines lines_after : Lines) (claim : OutClaim) (tid : TidOf) (letter : Letter) (n : ℕ)
       → IsLandscape meaning before.world → stands_out before.world claim ≡ true
       → tid ≡ claim.tid → letter ≡ next_letter (letters_left lines tid) → HasTaken tid lines lines_after
-      → Worked faults before after (is_shipping letter) true → IsAnswered before.world after.world n
+      → Worked disk before after (is_shipping letter) true → IsAnswered before.world after.world n
       → AreOrGone before.world after.world (without_claim before.world claim.number).claims
       → ((unit : AleUnit) → committed_unit (meaning before.world.rules) before.world claim.tid ≡ Some unit
       → Appended before after (shipment letter (answer_to (meaning before.world.rules) before.world unit) unit))
-      → ClaimShippedAs faults before after lines lines_after claim (Ok (Some n))
+      → ClaimShippedAs disk before after lines lines_after claim (Ok (Some n))
   claim-shipped before after lines lines_after claim tid letter n is stands its next taken went answered left grew = (
     stands,
     appended.0,
-    subst (λ t. WasShipped faults before after lines lines_after t (next_letter (letters_left lines t)) appended.0) its
-        (subst (λ l. WasShipped faults before after lines lines_after tid l appended.0) next (record {
+    subst (λ t. WasShipped disk before after lines lines_after t (next_letter (letters_left lines t)) appended.0) its
+        (subst (λ l. WasShipped disk before after lines lines_after tid l appended.0) next (record {
           unit = unit.0;
           committed = ap (committed_unit (meaning before.world.rules) before.world) its ∙ unit.1;
           next = next;
@@ -432,7 +433,7 @@ module _ {V : Type 0} (faults : V → ℕ → ℕ) where
 
   pub claim-shipped-short : (before after : KeptOf ModelRules DocumentTables V) (lines lines_after : Lines) (claim : OutClaim)
       (result : Result (Option ℕ) OutOfMemory) → IsErr result
-      → Worked faults before after is_work false → ClaimShippedAs faults before after lines lines_after claim result
+      → Worked disk before after is_work false → ClaimShippedAs disk before after lines lines_after claim result
   claim-shipped-short before after lines lines_after claim (Ok found) short went = absurd (cc)
   claim-shipped-short before after lines lines_after claim (Err why) short went = went
 
@@ -440,13 +441,13 @@ module _ {V : Type 0} (faults : V → ℕ → ℕ) where
   pub claim-executed : (before after : KeptOf ModelRules DocumentTables V) (claim : InClaim) (given : Finished) (n : ℕ)
       → IsLandscape meaning before.world
       → (stands_in before.world claim ≡ false → after ≡ before)
-      → Worked faults before after is_end true → finished_in after.world ≡ finished_in before.world + ended_by given
+      → Worked disk before after is_end true → finished_in after.world ≡ finished_in before.world + ended_by given
       → (stands_in before.world claim ≡ true → AreOrGone before.world after.world (without_claim before.world claim.number).claims)
       → ((held : Held) → HoldsIn before.world claim held → FinishedSo (meaning before.world.rules) before after claim held given)
-      → n ≡ ended_by given → ClaimExecutedAs faults before after claim (Ok n)
+      → n ≡ ended_by given → ClaimExecutedAs disk before after claim (Ok n)
   claim-executed before after claim given n is stale went more left grew told = (
     stale,
-    wider faults is_end is_execution true before after end-executes went,
+    wider disk is_end is_execution true before after end-executes went,
     λ held holds. elim (grew held holds) [
       | inl ended ↦ (true, ended.grew, told ∙ ended.ended)
       | inr fell ↦ let cut = fell.0 in (false, cut.cut, told ∙ fell.1)
@@ -463,7 +464,7 @@ module _ {V : Type 0} (faults : V → ℕ → ℕ) where
       few finished.Down = omega arith
 
   pub claim-executed-short : (before after : KeptOf ModelRules DocumentTables V) (claim : InClaim) (result : Result ℕ OutOfMemory) → IsErr result
-      → Worked faults before after is_execution false → ClaimExecutedAs faults before after claim result
+      → Worked disk before after is_execution false → ClaimExecutedAs disk before after claim result
   claim-executed-short before after claim (Ok n) short went = absurd (cc)
   claim-executed-short before after claim (Err why) short went = went
 
@@ -478,28 +479,28 @@ confirmation-works (event.Fall system kept) is = is
 confirmation-works _ is = cc
 
 -- a delivery and the reply to it are part of a shipment under the letter, and so is the confirmation
-module _ {V : Type 0} (faults : V → ℕ → ℕ) (letter : Letter) where
-  pub ships-delivered : (whole : Bool) (before delivered : KeptOf ModelRules DocumentTables V) → Worked faults before delivered (is_delivery letter) whole
-      → Worked faults before delivered (is_shipping letter) whole
-  ships-delivered whole before delivered went = wider faults (is_delivery letter) (is_shipping letter) whole before delivered (delivery-ships letter) went
+module _ {V : Type 0} (disk : Disk V) (letter : Letter) where
+  pub ships-delivered : (whole : Bool) (before delivered : KeptOf ModelRules DocumentTables V) → Worked disk before delivered (is_delivery letter) whole
+      → Worked disk before delivered (is_shipping letter) whole
+  ships-delivered whole before delivered went = wider disk (is_delivery letter) (is_shipping letter) whole before delivered (delivery-ships letter) went
 
   pub ships-replied : (whole : Bool) (before delivered replied : KeptOf ModelRules DocumentTables V) (given told : Reply) → told ≡ told_of letter given
-      → Worked faults before delivered (is_delivery letter) true → Worked faults delivered replied (is_reply told) whole
-      → Worked faults before replied (is_shipping letter) whole
+      → Worked disk before delivered (is_delivery letter) true → Worked disk delivered replied (is_reply told) whole
+      → Worked disk before replied (is_shipping letter) whole
   ships-replied whole before delivered replied given told is went replies =
-      on faults (is_shipping letter) whole before delivered replied (ships-delivered true before delivered went)
-      (wider faults (is_reply (told_of letter given)) (is_shipping letter) whole delivered replied (reply-ships letter given)
-      (subst (λ r. Worked faults delivered replied (is_reply r) whole) is replies))
+      on disk (is_shipping letter) whole before delivered replied (ships-delivered true before delivered went)
+      (wider disk (is_reply (told_of letter given)) (is_shipping letter) whole delivered replied (reply-ships letter given)
+      (subst (λ r. Worked disk delivered replied (is_reply r) whole) is replies))
 
-  pub ships-confirmed : (whole : Bool) (before replied confirmed : KeptOf ModelRules DocumentTables V) → Worked faults before replied (is_shipping letter) true
-      → Worked faults replied confirmed (is_confirming letter) whole → Worked faults before confirmed (is_shipping letter) whole
+  pub ships-confirmed : (whole : Bool) (before replied confirmed : KeptOf ModelRules DocumentTables V) → Worked disk before replied (is_shipping letter) true
+      → Worked disk replied confirmed (is_confirming letter) whole → Worked disk before confirmed (is_shipping letter) whole
   ships-confirmed whole before replied confirmed went confirms =
-      on faults (is_shipping letter) whole before replied confirmed went
-      (wider faults (is_confirming letter) (is_shipping letter) whole replied confirmed (confirming-ships letter) confirms)
+      on disk (is_shipping letter) whole before replied confirmed went
+      (wider disk (is_confirming letter) (is_shipping letter) whole replied confirmed (confirming-ships letter) confirms)
 
 -- ---- what is appended
 
-module _ {V : Type 0} (faults : V → ℕ → ℕ) where
+module _ {V : Type 0} (disk : Disk V) where
   -- a unit that arrived twice
   pub arrived-on : (before between after : KeptOf ModelRules DocumentTables V) (tid : TidOf) (sent : AleUnit) (given : Arrival)
       → committed_unit (meaning before.world.rules) before.world tid ≡ Some sent
@@ -515,7 +516,7 @@ module _ {V : Type 0} (faults : V → ℕ → ℕ) where
   pub delivered : {T : Type 0} (before between after : KeptOf ModelRules DocumentTables V) (claim : OutClaim) (letter : Letter) (came : Arrival)
       (result : Result T OutOfMemory) (told : T → Reply)
       → IsLandscape meaning before.world → arrives_under letter ≡ true
-      → Worked faults before between is_arrival true → Worked faults between after is_end (is_ok result)
+      → Worked disk before between is_arrival true → Worked disk between after is_end (is_ok result)
       → ((unit : AleUnit) → committed_unit (meaning before.world.rules) before.world claim.tid ≡ Some unit
       → ArrivedSo (meaning before.world.rules) before between unit came)
       → ((unit : AleUnit) (given : Answer) (others : List Held) → committed_unit (meaning between.world.rules) between.world unit.tid ≡ Some unit
@@ -551,7 +552,7 @@ module _ {V : Type 0} (faults : V → ℕ → ℕ) where
   pub shipped-appended : (before delivered replied confirmed : KeptOf ModelRules DocumentTables V) (claim : OutClaim) (letter : Letter) (given told : Reply)
       (tid : TidOf)
       → IsLandscape meaning before.world → stands_out before.world claim ≡ true → told ≡ told_of letter given → tid ≡ claim.tid
-      → Worked faults before delivered (is_delivery letter) true → Worked faults delivered replied (is_reply told) true
+      → Worked disk before delivered (is_delivery letter) true → Worked disk delivered replied (is_reply told) true
       → ((unit : AleUnit) → committed_unit (meaning before.world.rules) before.world claim.tid ≡ Some unit
       → DeliveredSo (meaning delivered.world.rules) before delivered claim unit letter
       (answer_to (meaning before.world.rules) before.world unit) given)

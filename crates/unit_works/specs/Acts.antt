@@ -1,6 +1,7 @@
 -- Acts, and lists of them: a unit is shipped under a letter, executed by its receiver, or confirmed under a letter. An act is whole, or it is
 -- cut, where a system fell in it.
 use Rattle.std.specs.Prelude.{◌≡◌, ◌&&◌, ℕ, false, Bool, true, List, [], ◌∷◌, Some, not}
+use Rattle.ale_volumes.specs.Disk.{Disk}
 use Rattle.ale_base.specs.Tid.{TidOf, is_tid}
 use Rattle.unit_core.specs.declared.ale_unit.AleUnit.{AleUnit}
 use Rattle.trfc_protocol.specs.Worlds.{committed_unit}
@@ -16,7 +17,7 @@ use Rattle.unit_works.specs.Events.{is_confirmation, is_execution, is_shipping}
 use Rattle.unit_works.specs.Trips.{AppendedAs, shipment, execution, confirmation, may_ship, may_execute, is_due, forgot}
 use Rattle.unit_works.specs.Worked.{HasTaken, HaveOnlyClaimed, Lines, Worked}
 
-module _ {V : Type 0} (faults : V → ℕ → ℕ) (before after : KeptOf ModelRules DocumentTables V) where
+module _ {V : Type 0} (disk : Disk V) (before after : KeptOf ModelRules DocumentTables V) where
   -- A unit took its next letter, which is this one, and was shipped under it, as its receiver answered before: the records of that shipment
   -- were appended, or it was cut.
   pub record WasShipped (lines lines_after : Lines) (tid : TidOf) (letter : Letter) (whole : Bool) : Type 0 where
@@ -24,7 +25,7 @@ module _ {V : Type 0} (faults : V → ℕ → ℕ) (before after : KeptOf ModelR
     pub committed : committed_unit (model_meaning before.world.rules.systems) before.world tid ≡ Some unit
     pub next : letter ≡ next_letter (letters_left lines tid)
     pub taken : HasTaken tid lines lines_after
-    pub went : Worked faults before after (is_shipping letter) true
+    pub went : Worked disk before after (is_shipping letter) true
     pub grew : AppendedAs before after (shipment letter (answer_to (model_meaning before.world.rules.systems) before.world unit) unit) whole
 
   -- so was a unit that may be shipped
@@ -35,7 +36,7 @@ module _ {V : Type 0} (faults : V → ℕ → ℕ) (before after : KeptOf ModelR
   -- A unit that may be executed at a system was: the record of that was appended, or it was cut.
   pub record HasExecuted (system : ℕ) (tid : TidOf) (whole : Bool) : Type 0 where
     pub may : may_execute before.world system tid ≡ true
-    pub went : Worked faults before after is_execution true
+    pub went : Worked disk before after is_execution true
     pub grew : AppendedAs before after
         (execution (offers_received_now (model_meaning before.world.rules.systems) before.world system tid) system tid) whole
 
@@ -47,7 +48,7 @@ module _ {V : Type 0} (faults : V → ℕ → ℕ) (before after : KeptOf ModelR
     pub due : is_due before.world unit ≡ true
     pub next : letter ≡ next_letter (letters_left lines tid)
     pub taken : HasTaken tid lines lines_after
-    pub went : Worked faults before after is_confirmation true
+    pub went : Worked disk before after is_confirmation true
     pub grew : AppendedAs before after (confirmation letter (forgot before.world unit) unit) whole
 
 -- an act: a unit is shipped under a letter, is executed at a system, or is confirmed under a letter; it was whole, or was cut
@@ -80,12 +81,12 @@ each_but_last_cut [] = true
 each_but_last_cut (act ∷ []) = true
 each_but_last_cut (act ∷ more) = is_cut act && each_but_last_cut more
 
-module _ {V : Type 0} (faults : V → ℕ → ℕ) where
+module _ {V : Type 0} (disk : Disk V) where
   -- an act was done
   abbrev pub Acted : KeptOf ModelRules DocumentTables V → Lines → Act → KeptOf ModelRules DocumentTables V → Lines → Type 0
-  Acted before lines (ship tid letter whole) after lines_after = HasShipped faults before after lines lines_after tid letter whole
-  Acted before lines (execute system tid whole) after lines_after = HasExecuted faults before after system tid whole × (lines_after ≡ lines)
-  Acted before lines (confirm tid letter whole) after lines_after = HasConfirmed faults before after lines lines_after tid letter whole
+  Acted before lines (ship tid letter whole) after lines_after = HasShipped disk before after lines lines_after tid letter whole
+  Acted before lines (execute system tid whole) after lines_after = HasExecuted disk before after system tid whole × (lines_after ≡ lines)
+  Acted before lines (confirm tid letter whole) after lines_after = HasConfirmed disk before after lines lines_after tid letter whole
 
   -- acts were done one after the other, and nothing else but that claims were made or given up between them
   abbrev pub HaveActed : KeptOf ModelRules DocumentTables V → Lines → List Act → KeptOf ModelRules DocumentTables V → Lines → Type 0

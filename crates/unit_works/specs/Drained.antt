@@ -1,6 +1,7 @@
 -- A drain: works are done until none is left.
 use Rattle.std.specs.Prelude.{◌≡◌, ◌≤◌, ◌+◌, ◌⊎◌, ℕ, Bool, false, Option, Some, None, List, [], Result, Ok, Err, true, filter}
 use Rattle.std.specs.List.{list_all, list_any}
+use Rattle.ale_volumes.specs.Disk.{Disk}
 use Rattle.ale_base.specs.Tid.{TidOf}
 use Rattle.ale_base.specs.declared.way.Way.TheVariants.{Outgoing}
 use Rattle.unit_core.specs.Filters.{done_in, is_marked}
@@ -32,17 +33,17 @@ abbrev pub IsSettled : World ModelRules → TidOf → Type 0
 IsSettled world tid =
     (is_listed tid (done_in (log_of world tid.system)) ≡ true) ⊎ (is_marked Outgoing tid (log_of world tid.system) ≡ true)
 
-module _ {V : Type 0} (faults : V → ℕ → ℕ) (before : KeptOf ModelRules DocumentTables V) (lines : Lines) (after : KeptOf ModelRules DocumentTables V)
+module _ {V : Type 0} (disk : Disk V) (before : KeptOf ModelRules DocumentTables V) (lines : Lines) (after : KeptOf ModelRules DocumentTables V)
     (lines_after : Lines) where
   -- Acts were done one after the other, and nothing else but that claims were made or given up between them; so many runs and executions
   -- ended; and the claims are those before, or there are none.
   pub record HasWorked (n : ℕ) : Type 0 where
-    pub went : Worked faults before after is_work true
+    pub went : Worked disk before after is_work true
     pub taken : HaveTaken lines lines_after
     pub finished : finished_in after.world ≡ finished_in before.world + n
     pub claims : AreOrNone after.world.claims before.world.claims
     pub acts : List Act
-    pub did : HaveActed faults before lines acts after lines_after
+    pub did : HaveActed disk before lines acts after lines_after
 
   -- Each unit whose confirmation is due at the end lost it in one of these acts.
   abbrev pub AreLost : List Act → Type 0
@@ -80,7 +81,7 @@ module _ {V : Type 0} (faults : V → ℕ → ℕ) (before : KeptOf ModelRules D
   -- A drain was done; where memory is wanting, works were.
   abbrev pub DrainedAs : Result ℕ OutOfMemory → Type 0
   DrainedAs (Ok n) = HasDrained n
-  DrainedAs (Err short) = Worked faults before after is_work false
+  DrainedAs (Err short) = Worked disk before after is_work false
 
 -- an act ships a unit, or executes one
 abbrev pub is_round : Act → Bool
@@ -88,14 +89,14 @@ is_round (ship tid letter whole) = true
 is_round (execute system tid whole) = true
 is_round (confirm tid letter whole) = false
 
-module _ {V : Type 0} (faults : V → ℕ → ℕ) (before : KeptOf ModelRules DocumentTables V) (lines : Lines) (after : KeptOf ModelRules DocumentTables V)
+module _ {V : Type 0} (disk : Disk V) (before : KeptOf ModelRules DocumentTables V) (lines : Lines) (after : KeptOf ModelRules DocumentTables V)
     (lines_after : Lines) where
   -- Works were done, and each act ships a unit or executes one. Where no run was claimed before, each unit took one letter at most, and one
   -- more only where a system fell.
   pub record HasGone (n : ℕ) : Type 0 where
-    pub worked : HasWorked faults before lines after lines_after n
+    pub worked : HasWorked disk before lines after lines_after n
     pub ships : list_all is_round worked.acts ≡ true
-    pub once : NoneRuns before.world.claims → (tid : TidOf) → TakesOnce faults before lines after lines_after worked.acts tid
+    pub once : NoneRuns before.world.claims → (tid : TidOf) → TakesOnce disk before lines after lines_after worked.acts tid
 
   -- ---- what only private functions cite
 
@@ -107,4 +108,4 @@ module _ {V : Type 0} (faults : V → ℕ → ℕ) (before : KeptOf ModelRules D
   -- the same of a call; where memory is wanting, works were done
   abbrev pub FoundAs : ℕ → Type 0 → Result (Option ℕ) OutOfMemory → Type 0
   FoundAs most nothing (Ok found) = Found most nothing found
-  FoundAs most nothing (Err short) = Worked faults before after is_work false
+  FoundAs most nothing (Err short) = Worked disk before after is_work false

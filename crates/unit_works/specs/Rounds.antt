@@ -1,6 +1,7 @@
 -- The two parts of a drain: confirmations that are due are sent, and rounds of all systems go until nothing is offered.
 use Rattle.std.specs.Prelude.{◌≡◌, ◌≤◌, ◌⊎◌, ℕ, true, false, List, [], ◌∷◌, Some, Result, Ok, Err, filter, not}
 use Rattle.std.specs.List.{list_all, list_any}
+use Rattle.ale_volumes.specs.Disk.{Disk}
 use Rattle.ale_base.specs.Tid.{IsTid, TidOf}
 use Rattle.ale_base.specs.declared.out_of_memory.OutOfMemory.{OutOfMemory}
 use Rattle.unit_core.specs.declared.ale_unit.AleUnit.{AleUnit}
@@ -21,7 +22,7 @@ use Rattle.unit_works.specs.Worked.{Lines, Worked}
 abbrev pub IsTo : ℕ → TidOf → Type 0
 IsTo number tid = (1 ≤ tid.system) × (tid.system ≤ number)
 
-module _ {V : Type 0} (faults : V → ℕ → ℕ) (before : KeptOf ModelRules DocumentTables V) (lines : Lines) (after : KeptOf ModelRules DocumentTables V)
+module _ {V : Type 0} (disk : Disk V) (before : KeptOf ModelRules DocumentTables V) (lines : Lines) (after : KeptOf ModelRules DocumentTables V)
     (lines_after : Lines) where
   -- a unit took one letter in one of these acts: it is of these ids, whose numbers are in their ranges, and done; or it took none
   abbrev pub TakesFew : (TidOf → Type 0) → List Act → TidOf → Type 0
@@ -32,7 +33,7 @@ module _ {V : Type 0} (faults : V → ℕ → ℕ) (before : KeptOf ModelRules D
   -- Works were done: each act confirms a unit, so no run or execution ended. Each unit of these ids whose confirmation was due was visited, if
   -- its systems are up at the end; and each took one letter at most.
   pub record HasVisited (These : TidOf → Type 0) : Type 0 where
-    pub worked : HasWorked faults before lines after lines_after 0
+    pub worked : HasWorked disk before lines after lines_after 0
     pub confirms : list_all (λ (act : Act). not (is_round act)) worked.acts ≡ true
     pub visited : (unit : AleUnit) → These unit.tid
         → committed_unit (model_meaning before.world.rules.systems) before.world unit.tid ≡ Some unit → is_due before.world unit ≡ true
@@ -42,9 +43,9 @@ module _ {V : Type 0} (faults : V → ℕ → ℕ) (before : KeptOf ModelRules D
   -- the same of a call; where memory is wanting, works were done
   abbrev pub VisitedSo : {T : Type 0} → (TidOf → Type 0) → Result T OutOfMemory → Type 0
   VisitedSo These (Ok done) = HasVisited These
-  VisitedSo These (Err short) = Worked faults before after is_work false
+  VisitedSo These (Err short) = Worked disk before after is_work false
 
   -- works were done until no unit is offered at any system in either direction; where memory is wanting, works were done
   abbrev pub RoundsAs : Result ℕ OutOfMemory → Type 0
-  RoundsAs (Ok n) = HasGone faults before lines after lines_after n × IsIdle after.world
-  RoundsAs (Err short) = Worked faults before after is_work false
+  RoundsAs (Ok n) = HasGone disk before lines after lines_after n × IsIdle after.world
+  RoundsAs (Err short) = Worked disk before after is_work false

@@ -1,6 +1,7 @@
 -- A landscape goes on by events.
 use Rattle.std.specs.Prelude.{◌≡◌, ◌≤◌, ◌<◌, ◌⊎◌, ◌-◌, ◌^◌, ℕ, zero, suc, Bool, true, false, Option, Some, None, List, [], ◌∷◌, ◌++◌}
 use Rattle.std.specs.List.{list_all}
+use Rattle.ale_volumes.specs.Disk.{Disk}
 use Rattle.ale_base.specs.Tid.{TidOf}
 use Rattle.unit_core.specs.declared.ale_unit.AleUnit.{AleUnit}
 use Rattle.unit_core.specs.declared.records.Record.{Record}
@@ -13,6 +14,7 @@ use Rattle.trfc_protocol.specs.Legal.{may_follow}
 use Rattle.trfc_protocol.specs.Worlds.{committed_unit, is_up, log_of, rest_of}
 use Rattle.unit_journal.specs.OnDisk.{last_moment, later, moment_of, moments_at, next_moment, rest_at}
 use Rattle.unit_landscape.specs.declared.cause.Cause.TheVariants.{Faulted, Overran}
+use Rattle.unit_landscape.specs.Crashes.{GoesByCalls}
 use Rattle.unit_landscape.specs.KeptWorlds.{KeptOf, cause_at}
 use Rattle.unit_landscape.specs.Writes.{IsTooLong}
 use Rattle.unit_works.specs.Events.{is_works_record}
@@ -25,7 +27,7 @@ HasNotFallen before after = (before ≤ after) ⊎ (2 ^ 64 - 1 ≤ after)
 abbrev pub HasRisen : ℕ → ℕ → Type 0
 HasRisen before after = (before < after) ⊎ (2 ^ 64 - 1 ≤ after)
 
-module _ {R A V : Type 0} (meaning : R → Meaning) (faults : V → ℕ → ℕ) (before after : KeptOf R A V) (system : ℕ) where
+module _ {R A V : Type 0} (meaning : R → Meaning) (disk : Disk V) (before after : KeptOf R A V) (system : ℕ) where
   -- A record that a work appends is too long for the volume of a system: it may follow the log there, and a unit that it takes in was
   -- committed. The landscape tells that, and how long the volume would have been.
   pub record IsUnfit : Type 0 where
@@ -39,7 +41,7 @@ module _ {R A V : Type 0} (meaning : R → Meaning) (faults : V → ℕ → ℕ)
 
   -- why a system is down that was up: its volume failed as it was to write a record, which it may find; or a record did not fit on it
   abbrev pub HasCause : Option Record → Type 0
-  HasCause (Some next) = HasRisen (faults before.vols (system - 1)) (faults after.vols (system - 1)) × (cause_at after system ≡ Faulted)
+  HasCause (Some next) = HasRisen (disk.faults before.vols (system - 1)) (disk.faults after.vols (system - 1)) × (cause_at after system ≡ Faulted)
   HasCause None = IsUnfit
 
 -- a system is down as it was before, with its log and the moments of that, what it may find and with which moment, and why it is down
@@ -69,9 +71,9 @@ AreStamped set before after = (n : ℕ) × (after ≡ with_more set n before)
 -- A landscape went on by events that may happen: its world is the one that these make of the one before, by the same rules. Each log is the
 -- one before with records of works behind it, and the units that are committed are those that were. The moment that is set is as before,
 -- and the records behind have it, or the last of their log where that is later. No count of faults fell, and that of a system that is up has
--- not changed. Systems that were down stay so; and where the work is whole, those
--- that fell had a cause.
-pub record WentOn {R A V : Type 0} (meaning : R → Meaning) (faults : V → ℕ → ℕ) (may : Event → Bool) (whole : Bool) (before after : KeptOf R A V) : Type 0
+-- not changed. Systems that were down stay so; and where the work is whole, those that fell had a cause. It went on by calls, and whatever a
+-- crash leaves inside any of them is sound.
+pub record WentOn {R A V : Type 0} (meaning : R → Meaning) (disk : Disk V) (may : Event → Bool) (whole : Bool) (before after : KeptOf R A V) : Type 0
   where
     pub events : List Event
     pub each : list_all may events ≡ true
@@ -81,8 +83,9 @@ pub record WentOn {R A V : Type 0} (meaning : R → Meaning) (faults : V → ℕ
     pub committed : (tid : TidOf) → committed_unit (meaning after.world.rules) after.world tid ≡ committed_unit (meaning before.world.rules) before.world tid
     pub moment : moment_of after.journals ≡ moment_of before.journals
     pub moments : (place : ℕ) → AreStamped (moment_of before.journals) (moments_at before.journals place) (moments_at after.journals place)
-    pub counts : (place : ℕ) → HasNotFallen (faults before.vols place) (faults after.vols place)
-    pub unharmed : (system : ℕ) → 1 ≤ system → is_up after.world system ≡ true → faults after.vols (system - 1) ≡ faults before.vols (system - 1)
+    pub counts : (place : ℕ) → HasNotFallen (disk.faults before.vols place) (disk.faults after.vols place)
+    pub unharmed : (system : ℕ) → 1 ≤ system → is_up after.world system ≡ true → disk.faults after.vols (system - 1) ≡ disk.faults before.vols (system - 1)
     pub stays : (system : ℕ) → 1 ≤ system → is_up before.world system ≡ false → StaysDown before after system
     pub falls : whole ≡ true → (system : ℕ) → is_up before.world system ≡ true → is_up after.world system ≡ false
-        → HasCause meaning faults before after system (rest_of after.world system)
+        → HasCause meaning disk before after system (rest_of after.world system)
+    pub calls : disk.told → GoesByCalls meaning disk before after

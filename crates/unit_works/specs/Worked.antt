@@ -1,5 +1,6 @@
 -- Works of a landscape whose systems work by models: it goes on by events, units take letters, and runs and executions end.
 use Rattle.std.specs.Prelude.{◌≡◌, ◌⊎◌, ◌+◌, ℕ, Bool, false, List, ◌++◌}
+use Rattle.ale_volumes.specs.Disk.{Disk}
 use Rattle.ale_base.specs.Tid.{TidOf}
 use Rattle.trfc_protocol.specs.declared.event.Event.{Event}
 use Rattle.trfc_protocol.specs.declared.world.World.{World}
@@ -43,10 +44,10 @@ NothingOut world system =
 abbrev pub NothingIn : World ModelRules → ℕ → Type 0
 NothingIn world system = (is_up world system ≡ false) ⊎ ((tid : TidOf) → is_offered_inbound world system tid ≡ false)
 
-module _ {V : Type 0} (faults : V → ℕ → ℕ) (before after : KeptOf ModelRules DocumentTables V) where
+module _ {V : Type 0} (disk : Disk V) (before after : KeptOf ModelRules DocumentTables V) where
   -- A landscape went on by events that may happen. Where the work is whole, each system that fell had a cause; else memory was wanting.
   abbrev pub Worked : (Event → Bool) → Bool → Type 0
-  Worked may whole = WentOn (λ (rules : ModelRules). model_meaning rules.systems) faults may whole before after
+  Worked may whole = WentOn (λ (rules : ModelRules). model_meaning rules.systems) disk may whole before after
 
   -- So many runs and executions have ended. No claim was added: they are as before; or there are none, and a system fell.
   pub record HaveEnded (n : ℕ) : Type 0 where

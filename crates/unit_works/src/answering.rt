@@ -51,7 +51,7 @@ pub(crate) fn deliver<V: Volumes>(
 ) -> Result<Answered, OutOfMemory>
     requires stands { stands_out landscape.old.world claim.now ≡ true }
     requires ready { IfSome ready (λ prepared. IsPreparedFor landscape.old.world claim.now.tid prepared.postings) }
-    ensures went { Worked V.faults landscape.old landscape.new (is_delivery letter) (is_ok result) }
+    ensures went { Worked V.disk landscape.old landscape.new (is_delivery letter) (is_ok result) }
     ensures answered { IfOk result (λ answered. IsAnswered landscape.old.world landscape.new.world answered.finished) }
     ensures claims { OnOk result (AreOrGone landscape.old.world landscape.new.world landscape.old.world.claims) }
     ensures grew { IfOk result (λ answered. (unit : AleUnit)
@@ -78,7 +78,7 @@ fn answer_of<V: Volumes>(
     ready: Option<Prepared>,
 ) -> Result<Answered, OutOfMemory>
     requires ready { IfSome ready (λ prepared. IsReadyFor landscape.old.world prepared.postings arrival) }
-    ensures went { Worked V.faults landscape.old landscape.new is_end (is_ok result) }
+    ensures went { Worked V.disk landscape.old landscape.new is_end (is_ok result) }
     ensures answered { IfOk result (λ answered. IsAnswered landscape.old.world landscape.new.world answered.finished) }
     ensures claims { (others : List Held) → ClaimsAre landscape.old.world.claims others arrival
         → OnOk result (AreOrGone landscape.old.world landscape.new.world others) }
@@ -132,7 +132,7 @@ pub(crate) fn reply<V: Volumes>(
     claim: OutClaim,
     given: Reply,
 ) -> Result<(), OutOfMemory>
-    ensures went { Worked V.faults landscape.old landscape.new (is_reply given) (is_ok result) }
+    ensures went { Worked V.disk landscape.old landscape.new (is_reply given) (is_ok result) }
     ensures finished { OnOk result (finished_in landscape.new.world ≡ finished_in landscape.old.world) }
     ensures left { OnOk result (stands_out landscape.old.world claim ≡ true
         → AreOrGone landscape.old.world landscape.new.world (without_claim landscape.old.world claim.number).claims) }

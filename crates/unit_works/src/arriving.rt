@@ -27,7 +27,7 @@ pub(crate) fn arrive_under<V: Volumes>(
     letter: Letter,
 ) -> Result<Arrival, OutOfMemory>
     requires stands { stands_out landscape.old.world claim.now ≡ true }
-    ensures went { Worked V.faults landscape.old landscape.new is_arrival (is_ok result) }
+    ensures went { Worked V.disk landscape.old landscape.new is_arrival (is_ok result) }
     ensures finished { OnOk result (finished_in landscape.new.world ≡ finished_in landscape.old.world) }
     ensures claims { IfOk result (ClaimsCome landscape.old.world landscape.new.world) }
     ensures run { IfOk result (BeginsOn claim.now.tid) }
@@ -63,9 +63,9 @@ fn arrive<V: Volumes>(
 ) -> Result<Arrival, OutOfMemory>
     requires stands { stands_out landscape.old.world claim.now ≡ true }
     requires committed { committed_unit (model_meaning landscape.old.world.rules.systems) landscape.old.world claim.now.tid ≡ Some unit.now }
-    ensures went { Worked V.faults landscape.old landscape.new is_arrival (is_ok result) }
+    ensures went { Worked V.disk landscape.old landscape.new is_arrival (is_ok result) }
     ensures finished { OnOk result (finished_in landscape.new.world ≡ finished_in landscape.old.world) }
-    ensures arrived { IfOk result (Arrived (model_meaning landscape.old.world.rules.systems) V.faults landscape.old landscape.new unit.now) }
+    ensures arrived { IfOk result (Arrived (model_meaning landscape.old.world.rules.systems) V.disk landscape.old landscape.new unit.now) }
     ensures claims { IfOk result (ClaimsCome landscape.old.world landscape.new.world) }
     ensures run { IfOk result (BeginsOn unit.now.tid) }
     ensures grew { IfOk result (ArrivedSo (model_meaning landscape.old.world.rules.systems) landscape.old landscape.new unit.now) }
@@ -87,11 +87,11 @@ fn arrive_again<V: Volumes>(
 ) -> Result<(), OutOfMemory>
     requires again { stands_out landscape.old.world claim.now ≡ true
         → BringsNothing (model_meaning landscape.old.world.rules.systems) landscape.old.world claim.now unit.now }
-    ensures went { Worked V.faults landscape.old landscape.new is_arrival (is_ok result) }
+    ensures went { Worked V.disk landscape.old landscape.new is_arrival (is_ok result) }
     ensures finished { OnOk result (finished_in landscape.new.world ≡ finished_in landscape.old.world) }
     ensures same { OnOk result (landscape.new ≡ landscape.old) }
     ensures arrived { OnOk result (is_twice letter ≡ true → stands_out landscape.old.world claim.now ≡ true
-        → (given : ArrivalOf) × Arrived (model_meaning landscape.old.world.rules.systems) V.faults landscape.old landscape.new unit.now given) }
+        → (given : ArrivalOf) × Arrived (model_meaning landscape.old.world.rules.systems) V.disk landscape.old landscape.new unit.now given) }
 {
     if is_twice(letter) && landscape.holds(claim) {
         let _second = arrive(landscape, claim, unit)?;

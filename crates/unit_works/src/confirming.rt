@@ -36,8 +36,8 @@ use unit_landscape::{Closed, Confirmed};
 /// to append its record, the records before that one stand, and none behind it. After an `Err` the confirmation may have come to the
 /// receiver.
 pub fn confirm<V: Volumes>(landscape: &mut Landscape<V>, tid: Tid) -> Result<(), OutOfMemory>
-    ensures went { Worked V.faults landscape.old landscape.new is_confirmation (is_ok result) }
-    ensures ended { OnOk result (HaveEnded V.faults landscape.old landscape.new 0) }
+    ensures went { Worked V.disk landscape.old landscape.new is_confirmation (is_ok result) }
+    ensures ended { OnOk result (HaveEnded V.disk landscape.old landscape.new 0) }
     ensures same { (is_up landscape.old.world tid.system && is_unconfirmed tid (log_of landscape.old.world tid.system)) ≡ false
         → landscape.new ≡ landscape.old }
     ensures none { (IsDueOf (model_meaning landscape.old.world.rules.systems) landscape.old.world tid → ⊥) → landscape.new ≡ landscape.old }
@@ -55,8 +55,8 @@ pub fn confirm<V: Volumes>(landscape: &mut Landscape<V>, tid: Tid) -> Result<(),
 /// Sends the confirmation of a unit that is done, and then the reply to it.
 fn confirm_done<V: Volumes>(landscape: &mut Landscape<V>, tid: Tid) -> Result<(), OutOfMemory>
     requires done { is_listed tid (done_in (log_of landscape.old.world tid.system)) ≡ true }
-    ensures went { Worked V.faults landscape.old landscape.new is_confirmation (is_ok result) }
-    ensures ended { OnOk result (HaveEnded V.faults landscape.old landscape.new 0) }
+    ensures went { Worked V.disk landscape.old landscape.new is_confirmation (is_ok result) }
+    ensures ended { OnOk result (HaveEnded V.disk landscape.old landscape.new 0) }
     ensures due { (unit : AleUnit) → committed_unit (model_meaning landscape.old.world.rules.systems) landscape.old.world tid ≡ Some unit
         → is_due landscape.old.world unit ≡ true
         → OnOk result (Appended landscape.old landscape.new (confirmation Whole (forgot landscape.old.world unit) unit)) }
@@ -74,8 +74,8 @@ fn confirm_done<V: Volumes>(landscape: &mut Landscape<V>, tid: Tid) -> Result<()
 /// The confirmation comes to the receiver.
 fn send<V: Volumes>(landscape: &mut Landscape<V>, tid: Tid) -> Result<Confirmed, OutOfMemory>
     requires done { is_listed tid (done_in (log_of landscape.old.world tid.system)) ≡ true }
-    ensures went { Worked V.faults landscape.old landscape.new is_confirmation (is_ok result) }
-    ensures ended { OnOk result (HaveEnded V.faults landscape.old landscape.new 0) }
+    ensures went { Worked V.disk landscape.old landscape.new is_confirmation (is_ok result) }
+    ensures ended { OnOk result (HaveEnded V.disk landscape.old landscape.new 0) }
     ensures sent { (unit : AleUnit) → committed_unit (model_meaning landscape.old.world.rules.systems) landscape.old.world tid ≡ Some unit
         → is_up landscape.old.world unit.receiver ≡ true
         → IfOk result (SentSo landscape.old landscape.new tid unit) }
@@ -88,8 +88,8 @@ fn send<V: Volumes>(landscape: &mut Landscape<V>, tid: Tid) -> Result<Confirmed,
 /// The reply to the confirmation comes to the sender.
 fn end<V: Volumes>(landscape: &mut Landscape<V>, tid: Tid) -> Result<Closed, OutOfMemory>
     requires forgotten { is_forgotten (model_meaning landscape.old.world.rules.systems) landscape.old.world tid ≡ true }
-    ensures went { Worked V.faults landscape.old landscape.new is_confirmation (is_ok result) }
-    ensures ended { OnOk result (HaveEnded V.faults landscape.old landscape.new 0) }
+    ensures went { Worked V.disk landscape.old landscape.new is_confirmation (is_ok result) }
+    ensures ended { OnOk result (HaveEnded V.disk landscape.old landscape.new 0) }
     ensures grew { is_up landscape.old.world tid.system ≡ true → is_listed tid (ended_in (log_of landscape.old.world tid.system)) ≡ false
         → OnOk result (Appended landscape.old landscape.new (one_at tid.system (Ended tid))) }
 {
@@ -103,8 +103,8 @@ pub(crate) fn confirm_under<V: Volumes>(
     tid: Tid,
     letter: Letter,
 ) -> Result<(), OutOfMemory>
-    ensures went { Worked V.faults landscape.old landscape.new (is_confirming letter) (is_ok result) }
-    ensures ended { OnOk result (HaveEnded V.faults landscape.old landscape.new 0) }
+    ensures went { Worked V.disk landscape.old landscape.new (is_confirming letter) (is_ok result) }
+    ensures ended { OnOk result (HaveEnded V.disk landscape.old landscape.new 0) }
     ensures same { (is_up landscape.old.world tid.system && is_unconfirmed tid (log_of landscape.old.world tid.system)) ≡ false
         → landscape.new ≡ landscape.old }
     ensures due { (unit : AleUnit) → committed_unit (model_meaning landscape.old.world.rules.systems) landscape.old.world tid ≡ Some unit
@@ -125,7 +125,7 @@ pub(crate) fn confirm_each<V: Volumes>(
     tids: &[Tid],
 ) -> Result<(), OutOfMemory>
     requires apart { IsDistinct is_tid tids.now }
-    ensures visited { VisitedSo V.faults landscape.old wires.old landscape.new wires.new (λ (other : TidOf). is_listed other tids.now ≡ true) result }
+    ensures visited { VisitedSo V.disk landscape.old wires.old landscape.new wires.new (λ (other : TidOf). is_listed other tids.now ≡ true) result }
     ensures claims { OnOk result (AreOrGone landscape.old.world landscape.new.world landscape.old.world.claims) }
 {
     for tid in tids {
@@ -141,7 +141,7 @@ fn confirm_due<V: Volumes>(
     wires: &mut Wires,
     tid: Tid,
 ) -> Result<(), OutOfMemory>
-    ensures worked { VisitedSo V.faults landscape.old wires.old landscape.new wires.new (λ (other : TidOf). other ≡ tid) result }
+    ensures worked { VisitedSo V.disk landscape.old wires.old landscape.new wires.new (λ (other : TidOf). other ≡ tid) result }
     ensures lost { is_sent_under (next_letter (letters_left wires.old tid)) ≡ false → landscape.new ≡ landscape.old }
     ensures claims { OnOk result (AreOrGone landscape.old.world landscape.new.world landscape.old.world.claims) }
 {
@@ -174,8 +174,8 @@ fn confirm_sent<V: Volumes>(
     tid: Tid,
     letter: Letter,
 ) -> Result<(), OutOfMemory>
-    ensures went { Worked V.faults landscape.old landscape.new is_confirmation (is_ok result) }
-    ensures ended { OnOk result (HaveEnded V.faults landscape.old landscape.new 0) }
+    ensures went { Worked V.disk landscape.old landscape.new is_confirmation (is_ok result) }
+    ensures ended { OnOk result (HaveEnded V.disk landscape.old landscape.new 0) }
     ensures lost { is_sent_under letter ≡ false → landscape.new ≡ landscape.old }
     ensures due { (unit : AleUnit) → committed_unit (model_meaning landscape.old.world.rules.systems) landscape.old.world tid ≡ Some unit
         → is_due landscape.old.world unit ≡ true

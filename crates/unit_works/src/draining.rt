@@ -23,7 +23,7 @@ pub fn confirm_all<V: Volumes>(
     landscape: &mut Landscape<V>,
     wires: &mut Wires,
 ) -> Result<(), OutOfMemory>
-    ensures visited { VisitedSo V.faults landscape.old wires.old landscape.new wires.new (IsTo 16) result }
+    ensures visited { VisitedSo V.disk landscape.old wires.old landscape.new wires.new (IsTo 16) result }
     ensures claims { OnOk result (AreOrGone landscape.old.world landscape.new.world landscape.old.world.claims) }
 {
     for number in 0..SystemNo::MAX {
@@ -42,7 +42,7 @@ fn confirm_at<V: Volumes>(
     wires: &mut Wires,
     system: SystemNo,
 ) -> Result<(), OutOfMemory>
-    ensures visited { VisitedSo V.faults landscape.old wires.old landscape.new wires.new (λ (other : TidOf). other.system ≡ system) result }
+    ensures visited { VisitedSo V.disk landscape.old wires.old landscape.new wires.new (λ (other : TidOf). other.system ≡ system) result }
     ensures claims { OnOk result (AreOrGone landscape.old.world landscape.new.world landscape.old.world.claims) }
 {
     let _ = landscape.world();
@@ -57,7 +57,7 @@ pub fn go_rounds<V: Volumes>(
     landscape: &mut Landscape<V>,
     wires: &mut Wires,
 ) -> Result<u64, OutOfMemory>
-    ensures gone { RoundsAs V.faults landscape.old wires.old landscape.new wires.new result }
+    ensures gone { RoundsAs V.disk landscape.old wires.old landscape.new wires.new result }
     ensures claims { OnOk result (AreOrGone landscape.old.world landscape.new.world landscape.old.world.claims) }
 {
     let mut finished = 0;

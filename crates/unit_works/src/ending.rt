@@ -30,7 +30,7 @@ pub(crate) fn finish<V: Volumes>(
     ready: Option<Prepared>,
 ) -> Result<Finished, OutOfMemory>
     requires ready { IfSome ready (λ prepared. IsPreparedFor landscape.old.world claim.tid prepared.postings) }
-    ensures went { Worked V.faults landscape.old landscape.new is_end (is_ok result) }
+    ensures went { Worked V.disk landscape.old landscape.new is_end (is_ok result) }
     ensures finished { IfOk result (λ given. finished_in landscape.new.world ≡ finished_in landscape.old.world + ended_by given) }
     ensures left { OnOk result (stands_in landscape.old.world claim ≡ true
         → AreOrGone landscape.old.world landscape.new.world (without_claim landscape.old.world claim.number).claims) }
@@ -51,7 +51,7 @@ fn finish_ready<V: Volumes>(
     ready: Option<Prepared>,
 ) -> Result<Finished, OutOfMemory>
     requires ready { IfSome ready (λ prepared. IsPreparedFor landscape.old.world claim.tid prepared.postings) }
-    ensures went { Worked V.faults landscape.old landscape.new is_end (is_ok result) }
+    ensures went { Worked V.disk landscape.old landscape.new is_end (is_ok result) }
     ensures finished { IfOk result (λ given. finished_in landscape.new.world ≡ finished_in landscape.old.world + ended_by given) }
     ensures left { OnOk result (stands_in landscape.old.world claim ≡ true
         → AreOrGone landscape.old.world landscape.new.world (without_claim landscape.old.world claim.number).claims) }
@@ -71,7 +71,7 @@ fn finish_prepared<V: Volumes>(
     landscape: &mut Landscape<V>,
     claim: InClaim,
 ) -> Result<Finished, OutOfMemory>
-    ensures went { Worked V.faults landscape.old landscape.new is_end (is_ok result) }
+    ensures went { Worked V.disk landscape.old landscape.new is_end (is_ok result) }
     ensures finished { IfOk result (λ given. finished_in landscape.new.world ≡ finished_in landscape.old.world + ended_by given) }
     ensures left { OnOk result (stands_in landscape.old.world claim ≡ true
         → AreOrGone landscape.old.world landscape.new.world (without_claim landscape.old.world claim.number).claims) }
@@ -103,7 +103,7 @@ fn finish_with<V: Volumes>(
     prepared: Prepared,
 ) -> Result<Finished, OutOfMemory>
     requires prepared { IsPreparedFor landscape.old.world claim.tid prepared.postings }
-    ensures went { Worked V.faults landscape.old landscape.new is_end (is_ok result) }
+    ensures went { Worked V.disk landscape.old landscape.new is_end (is_ok result) }
     ensures finished { IfOk result (λ given. finished_in landscape.new.world ≡ finished_in landscape.old.world + ended_by given) }
     ensures left { OnOk result (stands_in landscape.old.world claim ≡ true
         → AreOrGone landscape.old.world landscape.new.world (without_claim landscape.old.world claim.number).claims) }

@@ -27,7 +27,7 @@ pub fn execute_next<V: Volumes>(
     landscape: &mut Landscape<V>,
     system: SystemNo,
 ) -> Result<Option<u64>, OutOfMemory>
-    ensures { ExecutedAs V.faults landscape.old landscape.new system result }
+    ensures { ExecutedAs V.disk landscape.old landscape.new system result }
 {
     let Some(claim) = claim_to_execute(landscape, system)? else {
         return Ok(None);
@@ -42,7 +42,7 @@ pub fn claim_to_execute<V: Volumes>(
     landscape: &mut Landscape<V>,
     system: SystemNo,
 ) -> Result<Option<InClaim>, OutOfMemory>
-    ensures went { Worked V.faults landscape.old landscape.new is_run (is_ok result) }
+    ensures went { Worked V.disk landscape.old landscape.new is_run (is_ok result) }
     ensures finished { finished_in landscape.new.world ≡ finished_in landscape.old.world }
     ensures none { IfOk result (λ found. IsNone found → (landscape.new ≡ landscape.old) × NothingIn landscape.old.world system) }
     ensures claim { IfOk result (λ found. IfSome found
@@ -63,7 +63,7 @@ pub fn execute_claimed<V: Volumes>(
     ready: Option<Prepared>,
 ) -> Result<u64, OutOfMemory>
     requires ready { IfSome ready (λ prepared. IsPreparedFor landscape.old.world claim.tid prepared.postings) }
-    ensures { ClaimExecutedAs V.faults landscape.old landscape.new claim result }
+    ensures { ClaimExecutedAs V.disk landscape.old landscape.new claim result }
 {
     let _ = landscape.world();
     let finished = finish(alloc, landscape, claim, ready)?;

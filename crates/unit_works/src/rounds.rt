@@ -20,7 +20,7 @@ pub(crate) fn go_round<V: Volumes>(
     landscape: &mut Landscape<V>,
     wires: &mut Wires,
 ) -> Result<Option<u64>, OutOfMemory>
-    ensures found { FoundAs V.faults landscape.old wires.old landscape.new wires.new 32 (IsIdle landscape.old.world) result }
+    ensures found { FoundAs V.disk landscape.old wires.old landscape.new wires.new 32 (IsIdle landscape.old.world) result }
     ensures claims { OnOk result (AreOrGone landscape.old.world landscape.new.world landscape.old.world.claims) }
 {
     let found = visit_all(alloc, landscape, wires)?;
@@ -34,7 +34,7 @@ fn visit_all<V: Volumes>(
     landscape: &mut Landscape<V>,
     wires: &mut Wires,
 ) -> Result<Option<u64>, OutOfMemory>
-    ensures found { FoundAs V.faults landscape.old wires.old landscape.new wires.new 32 (NothingTo landscape.old.world 16) result }
+    ensures found { FoundAs V.disk landscape.old wires.old landscape.new wires.new 32 (NothingTo landscape.old.world 16) result }
     ensures claims { OnOk result (AreOrGone landscape.old.world landscape.new.world landscape.old.world.claims) }
 {
     let mut found = None;
@@ -57,7 +57,7 @@ fn visit<V: Volumes>(
     wires: &mut Wires,
     system: SystemNo,
 ) -> Result<Option<u64>, OutOfMemory>
-    ensures found { FoundAs V.faults landscape.old wires.old landscape.new wires.new 2 (NothingAt landscape.old.world system) result }
+    ensures found { FoundAs V.disk landscape.old wires.old landscape.new wires.new 2 (NothingAt landscape.old.world system) result }
     ensures claims { OnOk result (AreOrGone landscape.old.world landscape.new.world landscape.old.world.claims) }
 {
     let shipped = ship_next(alloc, landscape, wires, system)?;

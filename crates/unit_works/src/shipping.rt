@@ -39,7 +39,7 @@ pub fn ship_next<V: Volumes>(
     wires: &mut Wires,
     system: SystemNo,
 ) -> Result<Option<u64>, OutOfMemory>
-    ensures { ShippedAs V.faults landscape.old landscape.new wires.old wires.new system result }
+    ensures { ShippedAs V.disk landscape.old landscape.new wires.old wires.new system result }
 {
     let Some(claim) = claim_to_ship(landscape, system)? else {
         return Ok(None);
@@ -55,7 +55,7 @@ pub fn claim_to_ship<V: Volumes>(
     landscape: &mut Landscape<V>,
     system: SystemNo,
 ) -> Result<Option<OutClaim>, OutOfMemory>
-    ensures went { Worked V.faults landscape.old landscape.new is_claim (is_ok result) }
+    ensures went { Worked V.disk landscape.old landscape.new is_claim (is_ok result) }
     ensures finished { finished_in landscape.new.world ≡ finished_in landscape.old.world }
     ensures none { IfOk result (λ found. IsNone found → (landscape.new ≡ landscape.old) × NothingOut landscape.old.world system) }
     ensures claim { IfOk result (λ found. IfSome found
@@ -78,7 +78,7 @@ pub fn ship_claimed<V: Volumes>(
     ready: Option<Prepared>,
 ) -> Result<Option<u64>, OutOfMemory>
     requires ready { IfSome ready (λ prepared. IsPreparedFor landscape.old.world claim.tid prepared.postings) }
-    ensures { ClaimShippedAs V.faults landscape.old landscape.new wires.old wires.new claim result }
+    ensures { ClaimShippedAs V.disk landscape.old landscape.new wires.old wires.new claim result }
 {
     let _ = landscape.world();
     if !landscape.holds(&claim) {
@@ -99,7 +99,7 @@ fn ship<V: Volumes>(
 ) -> Result<u64, OutOfMemory>
     requires stands { stands_out landscape.old.world claim ≡ true }
     requires ready { IfSome ready (λ prepared. IsPreparedFor landscape.old.world claim.tid prepared.postings) }
-    ensures went { Worked V.faults landscape.old landscape.new (is_shipping letter) (is_ok result) }
+    ensures went { Worked V.disk landscape.old landscape.new (is_shipping letter) (is_ok result) }
     ensures finished { IfOk result (IsAnswered landscape.old.world landscape.new.world) }
     ensures left { OnOk result (AreOrGone landscape.old.world landscape.new.world (without_claim landscape.old.world claim.number).claims) }
     ensures grew { (unit : AleUnit) → committed_unit (model_meaning landscape.old.world.rules.systems) landscape.old.world claim.tid ≡ Some unit

@@ -9,7 +9,8 @@ use Rattle.ale_io.specs.Moments.{given_by, last_moment}
 use Rattle.ale_io.specs.declared.list_clock.ListClock.{ListClock}
 use Rattle.ale_volumes.specs.Memory.{MemoryOf}
 use Rattle.ale_host.specs.EndsSo.{EndsSo, IsFront}
-use Rattle.worked_cases.specs.Judged.{Gives, memory}
+use Rattle.worked_cases.specs.Judged.{Gives}
+use Rattle.ale_volumes.specs.MemoryLemmas.{memory}
 
 -- a text that was appended to nothing is all that was printed
 from_nothing : (begun printed text : List ℕ) → begun ≡ [] → Appends (Some begun) (Some printed) text → printed ≡ text

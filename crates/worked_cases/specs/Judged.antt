@@ -1,5 +1,6 @@
 -- What a run of the program gives, and the steps that a case makes of its runs.
-use Rattle.std.specs.Prelude.{◌≡◌, ◌⊎◌, ⊤, ℕ, ◌-◌, ◌^◌, ◌<◌, Bool, true, false, List, [], ◌∷◌, ◌++◌, Option, None, Some, map, take, replicate, slice_index, codes, string_bytes}
+use Rattle.std.specs.Prelude.{◌≡◌, ◌⊎◌, ⊤, ℕ, ◌-◌, ◌^◌, ◌<◌, Bool, true, false, List, [], ◌∷◌, ◌++◌, Option, None, Some, map, take, replicate, slice_index}
+use Rattle.std.specs.Prelude.{codes, string_bytes}
 use Rattle.std.specs.Fmt.{decimal}
 use Rattle.ale_io.specs.Told.{Told}
 use Rattle.ale_io.specs.Folder.{told_of}
@@ -7,11 +8,10 @@ use Rattle.ale_io.specs.Moments.{given_by}
 use Rattle.ale_io.specs.declared.list_clock.ListClock.{ListClock}
 use Rattle.ale_io.specs.declared.map_files.StoredFile.{StoredFile}
 use Rattle.ale_volumes.specs.Memory.{MemoryOf}
-use Rattle.ale_volumes.specs.MemoryLemmas.{volume_now, moment_of, images_of}
+use Rattle.ale_volumes.specs.MemoryLemmas.{memory, volume_now}
 use Rattle.ale_host.specs.declared.ending.Ending.TheVariants.{OutOfMemory}
 use Rattle.ale_host.specs.Ending.{status_of, text_of}
 use Rattle.ale_host.specs.EndsSo.{EndsSo}
-use Rattle.ale_host.specs.Running.{Disk}
 use Rattle.case_form.specs.declared.verdict.Relation.TheVariants.{Whole}
 use Rattle.case_form.specs.declared.verdict.Comparison.{Comparison}
 use Rattle.case_form.specs.declared.verdict.Step.{Step}
@@ -24,16 +24,6 @@ use Rattle.worked_cases.specs.declared.case.Output.{Output}
 use Rattle.worked_cases.specs.declared.case.Run.{Run}
 use Rattle.worked_cases.specs.declared.case.Part.{Part}
 use Rattle.worked_cases.specs.declared.case.Part.TheVariants.{Run as RunPart, Broken}
-
--- what is known of volumes in memory
-abbrev pub memory : Disk MemoryOf
-memory = record {
-  told = ⊤;
-  volume = volume_now;
-  faults = λ vols n. slice_index vols.calls.faults n;
-  moment = moment_of;
-  images_since = images_of;
-}
 
 -- volumes of no bytes
 abbrev pub empty_volumes : MemoryOf
@@ -89,7 +79,8 @@ abbrev pub step_of_run : Run → ℕ → List ℕ → List ℕ → List ℕ → 
 step_of_run run status printed met judged = record {
   line = run.line;
   differs = run.differs;
-  comparisons = status_compared run.status status ∷ (map (output_compared printed) run.outputs.items ++ gate_compared run.gate met) ++ law_compared run.law judged;
+  comparisons = status_compared run.status status ∷ (map (output_compared printed) run.outputs.items ++ gate_compared run.gate met)
+      ++ law_compared run.law judged;
 }
 
 -- The step of a part of a case over these files, and the volumes that it leaves: that of the run, by what it gave on volumes

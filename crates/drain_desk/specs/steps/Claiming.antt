@@ -1,5 +1,6 @@
 -- Units are claimed.
 use Rattle.std.specs.Prelude.{ℕ, Bool}
+use Rattle.ale_volumes.specs.Disk.{Disk}
 use Rattle.trfc_protocol.specs.declared.world.World.{World}
 use Rattle.unit_landscape.specs.KeptWorlds.{KeptOf}
 use Rattle.document_state.specs.declared.document_tables.DocumentTables.{DocumentTables}
@@ -13,8 +14,8 @@ use Rattle.drain_desk.specs.Work.{IsBasis, MayGo, tid_of}
 use Rattle.drain_desk.specs.ToDo.{IsToDo, StayToDo}
 
 -- units were claimed to be shipped or executed, and nothing else; what was to be done still is
-pub record Claims {V : Type 0} (faults : V → ℕ → ℕ) (before after : KeptOf ModelRules DocumentTables V) (whole : Bool) : Type 0 where
-  pub went : Worked faults before after is_work whole
+pub record Claims {V : Type 0} (disk : Disk V) (before after : KeptOf ModelRules DocumentTables V) (whole : Bool) : Type 0 where
+  pub went : Worked disk before after is_work whole
   pub only : HaveOnlyClaimed before after
   pub runs : NoneRuns before.world.claims → NoneRuns after.world.claims
   pub stay : StayToDo before.world after.world

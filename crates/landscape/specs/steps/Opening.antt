@@ -1,6 +1,6 @@
 -- The steps of an opening: volumes are opened one by one, and then the systems begin one by one.
 use Rattle.std.specs.Prelude.{◌≡◌, ℕ, ◌-◌, ◌≤◌, ◌<◌, Option, List, [], ◌∷◌, Result, Ok, Err, length, replicate}
-use Rattle.ale_volumes.specs.declared.volume.Volume.{Volume as OneVolume}
+use Rattle.ale_volumes.specs.Disk.{Disk}
 use Rattle.ale_volumes.specs.Clock.{KeepsVolume}
 use Rattle.unit_journal.specs.Log.{Stands}
 use Rattle.unit_journal.specs.OnDisk.{count_of, moment_of, moments_at}
@@ -41,7 +41,7 @@ abbrev pub begun_of : {T : Type 0} → Result T BeginEnd → Result T OpenWhy
 begun_of (Ok done) = Ok done
 begun_of (Err end) = Err (why_begun end)
 
-module _ {V : Type 0} (told : Type 0) (volume : V → ℕ → OneVolume) (moment : V → ℕ) (images_since : V → ℕ → ℕ → List ℕ → Type 0) (faults : V → ℕ → ℕ) (many : ℕ)
+module _ {V : Type 0} (disk : Disk V) (many : ℕ)
     (text : List ℕ) (set : Option ℕ) (before : V) where
   -- the volumes of so many systems are opened, and stood for empty logs
   pub record AreOpened (count : ℕ) (now : KeptOf ModelRules DocumentTables V) : Type 0 where
@@ -50,10 +50,10 @@ module _ {V : Type 0} (told : Type 0) (volume : V → ℕ → OneVolume) (moment
     pub journals : count_of now.journals ≡ count
     pub moment_set : moment_of now.journals ≡ set
     pub no_moments : (place : ℕ) → place < count → moments_at now.journals place ≡ []
-    pub leaves : told → LeavesOpening volume many text set before now.vols moment images_since
-    pub untouched : told → (place : ℕ) → count ≤ place → KeepsVolume volume moment images_since before now.vols place
-    pub empty : told → (place : ℕ) → place < count → Stands (volume before place).contents []
-    pub none_failed : NoneFailed many faults before now.vols
+    pub leaves : disk.told → LeavesOpening disk many text set before now.vols
+    pub untouched : disk.told → (place : ℕ) → count ≤ place → KeepsVolume disk before now.vols place
+    pub empty : disk.told → (place : ℕ) → place < count → Stands (disk.volume before place).contents []
+    pub none_failed : NoneFailed many disk before now.vols
 
   -- the first of the systems have begun, and the others are up with an empty log
   pub record AreBegunSoFar (count : ℕ) (now : KeptOf ModelRules DocumentTables V) : Type 0 where
@@ -63,15 +63,15 @@ module _ {V : Type 0} (told : Type 0) (volume : V → ℕ → OneVolume) (moment
     pub moment_set : moment_of now.journals ≡ set
     pub begun : (place : ℕ) → place < count → moments_at now.journals place ≡ set ∷ []
     pub no_moments : (place : ℕ) → count ≤ place → place < many → moments_at now.journals place ≡ []
-    pub leaves : told → LeavesOpening volume many text set before now.vols moment images_since
-    pub empty : told → (place : ℕ) → place < many → Stands (volume before place).contents []
-    pub none_failed : NoneFailed many faults before now.vols
+    pub leaves : disk.told → LeavesOpening disk many text set before now.vols
+    pub empty : disk.told → (place : ℕ) → place < many → Stands (disk.volume before place).contents []
+    pub none_failed : NoneFailed many disk before now.vols
 
   -- an opening ended before all was done
   pub record HasEnded (end : OpenEnd V) : Type 0 where
-    pub why : WhyEnded volume many text set before end.vols told end.why
-    pub leaves : told → LeavesOpening volume many text set before end.vols moment images_since
-    pub faulted : EndedByFault many faults before end.vols end.why
+    pub why : WhyEnded disk many text set before end.vols end.why
+    pub leaves : disk.told → LeavesOpening disk many text set before end.vols
+    pub faulted : EndedByFault many disk before end.vols end.why
 
   -- so many volumes are opened, or how else it ended
   abbrev pub OpensAs : ℕ → Result (KeptOf ModelRules DocumentTables V) (OpenEnd V) → Type 0

@@ -1,5 +1,6 @@
 -- A record that is ready to be appended at a system, and how its appending ends.
 use Rattle.std.specs.Prelude.{◌≡◌, ◌⊎◌, ⊤, ℕ, Bool, true, List, Option, Some, None, Result, Ok, Err}
+use Rattle.ale_volumes.specs.Disk.{Disk}
 use Rattle.ale_volumes.specs.declared.volume.Volume.{Volume as OneVolume}
 use Rattle.unit_codec.specs.Condition.{IsWritable}
 use Rattle.unit_core.specs.declared.records.Record.{Record}
@@ -72,15 +73,15 @@ refused_of not_allowed (Err (operator.Full size)) = Err (N10 size)
 refused_of not_allowed (Err operator.Volume) = Err Volume
 refused_of not_allowed (Err operator.OutOfMemory) = Err OutOfMemory
 
-module _ {V : Type 0} (faults : V → ℕ → ℕ) (before after : KeptOf ModelRules DocumentTables V) (system : ℕ) (event : Record → Event) where
+module _ {V : Type 0} (disk : Disk V) (before after : KeptOf ModelRules DocumentTables V) (system : ℕ) (event : Record → Event) where
   -- the record of a command was appended for its event, or how else it ended
   abbrev pub EndedAs : {T : Type 0} → Record → Result T Refusal → Type 0
-  EndedAs next (Ok done) = Happened (model_meaning before.world.rules.systems) faults before after (event next)
-  EndedAs next (Err Volume) = Failed (model_meaning before.world.rules.systems) faults before after (at system next)
-  EndedAs next (Err (N10 size)) = IsFull (model_meaning before.world.rules.systems) faults before after (at system next) size
+  EndedAs next (Ok done) = Happened (model_meaning before.world.rules.systems) disk before after (event next)
+  EndedAs next (Err Volume) = Failed (model_meaning before.world.rules.systems) disk before after (at system next)
+  EndedAs next (Err (N10 size)) = IsFull (model_meaning before.world.rules.systems) disk before after (at system next) size
   EndedAs next (Err OutOfMemory) =
-      Stays (model_meaning before.world.rules.systems) faults before after
-      ⊎ FellBehind (model_meaning before.world.rules.systems) faults before after (event next) (at system next)
+      Stays (model_meaning before.world.rules.systems) disk before after
+      ⊎ FellBehind (model_meaning before.world.rules.systems) disk before after (event next) (at system next)
   EndedAs next (Err refusal) = ⊥
 
   -- so it was done where a command was judged to ask for a record; nothing changed where it was not
@@ -97,8 +98,8 @@ CountsAs log (Ok None) counts = counts ≡ record { masters = 0; documents = 0; 
 CountsAs log (Err refusal) counts = ⊤
 
 -- no volume is called, or the record is written, and nothing else
-abbrev pub DiskJudged : {V : Type 0} → Type 0 → (V → ℕ → OneVolume) → (V → ℕ) → (V → ℕ → ℕ → List ℕ → Type 0)
-    → KeptOf ModelRules DocumentTables V → KeptOf ModelRules DocumentTables V → ℕ → Result (Option Wanted) Refusal → Type 0
-DiskJudged told volume moment images_since before after system (Ok (Some wanted)) =
-    KeepsVolumes before after ⊎ WritesOnly told volume moment images_since before after (at system wanted.next)
-DiskJudged told volume moment images_since before after system _ = KeepsVolumes before after
+abbrev pub DiskJudged : {V : Type 0} → Disk V → KeptOf ModelRules DocumentTables V → KeptOf ModelRules DocumentTables V → ℕ → Result (Option Wanted) Refusal →
+    Type 0
+DiskJudged disk before after system (Ok (Some wanted)) =
+    KeepsVolumes before after ⊎ WritesOnly disk before after (at system wanted.next)
+DiskJudged disk before after system _ = KeepsVolumes before after

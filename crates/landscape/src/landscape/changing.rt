@@ -19,6 +19,7 @@ impl<V: Volumes> Landscape<V> {
     ghost use Rattle.unit_landscape.specs.Appending.{at};
     ghost use Rattle.landscape.specs.Asked.{asked_put, asked_app, asked_repost, pointers_noted};
     ghost use Rattle.landscape.specs.steps.Judged.{is_applications};
+    ghost use Rattle.landscape.specs.Crashes.{LeavesSoundLogs};
     ghost use Rattle.landscape.specs.Carried.{CarriedAs, DiskAsked, asked_at, operator_event, status_at};
     ghost use Rattle.landscape.specs.steps.Ready.{IsReady, IsJudged, ReadyAs, EndedAs, DoneAs, DiskJudged};
 
@@ -27,10 +28,12 @@ impl<V: Volumes> Landscape<V> {
     /// `N2` comes exactly where the system is down; `N12` else where the kind, the key, a field or a value is none that the model in
     /// force allows; `N10` else where the journal is full.
     pub fn put(&mut self, system: SystemNo, change: &Change) -> Result<u64, Refusal>
-        ensures ends { CarriedAs V.faults self.old self.new system (operator_event system) (asked_at self.old.world system (λ log. asked_put log change.now))
+        ensures ends { CarriedAs V.disk self.old self.new system (operator_event system) (asked_at self.old.world system (λ log. asked_put log change.now))
             (λ pointers. pointers ≡ pointers_noted (log_of self.old.world system) change.now) result }
-        ensures disk { DiskAsked V.told V.volume V.moment V.images_since self.old self.new system (asked_at self.old.world system (λ log. asked_put log change.now)) }
+        ensures disk { DiskAsked V.disk self.old self.new system (asked_at self.old.world system (λ log. asked_put log change.now)) }
+        ensures sound { LeavesSoundLogs V.disk self.old self.new }
     {
+        let _ = self.units.world();
         let judged = self.judged_put(system, change);
         let pointers = match self.pointers_noted(system, change) {
             Ok(pointers) => pointers,
@@ -47,9 +50,10 @@ impl<V: Volumes> Landscape<V> {
     /// `N2` comes exactly where the system is down; `N3` else where there is no such document; `N8` else where its last status is not
     /// 64; `N10` else where the journal is full.
     pub fn app(&mut self, system: SystemNo, doc: DocNum) -> Result<Status, Refusal>
-        ensures ends { CarriedAs V.faults self.old self.new system (operator_event system) (asked_at self.old.world system (λ log. asked_app log doc.0))
+        ensures ends { CarriedAs V.disk self.old self.new system (operator_event system) (asked_at self.old.world system (λ log. asked_app log doc.0))
             (λ status. status ≡ status_at self.new.world system doc.0) result }
-        ensures disk { DiskAsked V.told V.volume V.moment V.images_since self.old self.new system (asked_at self.old.world system (λ log. asked_app log doc.0)) }
+        ensures disk { DiskAsked V.disk self.old self.new system (asked_at self.old.world system (λ log. asked_app log doc.0)) }
+        ensures sound { LeavesSoundLogs V.disk self.old self.new }
     {
         let judged = self.judged_app(system, doc);
         match self.operate(system, judged) {
@@ -63,9 +67,10 @@ impl<V: Volumes> Landscape<V> {
     /// `N2` comes exactly where the system is down; `N3` else where there is no such document; `N8` else where its last status is not
     /// 51; `N10` else where the journal is full.
     pub fn repost(&mut self, system: SystemNo, doc: DocNum) -> Result<Status, Refusal>
-        ensures ends { CarriedAs V.faults self.old self.new system (operator_event system) (asked_at self.old.world system (λ log. asked_repost log doc.0))
+        ensures ends { CarriedAs V.disk self.old self.new system (operator_event system) (asked_at self.old.world system (λ log. asked_repost log doc.0))
             (λ status. status ≡ status_at self.new.world system doc.0) result }
-        ensures disk { DiskAsked V.told V.volume V.moment V.images_since self.old self.new system (asked_at self.old.world system (λ log. asked_repost log doc.0)) }
+        ensures disk { DiskAsked V.disk self.old self.new system (asked_at self.old.world system (λ log. asked_repost log doc.0)) }
+        ensures sound { LeavesSoundLogs V.disk self.old self.new }
     {
         let judged = self.judged_repost(system, doc);
         match self.operate(system, judged) {
@@ -140,9 +145,11 @@ impl<V: Volumes> Landscape<V> {
         judged: Result<Option<Wanted>, Refusal>,
     ) -> Result<(), Refusal>
         requires ready { IsJudged self.old.world system is_applications judged }
-        ensures done { DoneAs V.faults self.old self.new system (operator_event system) judged result }
-        ensures disk { DiskJudged V.told V.volume V.moment V.images_since self.old self.new system judged }
+        ensures done { DoneAs V.disk self.old self.new system (operator_event system) judged result }
+        ensures disk { DiskJudged V.disk self.old self.new system judged }
+        ensures sound { LeavesSoundLogs V.disk self.old self.new }
     {
+        let _ = self.units.world();
         match judged {
             Err(why) => Err(why),
             Ok(None) => Ok(()),
@@ -153,8 +160,9 @@ impl<V: Volumes> Landscape<V> {
     /// Appends a record that changes the application.
     fn operate_wanted(&mut self, system: SystemNo, wanted: Wanted) -> Result<(), Refusal>
         requires ready { IsReady self.old.world system is_applications wanted }
-        ensures done { EndedAs V.faults self.old self.new system (operator_event system) wanted.next result }
-        ensures disk { KeepsVolumes self.old self.new ⊎ WritesOnly V.told V.volume V.moment V.images_since self.old self.new (at system wanted.next) }
+        ensures done { EndedAs V.disk self.old self.new system (operator_event system) wanted.next result }
+        ensures disk { KeepsVolumes self.old self.new ⊎ WritesOnly V.disk self.old self.new (at system wanted.next) }
+        ensures sound { LeavesSoundLogs V.disk self.old self.new }
     {
         let _ = self.units.world();
         let Wanted { next, made } = wanted;

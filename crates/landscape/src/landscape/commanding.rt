@@ -26,6 +26,7 @@ impl<V: Volumes> Landscape<V> {
     ghost use Rattle.unit_landscape.specs.Appending.{at};
     ghost use Rattle.document_state.specs.declared.made.Made.TheVariants as made;
     ghost use Rattle.landscape.specs.Asked.{asked_send, asked_gather, asked_dispatch};
+    ghost use Rattle.landscape.specs.Crashes.{LeavesSoundLogs};
     ghost use Rattle.landscape.specs.Carried.{CarriedAs, DiskAsked, asked_at, counts_asked, counts_of, sent_counts};
     ghost use Rattle.landscape.specs.steps.Ready.{IsReady, IsJudged, ReadyAs, EndedAs, DoneAs, CountsAs, DiskJudged};
 
@@ -36,9 +37,10 @@ impl<V: Volumes> Landscape<V> {
     /// no document of its type; `N11` else where there would be over 65,536 units; `N10` else where the journal is full.
     pub fn send(&mut self, system: SystemNo, master: &RawUnitDoc) -> Result<Sent, Refusal>
         requires short { length master.now.segments ≤ MOST_SEGMENTS }
-        ensures ends { CarriedAs V.faults self.old self.new system (event.Commit system) (asked_at self.old.world system (λ log. asked_send log master.now))
+        ensures ends { CarriedAs V.disk self.old self.new system (event.Commit system) (asked_at self.old.world system (λ log. asked_send log master.now))
             (λ sent. sent ≡ sent_counts (counts_asked (log_of self.old.world system) (asked_at self.old.world system (λ log. asked_send log master.now)))) result }
-        ensures disk { DiskAsked V.told V.volume V.moment V.images_since self.old self.new system (asked_at self.old.world system (λ log. asked_send log master.now)) }
+        ensures disk { DiskAsked V.disk self.old self.new system (asked_at self.old.world system (λ log. asked_send log master.now)) }
+        ensures sound { LeavesSoundLogs V.disk self.old self.new }
     {
         let judged = self.judged_send(system, master);
         match self.commit(system, judged) {
@@ -53,9 +55,10 @@ impl<V: Volumes> Landscape<V> {
     /// `N2` comes exactly where the system is down; `N12` else where the name stands for no message type; `N11` else where there would
     /// be over 65,536 units; `N10` else where the journal is full.
     pub fn gather(&mut self, system: SystemNo, name: &[u8]) -> Result<Gathered, Refusal>
-        ensures ends { CarriedAs V.faults self.old self.new system (event.Commit system) (asked_at self.old.world system (λ log. asked_gather log name.now))
+        ensures ends { CarriedAs V.disk self.old self.new system (event.Commit system) (asked_at self.old.world system (λ log. asked_gather log name.now))
             (λ counts. counts ≡ counts_asked (log_of self.old.world system) (asked_at self.old.world system (λ log. asked_gather log name.now))) result }
-        ensures disk { DiskAsked V.told V.volume V.moment V.images_since self.old self.new system (asked_at self.old.world system (λ log. asked_gather log name.now)) }
+        ensures disk { DiskAsked V.disk self.old self.new system (asked_at self.old.world system (λ log. asked_gather log name.now)) }
+        ensures sound { LeavesSoundLogs V.disk self.old self.new }
     {
         let judged = self.judged_gather(system, name);
         self.commit(system, judged)
@@ -66,9 +69,10 @@ impl<V: Volumes> Landscape<V> {
     /// `N2` comes exactly where the system is down; `N11` else where there would be over 65,536 units; `N10` else where the journal is
     /// full.
     pub fn dispatch(&mut self, system: SystemNo) -> Result<u64, Refusal>
-        ensures ends { CarriedAs V.faults self.old self.new system (event.Commit system) (asked_at self.old.world system (λ log. asked_dispatch log))
+        ensures ends { CarriedAs V.disk self.old self.new system (event.Commit system) (asked_at self.old.world system (λ log. asked_dispatch log))
             (λ units. units ≡ (counts_asked (log_of self.old.world system) (asked_at self.old.world system (λ log. asked_dispatch log))).units) result }
-        ensures disk { DiskAsked V.told V.volume V.moment V.images_since self.old self.new system (asked_at self.old.world system (λ log. asked_dispatch log)) }
+        ensures disk { DiskAsked V.disk self.old self.new system (asked_at self.old.world system (λ log. asked_dispatch log)) }
+        ensures sound { LeavesSoundLogs V.disk self.old self.new }
     {
         let judged = self.judged_dispatch(system);
         match self.commit(system, judged) {
@@ -118,10 +122,12 @@ impl<V: Volumes> Landscape<V> {
         judged: Result<Option<Wanted>, Refusal>,
     ) -> Result<Gathered, Refusal>
         requires ready { IsJudged self.old.world system is_commit judged }
-        ensures done { DoneAs V.faults self.old self.new system (event.Commit system) judged result }
+        ensures done { DoneAs V.disk self.old self.new system (event.Commit system) judged result }
         ensures counts { IfOk result (CountsAs (log_of self.old.world system) judged) }
-        ensures disk { DiskJudged V.told V.volume V.moment V.images_since self.old self.new system judged }
+        ensures disk { DiskJudged V.disk self.old self.new system judged }
+        ensures sound { LeavesSoundLogs V.disk self.old self.new }
     {
+        let _ = self.units.world();
         match judged {
             Err(why) => Err(why),
             Ok(None) => Ok(Gathered::none()),
@@ -132,9 +138,10 @@ impl<V: Volumes> Landscape<V> {
     /// Appends a record that commits documents.
     fn commit_wanted(&mut self, system: SystemNo, wanted: Wanted) -> Result<Gathered, Refusal>
         requires ready { IsReady self.old.world system is_commit wanted }
-        ensures done { EndedAs V.faults self.old self.new system (event.Commit system) wanted.next result }
+        ensures done { EndedAs V.disk self.old self.new system (event.Commit system) wanted.next result }
         ensures counts { IfOk result (λ counts. counts ≡ counts_of (log_of self.old.world system) wanted.next) }
-        ensures disk { KeepsVolumes self.old self.new ⊎ WritesOnly V.told V.volume V.moment V.images_since self.old self.new (at system wanted.next) }
+        ensures disk { KeepsVolumes self.old self.new ⊎ WritesOnly V.disk self.old self.new (at system wanted.next) }
+        ensures sound { LeavesSoundLogs V.disk self.old self.new }
     {
         let counts = counts_of(&wanted);
         let Wanted { next, made } = wanted;
@@ -147,8 +154,9 @@ impl<V: Volumes> Landscape<V> {
     /// Appends a record that commits documents, with what was made for it.
     fn commit_made(&mut self, system: SystemNo, next: Record, made: Made) -> Result<(), Refusal>
         requires ready { IsReady self.old.world system is_commit (record { next = next; made = made }) }
-        ensures done { EndedAs V.faults self.old self.new system (event.Commit system) next result }
-        ensures disk { KeepsVolumes self.old self.new ⊎ WritesOnly V.told V.volume V.moment V.images_since self.old self.new (at system next) }
+        ensures done { EndedAs V.disk self.old self.new system (event.Commit system) next result }
+        ensures disk { KeepsVolumes self.old self.new ⊎ WritesOnly V.disk self.old self.new (at system next) }
+        ensures sound { LeavesSoundLogs V.disk self.old self.new }
     {
         match made {
             Made::Sent(added) => self.commit_added(system, next, added),
@@ -160,8 +168,9 @@ impl<V: Volumes> Landscape<V> {
     /// Appends a record that commits documents, with what it adds.
     fn commit_added(&mut self, system: SystemNo, next: Record, added: Added) -> Result<(), Refusal>
         requires ready { IsReady self.old.world system is_commit (record { next = next; made = made.Sent added }) }
-        ensures done { EndedAs V.faults self.old self.new system (event.Commit system) next result }
-        ensures disk { KeepsVolumes self.old self.new ⊎ WritesOnly V.told V.volume V.moment V.images_since self.old self.new (at system next) }
+        ensures done { EndedAs V.disk self.old self.new system (event.Commit system) next result }
+        ensures disk { KeepsVolumes self.old self.new ⊎ WritesOnly V.disk self.old self.new (at system next) }
+        ensures sound { LeavesSoundLogs V.disk self.old self.new }
     {
         let _ = self.units.world();
         match units_of(self.alloc, &added) {

@@ -30,6 +30,7 @@ impl<V: Volumes> Landscape<V> {
     ghost use Rattle.document_state.specs.Made.{GoesWith};
     ghost use Rattle.document_state.specs.OfLog.{postings_behind};
     ghost use Rattle.document_state.specs.Meaning.{model_meaning};
+    ghost use Rattle.landscape.specs.Crashes.{LeavesSoundLogs};
     ghost use Rattle.landscape.specs.Working.{CameOrRefused, IsExecutedWith, IsKindOf, IsMadeFor, IsPreparedFor};
 
     /// The work of a claim ends: the unit is executed where its receiver offers its function, with what was prepared of its documents,
@@ -39,9 +40,10 @@ impl<V: Volumes> Landscape<V> {
     /// but perhaps what lies behind the log on the volume, or the record stands in its log and the system is down behind it.
     pub fn finish(&mut self, claim: InClaim, prepared: Prepared) -> Result<Finished, WorkEnd>
         requires prepared { IsPreparedFor self.old.world claim.tid prepared.postings }
-        ensures ends { FinishedAs (model_meaning self.old.world.rules.systems) V.faults self.old self.new claim result }
-        ensures disk { DiskAs V.told V.volume V.moment V.images_since self.old self.new
+        ensures ends { FinishedAs (model_meaning self.old.world.rules.systems) V.disk self.old self.new claim result }
+        ensures disk { DiskAs V.disk self.old self.new
             (record_of (model_meaning self.old.world.rules.systems) self.old.world (finish_event (model_meaning self.old.world.rules.systems) self.old.world claim)) }
+        ensures sound { LeavesSoundLogs V.disk self.old self.new }
     {
         let _ = self.units.world();
         let Some(kind) = self.kind_of(&claim) else {
@@ -112,9 +114,10 @@ impl<V: Volumes> Landscape<V> {
     /// behind the log on the volume, or the record stands in its log and the receiver is down behind it.
     pub fn late(&mut self, tid: Tid) -> Result<Late, Refusal>
         requires alone { is_claimed Direct tid self.old.world.claims ≡ false }
-        ensures ends { CameOrRefused V.faults self.old self.new tid result }
-        ensures disk { DiskAs V.told V.volume V.moment V.images_since self.old self.new
+        ensures ends { CameOrRefused V.disk self.old self.new tid result }
+        ensures disk { DiskAs V.disk self.old self.new
             (late_record (model_meaning self.old.world.rules.systems) self.old.world tid) }
+        ensures sound { LeavesSoundLogs V.disk self.old self.new }
     {
         late_refused(self.late_ended(tid))
     }
@@ -122,9 +125,10 @@ impl<V: Volumes> Landscape<V> {
     /// A late request comes, or the reason is given why none may.
     fn late_ended(&mut self, tid: Tid) -> Result<Late, LateEnd>
         requires alone { is_claimed Direct tid self.old.world.claims ≡ false }
-        ensures ends { LateAs (model_meaning self.old.world.rules.systems) V.faults self.old self.new tid result }
-        ensures disk { DiskAs V.told V.volume V.moment V.images_since self.old self.new
+        ensures ends { LateAs (model_meaning self.old.world.rules.systems) V.disk self.old self.new tid result }
+        ensures disk { DiskAs V.disk self.old self.new
             (late_record (model_meaning self.old.world.rules.systems) self.old.world tid) }
+        ensures sound { LeavesSoundLogs V.disk self.old self.new }
     {
         let _ = self.units.world();
         let offered = self.offers_unit(tid);

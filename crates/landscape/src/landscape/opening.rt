@@ -47,12 +47,12 @@ impl<V: Volumes> Landscape<V> {
         requires said { said text ≡ Some (arc_value model) }
         requires short { length text ≤ MOST_TEXT }
         ensures opened { IfOk result (HasOpened (length (arc_value model).systems) text moment) }
-        ensures why { WhyOpened V.volume (length (arc_value model).systems) text moment vols (vols_after result) V.told result }
-        ensures faults { FaultsOpened (length (arc_value model).systems) V.faults vols (vols_after result) result }
+        ensures why { WhyOpened V.disk (length (arc_value model).systems) text moment vols (vols_after result) result }
+        ensures faults { FaultsOpened (length (arc_value model).systems) V.disk vols (vols_after result) result }
 
         // A crash at any moment of the call leaves of each volume what was handed in, or what reads as it; or the empty log, or the
         // Genesis of its system alone. Volumes behind those of the systems are not called.
-        ensures volumes { V.told → LeavesOpening V.volume (length (arc_value model).systems) text moment vols (vols_after result) V.moment V.images_since }
+        ensures volumes { V.disk.told → LeavesOpening V.disk (length (arc_value model).systems) text moment vols (vols_after result) }
     {
         let systems = model.as_lists().systems.len() as u8;
         match begin_over(alloc, &model, systems, text.as_slice(), moment, vols) {
@@ -75,7 +75,7 @@ fn begin_over<V: Volumes>(
     requires least { 1 ≤ systems }
     requires most { systems ≤ 16 }
     requires short { length text.now ≤ MOST_TEXT }
-    ensures { BeginsAs V.told V.volume V.moment V.images_since V.faults systems text.now moment vols systems result }
+    ensures { BeginsAs V.disk systems text.now moment vols systems result }
 {
     match open_all(alloc, systems, moment, vols) {
         Ok(kept) => begin_all(alloc, kept, model, systems, text),
@@ -92,7 +92,7 @@ fn open_all<V: Volumes>(
 ) -> Result<Kept<V>, OpenEnd<V>>
     requires least { 1 ≤ systems }
     requires most { systems ≤ 16 }
-    ensures { (text : List ℕ) → BeginsAs V.told V.volume V.moment V.images_since V.faults systems text moment vols 0 result }
+    ensures { (text : List ℕ) → BeginsAs V.disk systems text moment vols 0 result }
 {
     let mut opening = Opening::new(alloc, ModelRules::new(systems), moment, vols);
     for _number in 0..systems {
@@ -111,8 +111,8 @@ fn open_next<V: Volumes>(
 ) -> Result<Opening<ModelRules, DocumentTables, V>, OpenEnd<V>>
     requires next { length opening.world.systems < opening.world.rules.systems }
     ensures { (text : List ℕ) (set : Option ℕ) (before : V)
-        → AreOpened V.told V.volume V.moment V.images_since V.faults opening.world.rules.systems text set before (length opening.world.systems) opening
-        → OpensAs V.told V.volume V.moment V.images_since V.faults opening.world.rules.systems text set before (suc (length opening.world.systems)) result }
+        → AreOpened V.disk opening.world.rules.systems text set before (length opening.world.systems) opening
+        → OpensAs V.disk opening.world.rules.systems text set before (suc (length opening.world.systems)) result }
 {
     opened(opening.system(DocumentTables::new(alloc)))
 }
@@ -143,8 +143,8 @@ fn begin_all<V: Volumes>(
     requires short { length text.now ≤ MOST_TEXT }
     requires begins { kept.world ≡ begun_world kept.world.rules [] systems }
     ensures { (set : Option ℕ) (before : V)
-        → AreBegunSoFar V.told V.volume V.moment V.images_since V.faults systems text.now set before 0 kept
-        → BeginsAs V.told V.volume V.moment V.images_since V.faults systems text.now set before systems result }
+        → AreBegunSoFar V.disk systems text.now set before 0 kept
+        → BeginsAs V.disk systems text.now set before systems result }
 {
     let mut kept = kept;
     for number in 0..systems {
@@ -176,8 +176,8 @@ fn begin_next<V: Volumes>(
     requires no_claims { kept.old.world.claims ≡ [] }
     ensures world { OnOk result (kept.new.world ≡ with_record kept.old.world (suc number) (Genesis (suc number) text.now)) }
     ensures begun { (many : ℕ) (set : Option ℕ) (before : V) → number < many
-        → AreBegunSoFar V.told V.volume V.moment V.images_since V.faults many text.now set before number kept.old
-        → BeginsNext V.told V.volume V.moment V.images_since V.faults many text.now set before (suc number) kept.new result }
+        → AreBegunSoFar V.disk many text.now set before number kept.old
+        → BeginsNext V.disk many text.now set before (suc number) kept.new result }
 {
     let Some(system) = SystemNo::of(number + 1) else {
         // There are 16 systems at most.

@@ -10,6 +10,7 @@ use status_log::Refusal;
 
 impl<V: Volumes> Landscape<V> {
     ghost use Rattle.std.specs.Prelude.{⊤};
+    ghost use Rattle.landscape.specs.Crashes.{LeavesSoundLogs};
     ghost use Rattle.landscape.specs.Carried.{CarriedAs, DiskAsked, asked_at, operator_event};
     ghost use Rattle.landscape.specs.Operator.{asked_queue, asked_retry, start_of, stop_of};
 
@@ -24,10 +25,11 @@ impl<V: Volumes> Landscape<V> {
         destination: Option<SystemNo>,
         name: &[u8],
     ) -> Result<(), Refusal>
-        ensures ends { CarriedAs V.faults self.old self.new system (operator_event system)
+        ensures ends { CarriedAs V.disk self.old self.new system (operator_event system)
             (asked_at self.old.world system (λ log. asked_queue self.old.world.rules.systems system destination name.now (stop_of destination name.now))) (λ done. ⊤) result }
-        ensures disk { DiskAsked V.told V.volume V.moment V.images_since self.old self.new system
+        ensures disk { DiskAsked V.disk self.old self.new system
             (asked_at self.old.world system (λ log. asked_queue self.old.world.rules.systems system destination name.now (stop_of destination name.now))) }
+        ensures sound { LeavesSoundLogs V.disk self.old self.new }
     {
         let _ = self.units.world();
         if !self.units.is_up(system) {
@@ -48,10 +50,11 @@ impl<V: Volumes> Landscape<V> {
         destination: Option<SystemNo>,
         name: &[u8],
     ) -> Result<(), Refusal>
-        ensures ends { CarriedAs V.faults self.old self.new system (operator_event system)
+        ensures ends { CarriedAs V.disk self.old self.new system (operator_event system)
             (asked_at self.old.world system (λ log. asked_queue self.old.world.rules.systems system destination name.now (start_of destination name.now))) (λ done. ⊤) result }
-        ensures disk { DiskAsked V.told V.volume V.moment V.images_since self.old self.new system
+        ensures disk { DiskAsked V.disk self.old self.new system
             (asked_at self.old.world system (λ log. asked_queue self.old.world.rules.systems system destination name.now (start_of destination name.now))) }
+        ensures sound { LeavesSoundLogs V.disk self.old self.new }
     {
         let _ = self.units.world();
         if !self.units.is_up(system) {
@@ -71,10 +74,11 @@ impl<V: Volumes> Landscape<V> {
     /// `N2` comes exactly where the system is down; `N6` else where the unit is not outstanding there; `N10` else where the journal is
     /// full.
     pub fn retry(&mut self, system: SystemNo, tid: Tid) -> Result<(), Refusal>
-        ensures ends { CarriedAs V.faults self.old self.new system (operator_event system)
+        ensures ends { CarriedAs V.disk self.old self.new system (operator_event system)
             (asked_at self.old.world system (asked_retry self.old.world.rules.systems system tid)) (λ done. ⊤) result }
-        ensures disk { DiskAsked V.told V.volume V.moment V.images_since self.old self.new system
+        ensures disk { DiskAsked V.disk self.old self.new system
             (asked_at self.old.world system (asked_retry self.old.world.rules.systems system tid)) }
+        ensures sound { LeavesSoundLogs V.disk self.old self.new }
     {
         let _ = self.units.world();
         refused(

@@ -25,13 +25,15 @@ impl<V: Volumes> Landscape<V> {
     ghost use Rattle.unit_landscape.specs.Writes.{DiskAs};
     ghost use Rattle.unit_landscape.specs.Appending.{Arrives};
     ghost use Rattle.document_state.specs.Meaning.{model_meaning};
+    ghost use Rattle.landscape.specs.Crashes.{LeavesSoundLogs};
 
     /// Claims the first unit that is offered outbound at a system, to be shipped. None exactly where the system is down or nothing is
     /// offered there. After an `Err` nothing has changed.
     pub fn claim_out(&mut self, system: SystemNo) -> Result<Option<OutClaim>, OutOfMemory>
-        ensures event { IfOk result (ClaimedOut (model_meaning self.old.world.rules.systems) V.faults self.old self.new system) }
+        ensures event { IfOk result (ClaimedOut (model_meaning self.old.world.rules.systems) V.disk self.old self.new system) }
         ensures err { OnErr result (self.new ≡ self.old) }
         ensures volumes { KeepsVolumes self.old self.new }
+        ensures sound { LeavesSoundLogs V.disk self.old self.new }
     {
         let _ = self.units.world();
         self.units.claim_out(system)
@@ -40,9 +42,10 @@ impl<V: Volumes> Landscape<V> {
     /// Claims the first unit that is offered inbound at a system, to be executed. None exactly where the system is down or nothing is
     /// offered there. After an `Err` nothing has changed.
     pub fn claim_in(&mut self, system: SystemNo) -> Result<Option<InClaim>, OutOfMemory>
-        ensures event { IfOk result (ClaimedIn (model_meaning self.old.world.rules.systems) V.faults self.old self.new system) }
+        ensures event { IfOk result (ClaimedIn (model_meaning self.old.world.rules.systems) V.disk self.old self.new system) }
         ensures err { OnErr result (self.new ≡ self.old) }
         ensures volumes { KeepsVolumes self.old self.new }
+        ensures sound { LeavesSoundLogs V.disk self.old self.new }
     {
         let _ = self.units.world();
         self.units.claim_in(system)
@@ -50,8 +53,9 @@ impl<V: Volumes> Landscape<V> {
 
     /// Gives up all claims. It takes no memory.
     pub fn revoke(&mut self)
-        ensures event { Happened (model_meaning self.old.world.rules.systems) V.faults self.old self.new (event.Operator Revoke) }
+        ensures event { Happened (model_meaning self.old.world.rules.systems) V.disk self.old self.new (event.Operator Revoke) }
         ensures volumes { KeepsVolumes self.old self.new }
+        ensures sound { LeavesSoundLogs V.disk self.old self.new }
     {
         let _ = self.units.world();
         self.units.revoke();
@@ -61,9 +65,10 @@ impl<V: Volumes> Landscape<V> {
     /// takes no memory.
     pub fn crash(&mut self, system: SystemNo) -> bool
         ensures up { result ≡ is_up self.old.world system }
-        ensures event { result ≡ true → Happened (model_meaning self.old.world.rules.systems) V.faults self.old self.new (event.Fall system None) }
+        ensures event { result ≡ true → Happened (model_meaning self.old.world.rules.systems) V.disk self.old self.new (event.Fall system None) }
         ensures same { result ≡ false → self.new ≡ self.old }
         ensures volumes { KeepsDisk self.old self.new }
+        ensures sound { LeavesSoundLogs V.disk self.old self.new }
     {
         let _ = self.units.world();
         self.units.crash(system)
@@ -74,10 +79,11 @@ impl<V: Volumes> Landscape<V> {
     pub fn arrive(&mut self, unit: &AleUnit) -> Result<Arrival, OutOfMemory>
         requires committed { committed_unit (model_meaning self.old.world.rules.systems) self.old.world unit.now.tid ≡ Some unit.now }
         requires may { may_arrive (model_meaning self.old.world.rules.systems) self.old.world unit.now ≡ true }
-        ensures event { IfOk result (Arrived (model_meaning self.old.world.rules.systems) V.faults self.old self.new unit.now) }
-        ensures short { OnErr result (IsShort (model_meaning self.old.world.rules.systems) V.faults self.old self.new (event.Arrive unit.now.tid)) }
-        ensures disk { DiskAs V.told V.volume V.moment V.images_since self.old self.new
+        ensures event { IfOk result (Arrived (model_meaning self.old.world.rules.systems) V.disk self.old self.new unit.now) }
+        ensures short { OnErr result (IsShort (model_meaning self.old.world.rules.systems) V.disk self.old self.new (event.Arrive unit.now.tid)) }
+        ensures disk { DiskAs V.disk self.old self.new
             (record_of (model_meaning self.old.world.rules.systems) self.old.world (event.Arrive unit.now.tid)) }
+        ensures sound { LeavesSoundLogs V.disk self.old self.new }
     {
         let _ = self.units.world();
         let offered = self.is_offered(unit.receiver, &unit.function);
@@ -100,9 +106,10 @@ impl<V: Volumes> Landscape<V> {
     /// `Stale` comes exactly where the claim does not stand, and then nothing has changed. After `OutOfMemory` nothing has changed,
     /// but perhaps what lies behind the log on the volume, or the record stands in its log and the system is down behind it.
     pub fn reply(&mut self, claim: OutClaim, given: Reply) -> Result<Replied, WorkEnd>
-        ensures ends { RepliedAs (model_meaning self.old.world.rules.systems) V.faults self.old self.new claim given result }
-        ensures disk { DiskAs V.told V.volume V.moment V.images_since self.old self.new
+        ensures ends { RepliedAs (model_meaning self.old.world.rules.systems) V.disk self.old self.new claim given result }
+        ensures disk { DiskAs V.disk self.old self.new
             (record_of (model_meaning self.old.world.rules.systems) self.old.world (reply_event (model_meaning self.old.world.rules.systems) self.old.world claim given)) }
+        ensures sound { LeavesSoundLogs V.disk self.old self.new }
     {
         let _ = self.units.world();
         if !self.units.holds(&claim) {
@@ -142,10 +149,11 @@ impl<V: Volumes> Landscape<V> {
     /// nothing has changed, or the record stands in its log and the receiver is down behind it.
     pub fn confirm(&mut self, tid: Tid) -> Result<Confirmed, OutOfMemory>
         requires done { is_listed tid (done_in (log_of self.old.world tid.system)) ≡ true }
-        ensures event { IfOk result (ConfirmedAs (model_meaning self.old.world.rules.systems) V.faults self.old self.new tid) }
-        ensures short { OnErr result (IsShort (model_meaning self.old.world.rules.systems) V.faults self.old self.new (event.Confirm tid)) }
-        ensures disk { DiskAs V.told V.volume V.moment V.images_since self.old self.new
+        ensures event { IfOk result (ConfirmedAs (model_meaning self.old.world.rules.systems) V.disk self.old self.new tid) }
+        ensures short { OnErr result (IsShort (model_meaning self.old.world.rules.systems) V.disk self.old self.new (event.Confirm tid)) }
+        ensures disk { DiskAs V.disk self.old self.new
             (record_of (model_meaning self.old.world.rules.systems) self.old.world (event.Confirm tid)) }
+        ensures sound { LeavesSoundLogs V.disk self.old self.new }
     {
         let _ = self.units.world();
         self.units.confirm(tid)
@@ -156,10 +164,11 @@ impl<V: Volumes> Landscape<V> {
     /// sender is down behind it.
     pub fn ended(&mut self, tid: Tid) -> Result<Closed, OutOfMemory>
         requires forgotten { is_forgotten (model_meaning self.old.world.rules.systems) self.old.world tid ≡ true }
-        ensures event { IfOk result (ClosedAs (model_meaning self.old.world.rules.systems) V.faults self.old self.new tid) }
-        ensures short { OnErr result (IsShort (model_meaning self.old.world.rules.systems) V.faults self.old self.new (event.Reply (Forgotten tid))) }
-        ensures disk { DiskAs V.told V.volume V.moment V.images_since self.old self.new
+        ensures event { IfOk result (ClosedAs (model_meaning self.old.world.rules.systems) V.disk self.old self.new tid) }
+        ensures short { OnErr result (IsShort (model_meaning self.old.world.rules.systems) V.disk self.old self.new (event.Reply (Forgotten tid))) }
+        ensures disk { DiskAs V.disk self.old self.new
             (record_of (model_meaning self.old.world.rules.systems) self.old.world (event.Reply (Forgotten tid))) }
+        ensures sound { LeavesSoundLogs V.disk self.old self.new }
     {
         let _ = self.units.world();
         self.units.ended(tid)

@@ -6,7 +6,7 @@ ghost use Rattle.trfc_protocol.specs.Worlds.{log_of};
 ghost use Rattle.landscape.specs.Asked.{asked_app, asked_put, asked_repost, pointers_noted};
 ghost use Rattle.landscape.specs.Carried.{status_at};
 ghost use Rattle.report_text.specs.declared.reply.Reply.TheVariants.{Pointers, Posted};
-ghost use Rattle.runs.specs.Does.{Does, Operates};
+ghost use Rattle.runs.specs.Does.{Does, IsOneCall, Operates};
 ghost use Rattle.runs.specs.Text.{IsPrintable};
 
 use crate::answered::{plain, refused};
@@ -23,7 +23,8 @@ pub(super) fn put<V: Volumes>(
     sys: &[u8],
     change: &Change,
 ) -> Result<Answered, OutOfMemory>
-    ensures does { Does V.faults inputs.now stage.old result stage.new (form.Put sys.now change.now) }
+    ensures does { Does V.disk inputs.now stage.old result stage.new (form.Put sys.now change.now) }
+    ensures call { IsOneCall V.disk stage.old stage.new }
     ensures printable { IfOk result IsPrintable }
 {
     match inputs.system(sys) {
@@ -39,8 +40,9 @@ fn put_at<V: Volumes>(
     system: SystemNo,
     change: &Change,
 ) -> Result<Answered, OutOfMemory>
-    ensures does { Operates V.faults inputs.now stage.old result stage.new system (λ log. asked_put log change.now)
+    ensures does { Operates V.disk inputs.now stage.old result stage.new system (λ log. asked_put log change.now)
         (λ pointers. pointers ≡ pointers_noted (log_of stage.old.landscape.world system) change.now) Pointers }
+    ensures call { IsOneCall V.disk stage.old stage.new }
     ensures printable { IfOk result IsPrintable }
 {
     match stage.landscape.put(system, change) {
@@ -56,7 +58,8 @@ pub(super) fn app<V: Volumes>(
     sys: &[u8],
     doc: DocNum,
 ) -> Result<Answered, OutOfMemory>
-    ensures does { Does V.faults inputs.now stage.old result stage.new (form.App sys.now doc) }
+    ensures does { Does V.disk inputs.now stage.old result stage.new (form.App sys.now doc) }
+    ensures call { IsOneCall V.disk stage.old stage.new }
     ensures printable { IfOk result IsPrintable }
 {
     match inputs.system(sys) {
@@ -72,8 +75,9 @@ fn app_at<V: Volumes>(
     system: SystemNo,
     doc: DocNum,
 ) -> Result<Answered, OutOfMemory>
-    ensures does { Operates V.faults inputs.now stage.old result stage.new system (λ log. asked_app log doc.0)
+    ensures does { Operates V.disk inputs.now stage.old result stage.new system (λ log. asked_app log doc.0)
         (λ status. status ≡ status_at stage.new.landscape.world system doc.0) Posted }
+    ensures call { IsOneCall V.disk stage.old stage.new }
     ensures printable { IfOk result IsPrintable }
 {
     match stage.landscape.app(system, doc) {
@@ -89,7 +93,8 @@ pub(super) fn repost<V: Volumes>(
     sys: &[u8],
     doc: DocNum,
 ) -> Result<Answered, OutOfMemory>
-    ensures does { Does V.faults inputs.now stage.old result stage.new (form.Repost sys.now doc) }
+    ensures does { Does V.disk inputs.now stage.old result stage.new (form.Repost sys.now doc) }
+    ensures call { IsOneCall V.disk stage.old stage.new }
     ensures printable { IfOk result IsPrintable }
 {
     match inputs.system(sys) {
@@ -105,8 +110,9 @@ fn repost_at<V: Volumes>(
     system: SystemNo,
     doc: DocNum,
 ) -> Result<Answered, OutOfMemory>
-    ensures does { Operates V.faults inputs.now stage.old result stage.new system (λ log. asked_repost log doc.0)
+    ensures does { Operates V.disk inputs.now stage.old result stage.new system (λ log. asked_repost log doc.0)
         (λ status. status ≡ status_at stage.new.landscape.world system doc.0) Posted }
+    ensures call { IsOneCall V.disk stage.old stage.new }
     ensures printable { IfOk result IsPrintable }
 {
     match stage.landscape.repost(system, doc) {

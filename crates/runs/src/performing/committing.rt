@@ -6,7 +6,7 @@ ghost use Rattle.trfc_protocol.specs.Worlds.{log_of};
 ghost use Rattle.landscape.specs.Asked.{asked_gather, asked_dispatch};
 ghost use Rattle.landscape.specs.Carried.{counts_asked, sent_counts};
 ghost use Rattle.report_text.specs.declared.reply.Reply.TheVariants.{Units};
-ghost use Rattle.runs.specs.Does.{Commits, Does, asked_master, numbered, shown_gathered, shown_sent};
+ghost use Rattle.runs.specs.Does.{Commits, Does, IsOneCall, asked_master, numbered, shown_gathered, shown_sent};
 ghost use Rattle.runs.specs.Text.{IsPrintable};
 
 use crate::answered::{plain, refused};
@@ -25,7 +25,8 @@ pub(super) fn send<V: Volumes>(
     sys: &[u8],
     number: u64,
 ) -> Result<Answered, OutOfMemory>
-    ensures does { Does V.faults inputs.now stage.old result stage.new (form.Send sys.now number) }
+    ensures does { Does V.disk inputs.now stage.old result stage.new (form.Send sys.now number) }
+    ensures call { IsOneCall V.disk stage.old stage.new }
     ensures printable { IfOk result IsPrintable }
 {
     match inputs.system(sys) {
@@ -41,8 +42,9 @@ fn send_at<V: Volumes>(
     system: SystemNo,
     number: u64,
 ) -> Result<Answered, OutOfMemory>
-    ensures does { Commits V.faults inputs.now stage.old result stage.new system (asked_master (numbered number inputs.now.masters))
+    ensures does { Commits V.disk inputs.now stage.old result stage.new system (asked_master (numbered number inputs.now.masters))
         (λ asked sent. sent ≡ sent_counts (counts_asked (log_of stage.old.landscape.world system) asked)) shown_sent }
+    ensures call { IsOneCall V.disk stage.old stage.new }
     ensures printable { IfOk result IsPrintable }
 {
     if !stage.landscape.is_up(system) {
@@ -68,7 +70,8 @@ pub(super) fn gather<V: Volumes>(
     sys: &[u8],
     message: &[u8],
 ) -> Result<Answered, OutOfMemory>
-    ensures does { Does V.faults inputs.now stage.old result stage.new (form.Gather sys.now message.now) }
+    ensures does { Does V.disk inputs.now stage.old result stage.new (form.Gather sys.now message.now) }
+    ensures call { IsOneCall V.disk stage.old stage.new }
     ensures printable { IfOk result IsPrintable }
 {
     match inputs.system(sys) {
@@ -84,8 +87,9 @@ fn gather_at<V: Volumes>(
     system: SystemNo,
     message: &[u8],
 ) -> Result<Answered, OutOfMemory>
-    ensures does { Commits V.faults inputs.now stage.old result stage.new system (λ log. asked_gather log message.now)
+    ensures does { Commits V.disk inputs.now stage.old result stage.new system (λ log. asked_gather log message.now)
         (λ asked made. made ≡ counts_asked (log_of stage.old.landscape.world system) asked) shown_gathered }
+    ensures call { IsOneCall V.disk stage.old stage.new }
     ensures printable { IfOk result IsPrintable }
 {
     match stage.landscape.gather(system, message) {
@@ -111,7 +115,8 @@ pub(super) fn dispatch<V: Volumes>(
     inputs: &Inputs,
     sys: &[u8],
 ) -> Result<Answered, OutOfMemory>
-    ensures does { Does V.faults inputs.now stage.old result stage.new (form.Dispatch sys.now) }
+    ensures does { Does V.disk inputs.now stage.old result stage.new (form.Dispatch sys.now) }
+    ensures call { IsOneCall V.disk stage.old stage.new }
     ensures printable { IfOk result IsPrintable }
 {
     match inputs.system(sys) {
@@ -126,8 +131,9 @@ fn dispatch_at<V: Volumes>(
     inputs: &Inputs,
     system: SystemNo,
 ) -> Result<Answered, OutOfMemory>
-    ensures does { Commits V.faults inputs.now stage.old result stage.new system asked_dispatch
+    ensures does { Commits V.disk inputs.now stage.old result stage.new system asked_dispatch
         (λ asked units. units ≡ (counts_asked (log_of stage.old.landscape.world system) asked).units) Units }
+    ensures call { IsOneCall V.disk stage.old stage.new }
     ensures printable { IfOk result IsPrintable }
 {
     match stage.landscape.dispatch(system) {

@@ -5,7 +5,7 @@ ghost use Rattle.std.specs.Arc.{arc_value};
 ghost use Rattle.script_text.specs.declared.form.Form.TheVariants as form;
 ghost use Rattle.landscape.specs.Operator.{asked_retry, start_of, stop_of};
 ghost use Rattle.report_text.specs.declared.reply.Reply.TheVariants.{Carried};
-ghost use Rattle.runs.specs.Does.{Does, Lates, Leads, Operates, Queues, Wired, shown_late};
+ghost use Rattle.runs.specs.Does.{Does, IsOneCall, Lates, Leads, Operates, Queues, Wired, shown_late};
 ghost use Rattle.runs.specs.Text.{IsPrintable};
 
 use crate::answered::{carried, plain, refused};
@@ -25,7 +25,8 @@ pub(super) fn stop<V: Volumes>(
     destination: &Option<Items<u8>>,
     queue: &[u8],
 ) -> Result<Answered, OutOfMemory>
-    ensures does { Does V.faults inputs.now stage.old result stage.new (form.Stop sys.now destination.now queue.now) }
+    ensures does { Does V.disk inputs.now stage.old result stage.new (form.Stop sys.now destination.now queue.now) }
+    ensures call { IsOneCall V.disk stage.old stage.new }
     ensures printable { IfOk result IsPrintable }
 {
     let Some(system) = inputs.system(sys) else {
@@ -48,7 +49,8 @@ fn stop_at<V: Volumes>(
     destination: Option<SystemNo>,
     queue: &[u8],
 ) -> Result<Answered, OutOfMemory>
-    ensures does { Queues V.faults inputs.now stage.old result stage.new system destination queue.now stop_of }
+    ensures does { Queues V.disk inputs.now stage.old result stage.new system destination queue.now stop_of }
+    ensures call { IsOneCall V.disk stage.old stage.new }
     ensures printable { IfOk result IsPrintable }
 {
     carried(stage.landscape.stop(system, destination, queue))
@@ -62,7 +64,8 @@ pub(super) fn start<V: Volumes>(
     destination: &Option<Items<u8>>,
     queue: &[u8],
 ) -> Result<Answered, OutOfMemory>
-    ensures does { Does V.faults inputs.now stage.old result stage.new (form.Start sys.now destination.now queue.now) }
+    ensures does { Does V.disk inputs.now stage.old result stage.new (form.Start sys.now destination.now queue.now) }
+    ensures call { IsOneCall V.disk stage.old stage.new }
     ensures printable { IfOk result IsPrintable }
 {
     let Some(system) = inputs.system(sys) else {
@@ -85,7 +88,8 @@ fn start_at<V: Volumes>(
     destination: Option<SystemNo>,
     queue: &[u8],
 ) -> Result<Answered, OutOfMemory>
-    ensures does { Queues V.faults inputs.now stage.old result stage.new system destination queue.now start_of }
+    ensures does { Queues V.disk inputs.now stage.old result stage.new system destination queue.now start_of }
+    ensures call { IsOneCall V.disk stage.old stage.new }
     ensures printable { IfOk result IsPrintable }
 {
     carried(stage.landscape.start(system, destination, queue))
@@ -98,7 +102,8 @@ pub(super) fn retry<V: Volumes>(
     sys: &[u8],
     tid: Tid,
 ) -> Result<Answered, OutOfMemory>
-    ensures does { Does V.faults inputs.now stage.old result stage.new (form.Retry sys.now tid) }
+    ensures does { Does V.disk inputs.now stage.old result stage.new (form.Retry sys.now tid) }
+    ensures call { IsOneCall V.disk stage.old stage.new }
     ensures printable { IfOk result IsPrintable }
 {
     match inputs.system(sys) {
@@ -114,8 +119,9 @@ fn retry_at<V: Volumes>(
     system: SystemNo,
     tid: Tid,
 ) -> Result<Answered, OutOfMemory>
-    ensures does { Operates V.faults inputs.now stage.old result stage.new {T = Unit {0}} system (asked_retry stage.old.landscape.world.rules.systems system tid)
+    ensures does { Operates V.disk inputs.now stage.old result stage.new {T = Unit {0}} system (asked_retry stage.old.landscape.world.rules.systems system tid)
         (λ done. ⊤) (λ done. Carried) }
+    ensures call { IsOneCall V.disk stage.old stage.new }
     ensures printable { IfOk result IsPrintable }
 {
     carried(stage.landscape.retry(system, tid))
@@ -123,7 +129,8 @@ fn retry_at<V: Volumes>(
 
 /// `late`: an earlier request of a unit comes now.
 pub(super) fn late<V: Volumes>(stage: &mut Stage<V>, tid: Tid) -> Result<Answered, OutOfMemory>
-    ensures does { Lates V.faults stage.old result stage.new tid }
+    ensures does { Lates V.disk stage.old result stage.new tid }
+    ensures call { IsOneCall V.disk stage.old stage.new }
     ensures printable { IfOk result IsPrintable }
 {
     // Between commands no unit is claimed, so this never comes.
@@ -154,7 +161,8 @@ pub(super) fn wire<V: Volumes>(
     tid: Tid,
     letters: &[u8],
 ) -> Result<Answered, OutOfMemory>
-    ensures does { Wired V.faults stage.old result stage.new tid letters.now result }
+    ensures does { Wired V.disk stage.old result stage.new tid letters.now result }
+    ensures call { IsOneCall V.disk stage.old stage.new }
     ensures printable { IfOk result IsPrintable }
 {
     stage.wires.add(tid, letters)?;

@@ -2,7 +2,7 @@
 
 ghost use Rattle.std.specs.Prelude.{◌≡◌, IfOk};
 ghost use Rattle.script_text.specs.declared.form.Form.TheVariants as form;
-ghost use Rattle.runs.specs.Does.{Does, Shows};
+ghost use Rattle.runs.specs.Does.{Does, IsOneCall, Shows};
 ghost use Rattle.runs.specs.Text.{IsPrintable};
 
 use crate::answered::{listed, refused};
@@ -17,7 +17,8 @@ pub(super) fn show_docs<V: Volumes>(
     inputs: &Inputs,
     sys: &[u8],
 ) -> Result<Answered, OutOfMemory>
-    ensures does { Does V.faults inputs.now stage.old result stage.new (form.ShowDocs sys.now) }
+    ensures does { Does V.disk inputs.now stage.old result stage.new (form.ShowDocs sys.now) }
+    ensures call { IsOneCall V.disk stage.old stage.new }
     ensures printable { IfOk result IsPrintable }
 {
     match inputs.system(sys) {
@@ -33,7 +34,8 @@ pub(super) fn show_doc<V: Volumes>(
     sys: &[u8],
     doc: DocNum,
 ) -> Result<Answered, OutOfMemory>
-    ensures does { Does V.faults inputs.now stage.old result stage.new (form.ShowDoc sys.now doc) }
+    ensures does { Does V.disk inputs.now stage.old result stage.new (form.ShowDoc sys.now doc) }
+    ensures call { IsOneCall V.disk stage.old stage.new }
     ensures printable { IfOk result IsPrintable }
 {
     match inputs.system(sys) {
@@ -48,7 +50,8 @@ pub(super) fn show_units<V: Volumes>(
     inputs: &Inputs,
     sys: &[u8],
 ) -> Result<Answered, OutOfMemory>
-    ensures does { Does V.faults inputs.now stage.old result stage.new (form.ShowUnits sys.now) }
+    ensures does { Does V.disk inputs.now stage.old result stage.new (form.ShowUnits sys.now) }
+    ensures call { IsOneCall V.disk stage.old stage.new }
     ensures printable { IfOk result IsPrintable }
 {
     match inputs.system(sys) {
@@ -63,7 +66,8 @@ pub(super) fn show_queues<V: Volumes>(
     inputs: &Inputs,
     sys: &[u8],
 ) -> Result<Answered, OutOfMemory>
-    ensures does { Does V.faults inputs.now stage.old result stage.new (form.ShowQueues sys.now) }
+    ensures does { Does V.disk inputs.now stage.old result stage.new (form.ShowQueues sys.now) }
+    ensures call { IsOneCall V.disk stage.old stage.new }
     ensures printable { IfOk result IsPrintable }
 {
     match inputs.system(sys) {
@@ -78,7 +82,8 @@ pub(super) fn show_objects<V: Volumes>(
     inputs: &Inputs,
     sys: &[u8],
 ) -> Result<Answered, OutOfMemory>
-    ensures does { Does V.faults inputs.now stage.old result stage.new (form.ShowObjects sys.now) }
+    ensures does { Does V.disk inputs.now stage.old result stage.new (form.ShowObjects sys.now) }
+    ensures call { IsOneCall V.disk stage.old stage.new }
     ensures printable { IfOk result IsPrintable }
 {
     match inputs.system(sys) {
@@ -89,7 +94,7 @@ pub(super) fn show_objects<V: Volumes>(
 
 /// What is listed of a system.
 fn show<V: Volumes>(stage: &Stage<V>, what: &Show) -> Result<Answered, OutOfMemory>
-    ensures does { Shows V.faults stage.now result stage.now what.now }
+    ensures does { Shows V.disk stage.now result stage.now what.now }
     ensures printable { IfOk result IsPrintable }
 {
     listed(stage.landscape.show(what))

@@ -1,6 +1,6 @@
 -- (a step of `IsOnDisk`, `Answers` and `LeavesOpened`) What the opening of one volume gave.
 use Rattle.std.specs.Prelude.{◌≡◌, ℕ, List, length, Result, Ok, Err}
-use Rattle.ale_volumes.specs.declared.volume.Volume.{Volume}
+use Rattle.ale_volumes.specs.Disk.{Disk}
 use Rattle.unit_core.specs.declared.records.Record.{Record}
 use Rattle.unit_codec.specs.declared.entry.Entry.{Entry}
 use Rattle.unit_journal.specs.declared.journal.UnitJournal.{UnitJournal}
@@ -26,7 +26,7 @@ pub record IsOf (journal : UnitJournal) (entries : List Entry) (opened : Opened)
   pub are : entries_of opened.moments opened.log ≡ entries
 
 -- there is a moment for each record; the journal of volume n is at the end of their entries, and all of them are on the disk for good
-pub record IsOpened {D : Type 0} (told : Type 0) (volume : D → ℕ → Volume) (vols : D) (n : ℕ) (opened : Opened) : Type 0 where
+pub record IsOpened {D : Type 0} (disk : Disk D) (vols : D) (n : ℕ) (opened : Opened) : Type 0 where
   pub each : length opened.moments ≡ length opened.log
   pub on : IsOn opened.journal n (entries_of opened.moments opened.log)
-  pub settled : told → IsSettled volume vols opened.journal (entries_of opened.moments opened.log)
+  pub settled : disk.told → IsSettled disk vols opened.journal (entries_of opened.moments opened.log)

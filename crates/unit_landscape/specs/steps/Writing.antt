@@ -1,6 +1,6 @@
 -- (a step of `EndedAs` and `IsWritten`) What the write of a record on a volume gives, and how it ends.
 use Rattle.std.specs.Prelude.{◌≡◌, ◌≢◌, ◌↔◌, ◌<◌, ℕ, ◌-◌, true, Some, List, [], ◌∷◌, ◌++◌, Result, Ok, Err, OnOk, IsErrOf}
-use Rattle.ale_volumes.specs.declared.volume.Volume.{Volume as OneVolume}
+use Rattle.ale_volumes.specs.Disk.{Disk}
 use Rattle.unit_core.specs.declared.ale_unit.AleUnit.{AleUnit}
 use Rattle.unit_core.specs.declared.records.Record.{Record}
 use Rattle.unit_codec.specs.Entries.{entry_with}
@@ -28,17 +28,17 @@ IsFullAs place before log next result =
     ↔ ((size ≡ length_with (entries_at before place log) (entry_with (next_moment before place) next)) × (most_bytes < size))
 
 -- a record was written behind the log at a place; or perhaps, where the volume failed; or not, where it is full or memory ran out
-pub record IsWriteOf {D T : Type 0} (told : Type 0) (volume : D → ℕ → OneVolume) (old new : D) (place : ℕ) (before after : SystemJournals)
+pub record IsWriteOf {D T : Type 0} (disk : Disk D) (old new : D) (place : ℕ) (before after : SystemJournals)
     (log : List Record) (next : Record) (result : Result T AppendFault) : Type 0 where
-  pub written : OnOk result (IsOnDisk told volume new place after (log ++ next ∷ []))
-  pub torn : IsErrOf result VolumeFault → IsLeftOnDisk told volume new place after log (Some next)
-  pub unwritten : IsErrOf result OutOfMemory → IsOnDisk told volume new place after log
+  pub written : OnOk result (IsOnDisk disk new place after (log ++ next ∷ []))
+  pub torn : IsErrOf result VolumeFault → IsLeftOnDisk disk new place after log (Some next)
+  pub unwritten : IsErrOf result OutOfMemory → IsOnDisk disk new place after log
   pub full : IsFullAs place before log next result
   pub full_same : (size : ℕ) → result ≡ Err (FullAt size) → new ≡ old
   pub left : LeftBy place before after result
   pub one : OnlyAt place before after
   pub grown : OnOk result (moments_at after place ≡ moments_at before place ++ next_moment before place ∷ [])
-  pub others : (other : ℕ) → other ≢ place → told → volume new other ≡ volume old other
+  pub others : (other : ℕ) → other ≢ place → disk.told → disk.volume new other ≡ disk.volume old other
 
 -- how a write ends, by what the journal answered
 abbrev pub ended_by : {T : Type 0} → Result T AppendFault → Result T AppendEnd

@@ -33,9 +33,9 @@ impl<R: Rules, A: Application, V: Volumes> UnitLandscape<R, A, V> {
             → offered ≡ offers_now (R.meaning self.old.world.rules) self.old.world unit.now.receiver unit.now.function }
         requires committed { committed_unit (R.meaning self.old.world.rules) self.old.world unit.now.tid ≡ Some unit.now }
         requires may { may_arrive (R.meaning self.old.world.rules) self.old.world unit.now ≡ true }
-        ensures event { IfOk result (Arrived (R.meaning self.old.world.rules) V.faults self.old self.new unit.now) }
-        ensures short { OnErr result (IsShort (R.meaning self.old.world.rules) V.faults self.old self.new (event.Arrive unit.now.tid)) }
-        ensures disk { DiskAs V.told V.volume V.moment V.images_since self.old self.new
+        ensures event { IfOk result (Arrived (R.meaning self.old.world.rules) V.disk self.old self.new unit.now) }
+        ensures short { OnErr result (IsShort (R.meaning self.old.world.rules) V.disk self.old self.new (event.Arrive unit.now.tid)) }
+        ensures disk { DiskAs V.disk self.old self.new
             (record_of (R.meaning self.old.world.rules) self.old.world (event.Arrive unit.now.tid)) }
     {
         let _ = self.kept.world();
@@ -80,9 +80,9 @@ impl<R: Rules, A: Application, V: Volumes> UnitLandscape<R, A, V> {
     /// The receiver takes a unit in, to be executed in the order of its queues.
     fn take_in(&mut self, unit: &AleUnit) -> Result<Arrival, OutOfMemory>
         requires { Arrives (R.meaning self.old.world.rules) self.old.world unit.now answer.New }
-        ensures event { IfOk result (Arrived (R.meaning self.old.world.rules) V.faults self.old self.new unit.now) }
-        ensures short { OnErr result (IsShort (R.meaning self.old.world.rules) V.faults self.old self.new (event.Arrive unit.now.tid)) }
-        ensures disk { DiskAs V.told V.volume V.moment V.images_since self.old self.new
+        ensures event { IfOk result (Arrived (R.meaning self.old.world.rules) V.disk self.old self.new unit.now) }
+        ensures short { OnErr result (IsShort (R.meaning self.old.world.rules) V.disk self.old self.new (event.Arrive unit.now.tid)) }
+        ensures disk { DiskAs V.disk self.old self.new
             (record_of (R.meaning self.old.world.rules) self.old.world (event.Arrive unit.now.tid)) }
     {
         let _ = self.kept.world();
@@ -97,8 +97,8 @@ impl<R: Rules, A: Application, V: Volumes> UnitLandscape<R, A, V> {
     /// A run of a unit begins at its receiver.
     fn begin_run(&mut self, unit: &AleUnit) -> Result<Arrival, OutOfMemory>
         requires { Arrives (R.meaning self.old.world.rules) self.old.world unit.now answer.Run }
-        ensures event { IfOk result (Arrived (R.meaning self.old.world.rules) V.faults self.old self.new unit.now) }
-        ensures short { OnErr result (IsShort (R.meaning self.old.world.rules) V.faults self.old self.new (event.Arrive unit.now.tid)) }
+        ensures event { IfOk result (Arrived (R.meaning self.old.world.rules) V.disk self.old self.new unit.now) }
+        ensures short { OnErr result (IsShort (R.meaning self.old.world.rules) V.disk self.old self.new (event.Arrive unit.now.tid)) }
         ensures volumes { KeepsVolumes self.old self.new }
     {
         let opening = self.kept.world().falls;

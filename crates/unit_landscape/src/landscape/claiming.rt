@@ -22,7 +22,7 @@ impl<R: Rules, A: Application, V: Volumes> UnitLandscape<R, A, V> {
     /// Claims the first unit that is offered outbound at a system, to be shipped. None exactly where the system is down or nothing is
     /// offered there. After an `Err` nothing has changed.
     pub fn claim_out(&mut self, system: SystemNo) -> Result<Option<OutClaim>, OutOfMemory>
-        ensures event { IfOk result (ClaimedOut (R.meaning self.old.world.rules) V.faults self.old self.new system) }
+        ensures event { IfOk result (ClaimedOut (R.meaning self.old.world.rules) V.disk self.old self.new system) }
         ensures err { OnErr result (self.new ≡ self.old) }
         ensures volumes { KeepsVolumes self.old self.new }
     {
@@ -43,7 +43,7 @@ impl<R: Rules, A: Application, V: Volumes> UnitLandscape<R, A, V> {
     /// Claims the first unit that is offered inbound at a system, to be executed. None exactly where the system is down or nothing is
     /// offered there. After an `Err` nothing has changed.
     pub fn claim_in(&mut self, system: SystemNo) -> Result<Option<InClaim>, OutOfMemory>
-        ensures event { IfOk result (ClaimedIn (R.meaning self.old.world.rules) V.faults self.old self.new system) }
+        ensures event { IfOk result (ClaimedIn (R.meaning self.old.world.rules) V.disk self.old self.new system) }
         ensures err { OnErr result (self.new ≡ self.old) }
         ensures volumes { KeepsVolumes self.old self.new }
     {
@@ -72,7 +72,7 @@ impl<R: Rules, A: Application, V: Volumes> UnitLandscape<R, A, V> {
 
     /// Gives up all claims. It takes no memory.
     pub fn revoke(&mut self)
-        ensures event { Happened (R.meaning self.old.world.rules) V.faults self.old self.new (event.Operator Revoke) }
+        ensures event { Happened (R.meaning self.old.world.rules) V.disk self.old self.new (event.Operator Revoke) }
         ensures volumes { KeepsVolumes self.old self.new }
     {
         self.kept.revoke();
@@ -82,7 +82,7 @@ impl<R: Rules, A: Application, V: Volumes> UnitLandscape<R, A, V> {
     /// takes no memory.
     pub fn crash(&mut self, system: SystemNo) -> bool
         ensures up { result ≡ is_up self.old.world system }
-        ensures event { result ≡ true → Happened (R.meaning self.old.world.rules) V.faults self.old self.new (event.Fall system None) }
+        ensures event { result ≡ true → Happened (R.meaning self.old.world.rules) V.disk self.old self.new (event.Fall system None) }
         ensures same { result ≡ false → self.new ≡ self.old }
         ensures volumes { KeepsDisk self.old self.new }
     {

@@ -31,9 +31,9 @@ impl<R: Rules, A: Application, V: Volumes> UnitLandscape<R, A, V> {
     /// nothing has changed, or the record stands in its log and the receiver is down behind it.
     pub fn confirm(&mut self, tid: Tid) -> Result<Confirmed, OutOfMemory>
         requires done { is_listed tid (done_in (log_of self.old.world tid.system)) ≡ true }
-        ensures event { IfOk result (ConfirmedAs (R.meaning self.old.world.rules) V.faults self.old self.new tid) }
-        ensures short { OnErr result (IsShort (R.meaning self.old.world.rules) V.faults self.old self.new (event.Confirm tid)) }
-        ensures disk { DiskAs V.told V.volume V.moment V.images_since self.old self.new
+        ensures event { IfOk result (ConfirmedAs (R.meaning self.old.world.rules) V.disk self.old self.new tid) }
+        ensures short { OnErr result (IsShort (R.meaning self.old.world.rules) V.disk self.old self.new (event.Confirm tid)) }
+        ensures disk { DiskAs V.disk self.old self.new
             (record_of (R.meaning self.old.world.rules) self.old.world (event.Confirm tid)) }
     {
         let _ = self.kept.world();
@@ -53,9 +53,9 @@ impl<R: Rules, A: Application, V: Volumes> UnitLandscape<R, A, V> {
     /// The receiver of a unit forgets its id.
     fn forget(&mut self, tid: Tid, receiver: SystemNo) -> Result<Confirmed, OutOfMemory>
         requires { IsToForget (R.meaning self.old.world.rules) self.old.world tid receiver }
-        ensures event { IfOk result (ConfirmedAs (R.meaning self.old.world.rules) V.faults self.old self.new tid) }
-        ensures short { OnErr result (IsShort (R.meaning self.old.world.rules) V.faults self.old self.new (event.Confirm tid)) }
-        ensures disk { DiskAs V.told V.volume V.moment V.images_since self.old self.new
+        ensures event { IfOk result (ConfirmedAs (R.meaning self.old.world.rules) V.disk self.old self.new tid) }
+        ensures short { OnErr result (IsShort (R.meaning self.old.world.rules) V.disk self.old self.new (event.Confirm tid)) }
+        ensures disk { DiskAs V.disk self.old self.new
             (record_of (R.meaning self.old.world.rules) self.old.world (event.Confirm tid)) }
     {
         confirmed(append(
@@ -82,9 +82,9 @@ impl<R: Rules, A: Application, V: Volumes> UnitLandscape<R, A, V> {
     /// sender is down behind it.
     pub fn ended(&mut self, tid: Tid) -> Result<Closed, OutOfMemory>
         requires forgotten { is_forgotten (R.meaning self.old.world.rules) self.old.world tid ≡ true }
-        ensures event { IfOk result (ClosedAs (R.meaning self.old.world.rules) V.faults self.old self.new tid) }
-        ensures short { OnErr result (IsShort (R.meaning self.old.world.rules) V.faults self.old self.new (event.Reply (Forgotten tid))) }
-        ensures disk { DiskAs V.told V.volume V.moment V.images_since self.old self.new
+        ensures event { IfOk result (ClosedAs (R.meaning self.old.world.rules) V.disk self.old self.new tid) }
+        ensures short { OnErr result (IsShort (R.meaning self.old.world.rules) V.disk self.old self.new (event.Reply (Forgotten tid))) }
+        ensures disk { DiskAs V.disk self.old self.new
             (record_of (R.meaning self.old.world.rules) self.old.world (event.Reply (Forgotten tid))) }
     {
         let _ = self.kept.world();
@@ -101,9 +101,9 @@ impl<R: Rules, A: Application, V: Volumes> UnitLandscape<R, A, V> {
     /// The sender of a unit records that its id is forgotten.
     fn end(&mut self, tid: Tid, sender: SystemNo) -> Result<Closed, OutOfMemory>
         requires { IsToEnd (R.meaning self.old.world.rules) self.old.world tid sender }
-        ensures event { IfOk result (ClosedAs (R.meaning self.old.world.rules) V.faults self.old self.new tid) }
-        ensures short { OnErr result (IsShort (R.meaning self.old.world.rules) V.faults self.old self.new (event.Reply (Forgotten tid))) }
-        ensures disk { DiskAs V.told V.volume V.moment V.images_since self.old self.new
+        ensures event { IfOk result (ClosedAs (R.meaning self.old.world.rules) V.disk self.old self.new tid) }
+        ensures short { OnErr result (IsShort (R.meaning self.old.world.rules) V.disk self.old self.new (event.Reply (Forgotten tid))) }
+        ensures disk { DiskAs V.disk self.old self.new
             (record_of (R.meaning self.old.world.rules) self.old.world (event.Reply (Forgotten tid))) }
     {
         closed(append(

@@ -40,8 +40,8 @@ impl<R: Rules, A: Application, V: Volumes> UnitLandscape<R, A, V> {
         requires goes { stands_in self.old.world claim ≡ true → (it : Writing)
             → record_of (R.meaning self.old.world.rules) self.old.world (event.Finish claim.number) ≡ Some it
             → (its : TablesOf A) → slice_get self.old.tables (it.system - 1) ≡ Some its → A.goes_with its.application (log_of self.old.world it.system) it.next extra }
-        ensures ends { FinishedAs (R.meaning self.old.world.rules) V.faults self.old self.new claim result }
-        ensures disk { DiskAs V.told V.volume V.moment V.images_since self.old self.new
+        ensures ends { FinishedAs (R.meaning self.old.world.rules) V.disk self.old self.new claim result }
+        ensures disk { DiskAs V.disk self.old self.new
             (record_of (R.meaning self.old.world.rules) self.old.world (finish_event (R.meaning self.old.world.rules) self.old.world claim)) }
     {
         let _ = self.kept.world();
@@ -73,8 +73,8 @@ impl<R: Rules, A: Application, V: Volumes> UnitLandscape<R, A, V> {
         requires offers { is_offered_function (R.meaning self.old.world.rules) self.old.world claim.tid ≡ true }
         requires goes { (it : Writing) → record_of (R.meaning self.old.world.rules) self.old.world (event.Finish claim.number) ≡ Some it
             → (its : TablesOf A) → slice_get self.old.tables (it.system - 1) ≡ Some its → A.goes_with its.application (log_of self.old.world it.system) it.next extra }
-        ensures ends { FinishedAs (R.meaning self.old.world.rules) V.faults self.old self.new claim result }
-        ensures disk { DiskAs V.told V.volume V.moment V.images_since self.old self.new
+        ensures ends { FinishedAs (R.meaning self.old.world.rules) V.disk self.old self.new claim result }
+        ensures disk { DiskAs V.disk self.old self.new
             (record_of (R.meaning self.old.world.rules) self.old.world (finish_event (R.meaning self.old.world.rules) self.old.world claim)) }
     {
         let Held {
@@ -121,8 +121,8 @@ impl<R: Rules, A: Application, V: Volumes> UnitLandscape<R, A, V> {
     fn fail(&mut self, claim: InClaim, held: Held) -> Result<Finished, WorkEnd>
         requires holds { HoldsIn self.old.world claim held }
         requires offers { is_offered_function (R.meaning self.old.world.rules) self.old.world claim.tid ≡ false }
-        ensures ends { FinishedAs (R.meaning self.old.world.rules) V.faults self.old self.new claim result }
-        ensures disk { DiskAs V.told V.volume V.moment V.images_since self.old self.new
+        ensures ends { FinishedAs (R.meaning self.old.world.rules) V.disk self.old self.new claim result }
+        ensures disk { DiskAs V.disk self.old self.new
             (record_of (R.meaning self.old.world.rules) self.old.world (finish_event (R.meaning self.old.world.rules) self.old.world claim)) }
     {
         let next = Record::Fail { tid: held.tid };

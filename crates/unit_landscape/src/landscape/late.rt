@@ -25,6 +25,7 @@ impl<R: Rules, A: Application, V: Volumes> UnitLandscape<R, A, V> {
     ghost use Rattle.trfc_protocol.specs.Worlds.{log_of, is_up, committed_unit, offers_now, is_claimed};
     ghost use Rattle.trfc_protocol.specs.Offered.{answer_to};
     ghost use Rattle.system_tables.specs.Tables.{TablesOf};
+    ghost use Rattle.unit_landscape.specs.Crashes.{LeavesSound};
     ghost use Rattle.unit_landscape.specs.Writes.{DiskAs};
     ghost use Rattle.unit_landscape.specs.Late.{LateAs, late_record, is_lost, IsLateUnit, ComesLate};
 
@@ -42,9 +43,10 @@ impl<R: Rules, A: Application, V: Volumes> UnitLandscape<R, A, V> {
         requires goes { (unit : AleUnit) → committed_unit (R.meaning self.old.world.rules) self.old.world tid ≡ Some unit
             → answer_to (R.meaning self.old.world.rules) self.old.world unit ≡ answer.Run
             → (its : TablesOf A) → slice_get self.old.tables (unit.receiver - 1) ≡ Some its → A.goes_with its.application (log_of self.old.world unit.receiver) (log.Direct unit) extra }
-        ensures ends { LateAs (R.meaning self.old.world.rules) V.faults self.old self.new tid result }
-        ensures disk { DiskAs V.told V.volume V.moment V.images_since self.old self.new
+        ensures ends { LateAs (R.meaning self.old.world.rules) V.disk self.old self.new tid result }
+        ensures disk { DiskAs V.disk self.old self.new
             (late_record (R.meaning self.old.world.rules) self.old.world tid) }
+        ensures sound { V.disk.told → LeavesSound R.meaning V.disk self.old self.new }
     {
         let _ = self.kept.world();
         let unit = match self.late_unit(tid) {
@@ -98,9 +100,10 @@ impl<R: Rules, A: Application, V: Volumes> UnitLandscape<R, A, V> {
     /// A unit that comes late is taken in.
     fn take_late(&mut self, unit: AleUnit) -> Result<Late, LateEnd>
         requires { ComesLate (R.meaning self.old.world.rules) self.old.world unit answer.New }
-        ensures ends { LateAs (R.meaning self.old.world.rules) V.faults self.old self.new unit.tid result }
-        ensures disk { DiskAs V.told V.volume V.moment V.images_since self.old self.new
+        ensures ends { LateAs (R.meaning self.old.world.rules) V.disk self.old self.new unit.tid result }
+        ensures disk { DiskAs V.disk self.old self.new
             (late_record (R.meaning self.old.world.rules) self.old.world unit.tid) }
+        ensures sound { V.disk.told → LeavesSound R.meaning V.disk self.old self.new }
     {
         let receiver = unit.receiver;
         let next = Record::Accept { unit };
@@ -111,9 +114,10 @@ impl<R: Rules, A: Application, V: Volumes> UnitLandscape<R, A, V> {
     fn run_late(&mut self, unit: AleUnit, extra: A::Extra) -> Result<Late, LateEnd>
         requires comes { ComesLate (R.meaning self.old.world.rules) self.old.world unit answer.Run }
         requires goes { (its : TablesOf A) → slice_get self.old.tables (unit.receiver - 1) ≡ Some its → A.goes_with its.application (log_of self.old.world unit.receiver) (log.Direct unit) extra }
-        ensures ends { LateAs (R.meaning self.old.world.rules) V.faults self.old self.new unit.tid result }
-        ensures disk { DiskAs V.told V.volume V.moment V.images_since self.old self.new
+        ensures ends { LateAs (R.meaning self.old.world.rules) V.disk self.old self.new unit.tid result }
+        ensures disk { DiskAs V.disk self.old self.new
             (late_record (R.meaning self.old.world.rules) self.old.world unit.tid) }
+        ensures sound { V.disk.told → LeavesSound R.meaning V.disk self.old self.new }
     {
         let _ = self.kept.world();
         let (tid, receiver) = (unit.tid, unit.receiver);

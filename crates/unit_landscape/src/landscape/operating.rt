@@ -44,8 +44,8 @@ impl<R: Rules, A: Application, V: Volumes> UnitLandscape<R, A, V> {
         requires commits { (R.meaning self.old.world.rules).committed system (log_of self.old.world system ++ next ∷ [])
             ≡ (R.meaning self.old.world.rules).committed system (log_of self.old.world system) ++ more.now }
         requires goes { (its : TablesOf A) → slice_get self.old.tables (system - 1) ≡ Some its → A.goes_with its.application (log_of self.old.world system) next extra }
-        ensures ends { AppendsAs (R.meaning self.old.world.rules) V.faults self.old self.new (event.Commit system next) (at system next) result }
-        ensures disk { DiskAs V.told V.volume V.moment V.images_since self.old self.new
+        ensures ends { AppendsAs (R.meaning self.old.world.rules) V.disk self.old self.new (event.Commit system next) (at system next) result }
+        ensures disk { DiskAs V.disk self.old self.new
             (record_of (R.meaning self.old.world.rules) self.old.world (event.Commit system next)) }
     {
         record(&mut self.kept, system, next, more, None, extra)
@@ -62,8 +62,8 @@ impl<R: Rules, A: Application, V: Volumes> UnitLandscape<R, A, V> {
         requires possible { record_of (R.meaning self.old.world.rules) self.old.world (event.Operator (Append system next)) ≡ Some (at system next) }
         requires writable { IsWritable next }
         requires goes { (its : TablesOf A) → slice_get self.old.tables (system - 1) ≡ Some its → A.goes_with its.application (log_of self.old.world system) next extra }
-        ensures ends { AppendsAs (R.meaning self.old.world.rules) V.faults self.old self.new (event.Operator (Append system next)) (at system next) result }
-        ensures disk { DiskAs V.told V.volume V.moment V.images_since self.old self.new
+        ensures ends { AppendsAs (R.meaning self.old.world.rules) V.disk self.old self.new (event.Operator (Append system next)) (at system next) result }
+        ensures disk { DiskAs V.disk self.old self.new
             (record_of (R.meaning self.old.world.rules) self.old.world (event.Operator (Append system next))) }
     {
         record(&mut self.kept, system, next, &[], None, extra)
@@ -78,8 +78,8 @@ impl<R: Rules, A: Application, V: Volumes> UnitLandscape<R, A, V> {
         destination: u8,
         name: QueueName,
     ) -> Result<(), OperatorEnd>
-        ensures ends { OperatedAs (R.meaning self.old.world.rules) V.faults self.old self.new system (log.Stop way destination name) result }
-        ensures disk { DiskAs V.told V.volume V.moment V.images_since self.old self.new
+        ensures ends { OperatedAs (R.meaning self.old.world.rules) V.disk self.old self.new system (log.Stop way destination name) result }
+        ensures disk { DiskAs V.disk self.old self.new
             (record_of (R.meaning self.old.world.rules) self.old.world (event.Operator (Append system (log.Stop way destination name)))) }
     {
         self.on_queue(
@@ -102,8 +102,8 @@ impl<R: Rules, A: Application, V: Volumes> UnitLandscape<R, A, V> {
         destination: u8,
         name: QueueName,
     ) -> Result<(), OperatorEnd>
-        ensures ends { OperatedAs (R.meaning self.old.world.rules) V.faults self.old self.new system (log.Start way destination name) result }
-        ensures disk { DiskAs V.told V.volume V.moment V.images_since self.old self.new
+        ensures ends { OperatedAs (R.meaning self.old.world.rules) V.disk self.old self.new system (log.Start way destination name) result }
+        ensures disk { DiskAs V.disk self.old self.new
             (record_of (R.meaning self.old.world.rules) self.old.world (event.Operator (Append system (log.Start way destination name)))) }
     {
         self.on_queue(
@@ -120,8 +120,8 @@ impl<R: Rules, A: Application, V: Volumes> UnitLandscape<R, A, V> {
 
     /// Removes the mark of a unit in a direction at a system. `NotAllowed` comes exactly where the unit is not outstanding there.
     pub fn retry(&mut self, system: SystemNo, way: Way, tid: Tid) -> Result<(), OperatorEnd>
-        ensures ends { OperatedAs (R.meaning self.old.world.rules) V.faults self.old self.new system (log.Retry way tid) result }
-        ensures disk { DiskAs V.told V.volume V.moment V.images_since self.old self.new
+        ensures ends { OperatedAs (R.meaning self.old.world.rules) V.disk self.old self.new system (log.Retry way tid) result }
+        ensures disk { DiskAs V.disk self.old self.new
             (record_of (R.meaning self.old.world.rules) self.old.world (event.Operator (Append system (log.Retry way tid)))) }
     {
         if !self.kept.world().is_up(system) {
@@ -145,8 +145,8 @@ impl<R: Rules, A: Application, V: Volumes> UnitLandscape<R, A, V> {
         requires silent { concerns_application next ≡ false }
         requires queue { (before : List Record) → may_follow_others (R.meaning self.old.world.rules) system before next
             ≡ is_destination (R.meaning self.old.world.rules).systems system way destination }
-        ensures ends { OperatedAs (R.meaning self.old.world.rules) V.faults self.old self.new system next result }
-        ensures disk { DiskAs V.told V.volume V.moment V.images_since self.old self.new
+        ensures ends { OperatedAs (R.meaning self.old.world.rules) V.disk self.old self.new system next result }
+        ensures disk { DiskAs V.disk self.old self.new
             (record_of (R.meaning self.old.world.rules) self.old.world (event.Operator (Append system next))) }
     {
         let world = self.kept.world();
@@ -165,8 +165,8 @@ impl<R: Rules, A: Application, V: Volumes> UnitLandscape<R, A, V> {
         requires may { may_follow (R.meaning self.old.world.rules) system (log_of self.old.world system) next ≡ true }
         requires kind { is_operators next ≡ true }
         requires silent { concerns_application next ≡ false }
-        ensures ends { OperatedAs (R.meaning self.old.world.rules) V.faults self.old self.new system next result }
-        ensures disk { DiskAs V.told V.volume V.moment V.images_since self.old self.new
+        ensures ends { OperatedAs (R.meaning self.old.world.rules) V.disk self.old self.new system next result }
+        ensures disk { DiskAs V.disk self.old self.new
             (record_of (R.meaning self.old.world.rules) self.old.world (event.Operator (Append system next))) }
     {
         operated(record(&mut self.kept, system, next, &[], None, A::nothing()))

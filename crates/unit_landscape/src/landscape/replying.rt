@@ -39,8 +39,8 @@ impl<R: Rules, A: Application, V: Volumes> UnitLandscape<R, A, V> {
     ) -> Result<Replied, WorkEnd>
         requires offered { given ≡ SysFail → stands_out self.old.world claim ≡ true
             → offered ≡ is_offered_function (R.meaning self.old.world.rules) self.old.world claim.tid }
-        ensures ends { RepliedAs (R.meaning self.old.world.rules) V.faults self.old self.new claim given result }
-        ensures disk { DiskAs V.told V.volume V.moment V.images_since self.old self.new
+        ensures ends { RepliedAs (R.meaning self.old.world.rules) V.disk self.old self.new claim given result }
+        ensures disk { DiskAs V.disk self.old self.new
             (record_of (R.meaning self.old.world.rules) self.old.world (reply_event (R.meaning self.old.world.rules) self.old.world claim given)) }
     {
         let _ = self.kept.world();

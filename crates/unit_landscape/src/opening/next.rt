@@ -28,19 +28,19 @@ pub(crate) fn open_next<R: Rules, A: Application, V: Volumes>(
     vols: &mut V,
     application: A,
 ) -> Result<(), OpenFault>
-    requires opening { IsOpening R.meaning A.stands V.told V.volume (kept_of both.old journals.old vols.old) }
+    requires opening { IsOpening R.meaning A.stands V.disk (kept_of both.old journals.old vols.old) }
     requires next { length both.old.world.systems < (R.meaning both.old.world.rules).systems }
     requires stands { A.stands application [] }
     ensures opened { OnOk result (IsOpened application (kept_of both.old journals.old vols.old) (kept_of both.new journals.new vols.new)) }
-    ensures opening { OnOk result (IsOpening R.meaning A.stands V.told V.volume (kept_of both.new journals.new vols.new)) }
-    ensures why { V.told → EmptyAs (V.volume vols.old (length both.old.world.systems)).contents result }
-    ensures leaves { V.told → LeavesEmpty (V.volume vols.old (length both.old.world.systems)) (V.volume vols.new (length both.old.world.systems)) result }
-    ensures any_moment { V.told → LeavesOnly V.moment V.images_since vols.old vols.new (length both.old.world.systems)
-        (IsLeftByOpening (V.volume vols.old (length both.old.world.systems))) }
-    ensures from_sync { V.told → LeavesOnlyFromSync V.volume V.moment V.images_since vols.old vols.new (length both.old.world.systems)
-        (IsErrOf result OpenFault.Volume) (ReadsAs (V.volume vols.old (length both.old.world.systems)).contents) }
-    ensures others { V.told → KeepsOthers V.volume V.moment V.images_since vols.old vols.new (length both.old.world.systems) }
-    ensures faults { CountsFault (IsErrOf result OpenFault.Volume) (V.faults vols.old) (V.faults vols.new) (length both.old.world.systems) }
+    ensures opening { OnOk result (IsOpening R.meaning A.stands V.disk (kept_of both.new journals.new vols.new)) }
+    ensures why { V.disk.told → EmptyAs (V.disk.volume vols.old (length both.old.world.systems)).contents result }
+    ensures leaves { V.disk.told → LeavesEmpty (V.disk.volume vols.old (length both.old.world.systems)) (V.disk.volume vols.new (length both.old.world.systems)) result }
+    ensures any_moment { V.disk.told → LeavesOnly V.disk vols.old vols.new (length both.old.world.systems)
+        (IsLeftByOpening (V.disk.volume vols.old (length both.old.world.systems))) }
+    ensures from_sync { V.disk.told → LeavesOnlyFromSync V.disk vols.old vols.new (length both.old.world.systems)
+        (IsErrOf result OpenFault.Volume) (ReadsAs (V.disk.volume vols.old (length both.old.world.systems)).contents) }
+    ensures others { V.disk.told → KeepsOthers V.disk vols.old vols.new (length both.old.world.systems) }
+    ensures faults { CountsFault (IsErrOf result OpenFault.Volume) (V.disk.faults vols.old) (V.disk.faults vols.new) (length both.old.world.systems) }
 {
     open_empty(journals, vols)?;
     match add(alloc, both, application) {
@@ -53,16 +53,16 @@ pub(crate) fn open_next<R: Rules, A: Application, V: Volumes>(
 fn open_empty<V: Volumes>(journals: &mut SystemJournals, vols: &mut V) -> Result<(), OpenFault>
     requires room { count_of journals.old < 16 }
     requires moments { HaveMoments journals.old }
-    ensures opened { OnOk result (IsOnDisk V.told V.volume vols.new (count_of journals.old) journals.new []) }
+    ensures opened { OnOk result (IsOnDisk V.disk vols.new (count_of journals.old) journals.new []) }
     ensures next { OnOk result (IsNext journals.old journals.new) }
-    ensures why { V.told → EmptyAs (V.volume vols.old (count_of journals.old)).contents result }
-    ensures leaves { V.told → LeavesEmpty (V.volume vols.old (count_of journals.old)) (V.volume vols.new (count_of journals.old)) result }
-    ensures any_moment { V.told → LeavesOnly V.moment V.images_since vols.old vols.new (count_of journals.old)
-        (IsLeftByOpening (V.volume vols.old (count_of journals.old))) }
-    ensures from_sync { V.told → LeavesOnlyFromSync V.volume V.moment V.images_since vols.old vols.new (count_of journals.old)
-        (IsErrOf result OpenFault.Volume) (ReadsAs (V.volume vols.old (count_of journals.old)).contents) }
-    ensures others { V.told → KeepsOthers V.volume V.moment V.images_since vols.old vols.new (count_of journals.old) }
-    ensures faults { CountsFault (IsErrOf result OpenFault.Volume) (V.faults vols.old) (V.faults vols.new) (count_of journals.old) }
+    ensures why { V.disk.told → EmptyAs (V.disk.volume vols.old (count_of journals.old)).contents result }
+    ensures leaves { V.disk.told → LeavesEmpty (V.disk.volume vols.old (count_of journals.old)) (V.disk.volume vols.new (count_of journals.old)) result }
+    ensures any_moment { V.disk.told → LeavesOnly V.disk vols.old vols.new (count_of journals.old)
+        (IsLeftByOpening (V.disk.volume vols.old (count_of journals.old))) }
+    ensures from_sync { V.disk.told → LeavesOnlyFromSync V.disk vols.old vols.new (count_of journals.old)
+        (IsErrOf result OpenFault.Volume) (ReadsAs (V.disk.volume vols.old (count_of journals.old)).contents) }
+    ensures others { V.disk.told → KeepsOthers V.disk vols.old vols.new (count_of journals.old) }
+    ensures faults { CountsFault (IsErrOf result OpenFault.Volume) (V.disk.faults vols.old) (V.disk.faults vols.new) (count_of journals.old) }
 {
     match journals.open(vols) {
         Ok(log) => {

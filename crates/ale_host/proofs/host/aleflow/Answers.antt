@@ -97,13 +97,7 @@ returns-in-Ok-clause-ended g c = λ not_6.
           commands = order.1.1.1.0;
           asks = order.1.1.1.1;
           quiet = c.in-Ok.ensures.still;
-          runs = runs-said (record {
-            told = g.V.Volumes.told;
-            volume = g.V.Volumes.volume;
-            faults = g.V.Volumes.faults;
-            moment = g.V.Volumes.moment;
-            images_since = g.V.Volumes.images_since;
-          })
+          runs = runs-said g.V.Volumes.disk
               c.in-Ok.field-0.prepared.text order.0 (arc_value c.in-Ok.field-0.prepared.model) order.1.0 c.in-Ok.field-0.prepared.inputs.masters
               (masters_of order.1.1.0) c.in-Ok.field-0.prepared.commands order.1.1.1.0 c.args.vols c.run.result.vols c.in-Ok.field-0.report
               (g.C.Clock.told c.run.new.clock) (g.C.Clock.given c.args.clock.now) (g.C.Clock.given c.run.new.clock) c.run.result.status ran.0 ran.1.0
@@ -132,13 +126,7 @@ returns-in-Ok-clause-write_fault g c = λ is_6.
             commands = order.1.1.1.0;
             asks = order.1.1.1.1;
             quiet = c.in-Ok.ensures.still;
-            runs = runs-said (record {
-              told = g.V.Volumes.told;
-              volume = g.V.Volumes.volume;
-              faults = g.V.Volumes.faults;
-              moment = g.V.Volumes.moment;
-              images_since = g.V.Volumes.images_since;
-            })
+            runs = runs-said g.V.Volumes.disk
                 c.in-Ok.field-0.prepared.text order.0 (arc_value c.in-Ok.field-0.prepared.model) order.1.0 c.in-Ok.field-0.prepared.inputs.masters
                 (masters_of order.1.1.0) c.in-Ok.field-0.prepared.commands order.1.1.1.0 c.args.vols c.run.result.vols c.in-Ok.field-0.report
                 (g.C.Clock.told c.run.new.clock) (g.C.Clock.given c.args.clock.now) (g.C.Clock.given c.run.new.clock) ran.0 ran.1.0 ran.1.1.0

@@ -1,7 +1,8 @@
 use Rattle.std.specs.Arc.{arc_value}
 use Rattle.std.proofs.Common.{[], Some, length, zero-le, inl, refl, sym}
+use Rattle.ale_volumes.specs.Disk.{Disk}
 use Rattle.ale_host.specs.declared.running.Report.TheVariants.{Commands, Counts}
-use Rattle.ale_host.specs.Running.{Disk, status_unopened, line_unopened}
+use Rattle.ale_host.specs.Running.{status_unopened, line_unopened}
 use Rattle.ale_host.proofs.RunningLemmas.{opened-up, ran-from}
 use Rattle.ale_host.proofs.running.run.Goals as goal
 
@@ -61,13 +62,7 @@ run_opened-requires g c = (
 
 pub returns-in-Commands-clause-ended : goal.returns-in-Commands-clause-ended
 returns-in-Commands-clause-ended g c = λ not_6.
-    let disk : Disk g.row.V.Denot = record {
-      told = g.V.Volumes.told;
-      volume = g.V.Volumes.volume;
-      faults = g.V.Volumes.faults;
-      moment = g.V.Volumes.moment;
-      images_since = g.V.Volumes.images_since;
-    } in
+    let disk : Disk g.row.V.Denot = g.V.Volumes.disk in
     let ran = c.run_opened.ensures.ended not_6 in (
       ran.0,
       (
@@ -86,13 +81,7 @@ returns-in-Commands-clause-ended g c = λ not_6.
 
 pub returns-in-Commands-clause-write_fault : goal.returns-in-Commands-clause-write_fault
 returns-in-Commands-clause-write_fault g c = λ is_6.
-    let disk : Disk g.row.V.Denot = record {
-      told = g.V.Volumes.told;
-      volume = g.V.Volumes.volume;
-      faults = g.V.Volumes.faults;
-      moment = g.V.Volumes.moment;
-      images_since = g.V.Volumes.images_since;
-    } in
+    let disk : Disk g.row.V.Denot = g.V.Volumes.disk in
     let ran = c.run_opened.ensures.write_fault is_6 in (
       ran.0,
       (
@@ -127,13 +116,7 @@ load_opened-requires g c = (
 
 pub returns-clause-ended : goal.returns-clause-ended
 returns-clause-ended g c = λ not_6.
-    let disk : Disk g.row.V.Denot = record {
-      told = g.V.Volumes.told;
-      volume = g.V.Volumes.volume;
-      faults = g.V.Volumes.faults;
-      moment = g.V.Volumes.moment;
-      images_since = g.V.Volumes.images_since;
-    } in
+    let disk : Disk g.row.V.Denot = g.V.Volumes.disk in
     let ran = c.load_opened.ensures.ended not_6 in (
       ran.0,
       (
@@ -152,13 +135,7 @@ returns-clause-ended g c = λ not_6.
 
 pub returns-clause-write_fault : goal.returns-clause-write_fault
 returns-clause-write_fault g c = λ is_6.
-    let disk : Disk g.row.V.Denot = record {
-      told = g.V.Volumes.told;
-      volume = g.V.Volumes.volume;
-      faults = g.V.Volumes.faults;
-      moment = g.V.Volumes.moment;
-      images_since = g.V.Volumes.images_since;
-    } in
+    let disk : Disk g.row.V.Denot = g.V.Volumes.disk in
     let ran = c.load_opened.ensures.write_fault is_6 in (
       ran.0,
       (

@@ -16,7 +16,7 @@ pub returns-in_err-bytes-clause-leaves : goal.returns-in_err-bytes-clause-leaves
 returns-in_err-bytes-clause-leaves g c = λ told.
     let V = g.V.Volumes in
     let p = err_from_is_err_and c.from_residual.result c.from_residual.ensures.1 in
-    rw (p.1, p.2) (opened-unread (V.volume c.args.vols.now c.args.n) (V.volume c.read_durable.new.vols c.args.n) c.in_err-bytes.field-0.0
+    rw (p.1, p.2) (opened-unread (V.disk.volume c.args.vols.now c.args.n) (V.disk.volume c.read_durable.new.vols c.args.n) c.in_err-bytes.field-0.0
     (c.read_durable.ensures.kept told) (λ other.
     c.read_durable.ensures.durable told (λ is. other (same_fault c.read_durable.result _ _ c.in_err-bytes.was is))))
 
@@ -29,13 +29,14 @@ pub returns-in_err-log-clause-read : goal.returns-in_err-log-clause-read
 returns-in_err-log-clause-read g c = λ told.
     let p = err_from_is_err_and c.from_residual-in_err-log.result c.from_residual-in_err-log.ensures.1 in
     let front = c.deref.ensures.value ∙ c.in_ok-bytes.ensures.read told in
-    rw (p.1, p.2) (answers-unread (g.V.Volumes.volume c.args.vols.now c.args.n).contents c.deref.result.now c.in_err-log.field-0.0 front c.in_err-log.ensures)
+    rw (p.1, p.2) (answers-unread (g.V.Volumes.disk.volume c.args.vols.now c.args.n).contents c.deref.result.now c.in_err-log.field-0.0 front
+    c.in_err-log.ensures)
 
 pub returns-in_err-log-clause-leaves : goal.returns-in_err-log-clause-leaves
 returns-in_err-log-clause-leaves g c = λ told.
     let V = g.V.Volumes in
     let p = err_from_is_err_and c.from_residual-in_err-log.result c.from_residual-in_err-log.ensures.1 in
-    rw (p.1, p.2) (opened-unread (V.volume c.args.vols.now c.args.n) (V.volume c.read_durable.new.vols c.args.n) c.in_err-log.field-0.0
+    rw (p.1, p.2) (opened-unread (V.disk.volume c.args.vols.now c.args.n) (V.disk.volume c.read_durable.new.vols c.args.n) c.in_err-log.field-0.0
     (c.read_durable.ensures.kept told) (λ other.
     c.read_durable.ensures.durable told (not_err c.read_durable.result c.in_ok-bytes.bytes VolumeFault c.in_ok-bytes.was)))
 
@@ -49,29 +50,29 @@ returns-in_err-close_gate-clause-leaves g c = λ told.
     let V = g.V.Volumes in
     let p = err_from_is_err_and c.from_residual-in_err-close_gate.result c.from_residual-in_err-close_gate.ensures.1 in
     let durable = c.read_durable.ensures.durable told (not_err c.read_durable.result c.in_ok-bytes.bytes VolumeFault c.in_ok-bytes.was) in
-    rw p.1 (opened-unclosed (V.volume c.args.vols.now c.args.n) (V.volume c.read_durable.new.vols c.args.n)
-    (V.volume c.close_gate.new.vols c.args.n) c.in_err-close_gate.field-0.0 p.0 durable p.2 (c.in_err-close_gate.ensures.leaves told))
+    rw p.1 (opened-unclosed (V.disk.volume c.args.vols.now c.args.n) (V.disk.volume c.read_durable.new.vols c.args.n)
+    (V.disk.volume c.close_gate.new.vols c.args.n) c.in_err-close_gate.field-0.0 p.0 durable p.2 (c.in_err-close_gate.ensures.leaves told))
 
 pub returns-in_err-close_gate-clause-any_moment : goal.returns-in_err-close_gate-clause-any_moment
 returns-in_err-close_gate-clause-any_moment g c = λ told.
     let V = g.V.Volumes in
     let front = c.deref.ensures.value ∙ c.in_ok-bytes.ensures.read told in
-    let before = (V.volume c.args.vols.now c.args.n).contents in
+    let before = (V.disk.volume c.args.vols.now c.args.n).contents in
     let reads = reads-front before c.deref.result.now c.in_ok-log.log c.in_ok-log.gate front c.in_ok-log.ensures in
     let closes = c.close_gate.ensures.any_moment told c.in_ok-log.log
     (subst (λ (b : List ℕ). ReadsTo b c.in_ok-log.log c.in_ok-log.gate) (c.deref.ensures.value ∙ sym c.deref-2.ensures.value) c.in_ok-log.ensures) in
-    open-any_moment V.volume V.moment V.images_since c.args.vols.now c.read_durable.new.vols c.close_gate.new.vols c.args.n c.in_ok-log.log reads.stands closes
+    open-any_moment V.disk c.args.vols.now c.read_durable.new.vols c.close_gate.new.vols c.args.n c.in_ok-log.log reads.stands closes
     (c.read_durable.ensures.any_moment told)
 
 pub returns-in_err-close_gate-clause-from_sync : goal.returns-in_err-close_gate-clause-from_sync
 returns-in_err-close_gate-clause-from_sync g c = λ told.
     let V = g.V.Volumes in
     let front = c.deref.ensures.value ∙ c.in_ok-bytes.ensures.read told in
-    let before = (V.volume c.args.vols.now c.args.n).contents in
+    let before = (V.disk.volume c.args.vols.now c.args.n).contents in
     let reads = reads-front before c.deref.result.now c.in_ok-log.log c.in_ok-log.gate front c.in_ok-log.ensures in
     let closes = c.close_gate.ensures.any_moment told c.in_ok-log.log
     (subst (λ (b : List ℕ). ReadsTo b c.in_ok-log.log c.in_ok-log.gate) (c.deref.ensures.value ∙ sym c.deref-2.ensures.value) c.in_ok-log.ensures) in
-    inr (open-from_sync V.volume V.moment V.images_since c.args.vols.now c.read_durable.new.vols c.close_gate.new.vols c.args.n c.in_ok-log.log reads.stands
+    inr (open-from_sync V.disk c.args.vols.now c.read_durable.new.vols c.close_gate.new.vols c.args.n c.in_ok-log.log reads.stands
     closes c.read_durable.result c.in_ok-bytes.bytes c.in_ok-bytes.was (c.read_durable.ensures.from_sync told))
 
 -- ---- the journal is open
@@ -82,33 +83,35 @@ returns-clause-one_answer g c = has_one_answer
 pub returns-clause-read : goal.returns-clause-read
 returns-clause-read g c = λ told.
     let front = c.deref.ensures.value ∙ c.in_ok-bytes.ensures.read told in
-    (reads-front (g.V.Volumes.volume c.args.vols.now c.args.n).contents c.deref.result.now c.in_ok-log.log c.in_ok-log.gate front c.in_ok-log.ensures).stands
+    (reads-front (g.V.Volumes.disk.volume c.args.vols.now c.args.n).contents c.deref.result.now c.in_ok-log.log c.in_ok-log.gate front
+    c.in_ok-log.ensures).stands
 
 pub returns-clause-leaves : goal.returns-clause-leaves
 returns-clause-leaves g c = λ told.
     let V = g.V.Volumes in
     let durable = c.read_durable.ensures.durable told (not_err c.read_durable.result c.in_ok-bytes.bytes VolumeFault c.in_ok-bytes.was) in
-    opened-closed (V.volume c.args.vols.now c.args.n) (V.volume c.read_durable.new.vols c.args.n) (V.volume c.close_gate.new.vols c.args.n) durable
+    opened-closed (V.disk.volume c.args.vols.now c.args.n) (V.disk.volume c.read_durable.new.vols c.args.n) (V.disk.volume c.close_gate.new.vols c.args.n)
+    durable
     (c.in_ok-close_gate.ensures.leaves told)
 
 pub returns-clause-any_moment : goal.returns-clause-any_moment
 returns-clause-any_moment g c = λ told.
     let V = g.V.Volumes in
     let front = c.deref.ensures.value ∙ c.in_ok-bytes.ensures.read told in
-    let before = (V.volume c.args.vols.now c.args.n).contents in
+    let before = (V.disk.volume c.args.vols.now c.args.n).contents in
     let reads = reads-front before c.deref.result.now c.in_ok-log.log c.in_ok-log.gate front c.in_ok-log.ensures in
     let closes = c.close_gate.ensures.any_moment told c.in_ok-log.log
     (subst (λ (b : List ℕ). ReadsTo b c.in_ok-log.log c.in_ok-log.gate) (c.deref.ensures.value ∙ sym c.deref-2.ensures.value) c.in_ok-log.ensures) in
-    open-any_moment V.volume V.moment V.images_since c.args.vols.now c.read_durable.new.vols c.close_gate.new.vols c.args.n c.in_ok-log.log reads.stands closes
+    open-any_moment V.disk c.args.vols.now c.read_durable.new.vols c.close_gate.new.vols c.args.n c.in_ok-log.log reads.stands closes
     (c.read_durable.ensures.any_moment told)
 
 pub returns-clause-from_sync : goal.returns-clause-from_sync
 returns-clause-from_sync g c = λ told.
     let V = g.V.Volumes in
     let front = c.deref.ensures.value ∙ c.in_ok-bytes.ensures.read told in
-    let before = (V.volume c.args.vols.now c.args.n).contents in
+    let before = (V.disk.volume c.args.vols.now c.args.n).contents in
     let reads = reads-front before c.deref.result.now c.in_ok-log.log c.in_ok-log.gate front c.in_ok-log.ensures in
     let closes = c.close_gate.ensures.any_moment told c.in_ok-log.log
     (subst (λ (b : List ℕ). ReadsTo b c.in_ok-log.log c.in_ok-log.gate) (c.deref.ensures.value ∙ sym c.deref-2.ensures.value) c.in_ok-log.ensures) in
-    inr (open-from_sync V.volume V.moment V.images_since c.args.vols.now c.read_durable.new.vols c.close_gate.new.vols c.args.n c.in_ok-log.log reads.stands
+    inr (open-from_sync V.disk c.args.vols.now c.read_durable.new.vols c.close_gate.new.vols c.args.n c.in_ok-log.log reads.stands
     closes c.read_durable.result c.in_ok-bytes.bytes c.in_ok-bytes.was (c.read_durable.ensures.from_sync told))

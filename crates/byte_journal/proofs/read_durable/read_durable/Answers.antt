@@ -10,13 +10,13 @@ returns-clause-any_moment g c = λ told.
     let V = g.V.Volumes in
     let old = c.args.vols.now in
     let mid = c.sync.new.self in
-    let P : List ℕ → Type 0 = IsImage (V.volume old c.args.n) in
-    let kept = sync-image c.sync.result (V.volume old c.args.n) (V.volume mid c.args.n) (c.sync.ensures.durable told) (c.sync.ensures.err told)
+    let P : List ℕ → Type 0 = IsImage (V.disk.volume old c.args.n) in
+    let kept = sync-image c.sync.result (V.disk.volume old c.args.n) (V.disk.volume mid c.args.n) (c.sync.ensures.durable told) (c.sync.ensures.err told)
     (g.met.V.Volumes.read_is_image told old c.args.n) in
-    let begun = started V.moment V.images_since old c.args.n P (λ image left. g.met.V.Volumes.only_now told old c.args.n image left) in
-    let synced = goes_on V.moment V.images_since old old mid c.args.n P _ begun (c.sync.ensures.time told) kept in
-    joined V.moment V.images_since old mid c.read_front.new.vols c.args.n P synced
-    (weaker V.moment V.images_since mid c.read_front.new.vols c.args.n _ P kept (c.read_front.ensures.any_moment told))
+    let begun = started V.disk old c.args.n P (λ image left. g.met.V.Volumes.only_now told old c.args.n image left) in
+    let synced = goes_on V.disk old old mid c.args.n P _ begun (c.sync.ensures.time told) kept in
+    joined V.disk old mid c.read_front.new.vols c.args.n P synced
+    (weaker V.disk mid c.read_front.new.vols c.args.n _ P kept (c.read_front.ensures.any_moment told))
 
 pub returns-clause-from_sync : goal.returns-clause-from_sync
 returns-clause-from_sync g c = λ told.
@@ -24,9 +24,9 @@ returns-clause-from_sync g c = λ told.
     let mid = c.sync.new.self in
     let only = c.read_front.ensures.any_moment told in
     inr (record {
-      from = V.moment mid;
+      from = V.disk.moment mid;
       not_before = (c.sync.ensures.time told).later;
       not_after = only.later;
-      each = λ image left. settled-image (V.volume c.args.vols.now c.args.n).contents image
+      each = λ image left. settled-image (V.disk.volume c.args.vols.now c.args.n).contents image
           (subst (λ (v : Volume). IsImage v image) (c.in_ok-sync.ensures.durable told) (only.each image left));
     })

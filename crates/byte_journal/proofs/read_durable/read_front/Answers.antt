@@ -6,5 +6,5 @@ use Rattle.byte_journal.proofs.read_durable.read_front.Goals as goal
 pub returns-clause-read : goal.returns-clause-read
 returns-clause-read g c = λ told.
     let none : c.new-bytes.result.items ≡ [] = search rules in
-    let front = front_of (g.V.Volumes.volume c.args.vols.now c.args.n).contents in
+    let front = front_of (g.V.Volumes.disk.volume c.args.vols.now c.args.n).contents in
     c.in_ok-read_on.ensures.read told (none ∙ ap (λ (l : List ℕ). take (length l) front) (sym none))

@@ -10,7 +10,7 @@ use Rattle.document_state.proofs.allowing.may_replace.Goals as goal
 
 pub returns-in-Some : goal.returns-in-Some
 returns-in-Some c =
-    let says : said c.args.text.now ≡ Some (arc_value c.in-Some.new) = sym c.in_ok-model.ensures ∙ ap (option_map arc_value) c.in-Some.is in
+    let says : said c.args.text.now ≡ Some (arc_value c.in-Some.new) = sym c.in_ok-model.ensures.said ∙ ap (option_map arc_value) c.in-Some.is in
     let kept : is_none c.first_unkept.result ≡ may_replace c.args.model.now c.args.text.now =
     ap is_none c.first_unkept.ensures.first
     ∙ ap (λ old. is_none (first_unkept old c.as_lists-in-Some.result.now)) c.as_lists.ensures.same

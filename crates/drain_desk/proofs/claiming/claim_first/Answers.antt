@@ -20,4 +20,4 @@ loop-number-preserved g c =
     )
 
 pub returns-clause-claims : goal.returns-clause-claims
-returns-clause-claims g c = claims-same g.V.Volumes.faults c.args.landscape.now c.loop-number.landscape true c.loop-number.invariant.0
+returns-clause-claims g c = claims-same g.V.Volumes.disk c.args.landscape.now c.loop-number.landscape true c.loop-number.invariant.0

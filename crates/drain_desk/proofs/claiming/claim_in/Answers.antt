@@ -11,11 +11,11 @@ use Rattle.drain_desk.proofs.claiming.claim_in.Goals as goal
 
 pub returns-in_err-claim_to_execute-clause-claims : goal.returns-in_err-claim_to_execute-clause-claims
 returns-in_err-claim_to_execute-clause-claims g c =
-    claims-same g.V.Volumes.faults c.args.landscape.now c.claim_to_execute.new.landscape (is_ok c.from_residual.result) c.in_err-claim_to_execute.ensures.err
+    claims-same g.V.Volumes.disk c.args.landscape.now c.claim_to_execute.new.landscape (is_ok c.from_residual.result) c.in_err-claim_to_execute.ensures.err
 
 pub returns-in-None-clause-claims : goal.returns-in-None-clause-claims
 returns-in-None-clause-claims g c =
-    claims-same g.V.Volumes.faults c.args.landscape.now c.claim_to_execute.new.landscape true
+    claims-same g.V.Volumes.disk c.args.landscape.now c.claim_to_execute.new.landscape true
     (c.in_ok-claim_to_execute.ensures.none (subst IsNone (sym c.in-None.is) refl)).0
 
 pub returns-in_err-basis-in-Some-clause-claims : goal.returns-in_err-basis-in-Some-clause-claims
@@ -24,9 +24,9 @@ returns-in_err-basis-in-Some-clause-claims g c =
     c.claim_to_execute.new.landscape.world
     c.args.system))
     c.in-Some.is c.in_ok-claim_to_execute.ensures.claim in
-    claims-in g.V.Volumes.faults c.args.landscape.now c.claim_to_execute.new.landscape (is_ok c.from_residual-in_err-basis-in-Some.result) c.args.system
+    claims-in g.V.Volumes.disk c.args.landscape.now c.claim_to_execute.new.landscape (is_ok c.from_residual-in_err-basis-in-Some.result) c.args.system
     c.in-Some.claim
-    (whole-or-not is_run g.V.Volumes.faults c.args.landscape.now c.claim_to_execute.new.landscape (is_ok c.from_residual-in_err-basis-in-Some.result)
+    (whole-or-not is_run g.V.Volumes.disk c.args.landscape.now c.claim_to_execute.new.landscape (is_ok c.from_residual-in_err-basis-in-Some.result)
     c.in_ok-claim_to_execute.ensures.went) c.in_ok-claim_to_execute.ensures.only is
 
 pub returns-in_ok-basis-in-Some-clause-claims : goal.returns-in_ok-basis-in-Some-clause-claims
@@ -35,7 +35,7 @@ returns-in_ok-basis-in-Some-clause-claims g c =
     c.claim_to_execute.new.landscape.world
     c.args.system))
     c.in-Some.is c.in_ok-claim_to_execute.ensures.claim in
-    claims-in g.V.Volumes.faults c.args.landscape.now c.claim_to_execute.new.landscape true c.args.system c.in-Some.claim
+    claims-in g.V.Volumes.disk c.args.landscape.now c.claim_to_execute.new.landscape true c.args.system c.in-Some.claim
     c.in_ok-claim_to_execute.ensures.went c.in_ok-claim_to_execute.ensures.only is
 
 pub returns-in_ok-basis-in-Some-clause-offer : goal.returns-in_ok-basis-in-Some-clause-offer
@@ -45,8 +45,8 @@ returns-in_ok-basis-in-Some-clause-offer g c =
     c.args.system))
     c.in-Some.is c.in_ok-claim_to_execute.ensures.claim in
     record {
-      to_do = to_do-in g.V.Volumes.faults c.args.landscape.now c.claim_to_execute.new.landscape c.args.system c.in-Some.claim is;
-      may = may-in g.V.Volumes.faults c.args.landscape.now c.claim_to_execute.new.landscape c.args.system c.in-Some.claim c.world.ensures.safe
+      to_do = to_do-in g.V.Volumes.disk c.args.landscape.now c.claim_to_execute.new.landscape c.args.system c.in-Some.claim is;
+      may = may-in g.V.Volumes.disk c.args.landscape.now c.claim_to_execute.new.landscape c.args.system c.in-Some.claim c.world.ensures.safe
           c.in_ok-claim_to_execute.ensures.only is;
       base = subst (λ t. IsBasis c.claim_to_execute.new.landscape.world t c.in_ok-basis-in-Some.basis) c.tid.ensures c.in_ok-basis-in-Some.ensures;
     }

@@ -10,18 +10,20 @@ work-drained-requires-clause-bare g c = λ lives outlive.
     let visited = c.in-Ok.ensures.visited in
     let worked = visited.worked in
     none-left c.confirm_all.new.landscape.world.claims c.revoke.new.self.world.claims worked.claims
-    (revoked-none g.V.Volumes.faults c.args.landscape c.revoke.new.self c.world.ensures.safe c.revoke.ensures.event)
+    (revoked-none g.V.Volumes.disk c.args.landscape c.revoke.new.self c.world.ensures.safe c.revoke.ensures.event)
 
 pub returns-in-Ok : goal.returns-in-Ok
 returns-in-Ok g c =
-    drained-on g.V.Volumes.faults c.args.landscape c.revoke.new.self c.confirm_all.new.landscape c.work-drained.result.landscape c.args.wires
+    drained-on g.V.Volumes.disk c.args.landscape c.revoke.new.self c.confirm_all.new.landscape c.work-drained.result.landscape c.args.wires
     c.confirm_all.new.wires
     c.work-drained.result.wires c.work-drained.result.end c.world.ensures.safe c.world-in-Ok.ensures.safe
-    (revoked-went g.V.Volumes.faults c.args.landscape c.revoke.new.self c.world.ensures.safe c.revoke.ensures.event)
-    (revoked-only g.V.Volumes.faults c.args.landscape c.revoke.new.self c.world.ensures.safe c.revoke.ensures.event c.revoke.ensures.volumes)
-    (revoked-none g.V.Volumes.faults c.args.landscape c.revoke.new.self c.world.ensures.safe c.revoke.ensures.event) c.in-Ok.ensures.visited c.work-drained.ensures
+    (revoked-went g.V.Volumes.disk c.args.landscape c.revoke.new.self c.world.ensures.safe c.revoke.ensures.event c.revoke.ensures.sound)
+    (revoked-only g.V.Volumes.disk c.args.landscape c.revoke.new.self c.world.ensures.safe c.revoke.ensures.event c.revoke.ensures.volumes)
+    (revoked-none g.V.Volumes.disk c.args.landscape c.revoke.new.self c.world.ensures.safe c.revoke.ensures.event) c.in-Ok.ensures.visited
+        c.work-drained.ensures
 
 pub returns-in-Err : goal.returns-in-Err
 returns-in-Err g c =
-    on g.V.Volumes.faults is_work false c.args.landscape c.revoke.new.self c.confirm_all.new.landscape
-    (revoked-went g.V.Volumes.faults c.args.landscape c.revoke.new.self c.world.ensures.safe c.revoke.ensures.event) c.in-Err.ensures.visited
+    on g.V.Volumes.disk is_work false c.args.landscape c.revoke.new.self c.confirm_all.new.landscape
+    (revoked-went g.V.Volumes.disk c.args.landscape c.revoke.new.self c.world.ensures.safe c.revoke.ensures.event c.revoke.ensures.sound)
+        c.in-Err.ensures.visited

@@ -14,10 +14,10 @@ use Rattle.drain_desk.proofs.draining.work.Goals as goal
 pub of-desk-requires : goal.of-desk-requires
 of-desk-requires g c =
     subst (λ (k : KeptOf ModelRules DocumentTables g.row.V.Denot).
-    AreGoingOn g.V.Volumes.faults k c.args.landscape c.of-origin.result.wires.value c.args.wires 0)
+    AreGoingOn g.V.Volumes.disk k c.args.landscape c.of-origin.result.wires.value c.args.wires 0)
     (sym c.of-origin.ensures.landscape)
-    (subst (λ (l : Lines). AreGoingOn g.V.Volumes.faults c.args.landscape c.args.landscape l c.args.wires 0) (sym c.of-origin.ensures.wires)
-    (going-first g.V.Volumes.faults c.args.landscape c.args.wires c.requires.bare))
+    (subst (λ (l : Lines). AreGoingOn g.V.Volumes.disk c.args.landscape c.args.landscape l c.args.wires 0) (sym c.of-origin.ensures.wires)
+    (going-first g.V.Volumes.disk c.args.landscape c.args.wires c.requires.bare))
 
 pub run_pool-requires-send-D-Work : goal.run_pool-requires-send-D-Work
 run_pool-requires-send-D-Work g c = λ κs within.

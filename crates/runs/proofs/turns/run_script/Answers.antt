@@ -5,7 +5,7 @@ use Rattle.runs.proofs.turns.run_script.Goals as goal
 pub loop-command-init : goal.loop-command-init
 loop-command-init g c = record {
   so_far =
-      SoFar-start g.V.Volumes.faults c.args.inputs.now c.args.commands.now c.args.stage (g.K.Sink.contents c.args.out.now) (g.K.Sink.faults c.args.out.now)
+      SoFar-start g.V.Volumes.disk c.args.inputs.now c.args.commands.now c.args.stage (g.K.Sink.contents c.args.out.now) (g.K.Sink.faults c.args.out.now)
       (g.C.Clock.given c.args.clock.now) (g.C.Clock.told c.args.clock.now) c.requires.up;
   still = λ tells. tells;
 }
@@ -13,7 +13,7 @@ loop-command-init g c = record {
 pub loop-command-preserved : goal.loop-command-preserved
 loop-command-preserved g c = record {
   so_far =
-      SoFar-next g.V.Volumes.faults c.args.inputs.now c.args.commands.now c.args.stage (g.K.Sink.contents c.args.out.now) (g.K.Sink.faults c.args.out.now)
+      SoFar-next g.V.Volumes.disk c.args.inputs.now c.args.commands.now c.args.stage (g.K.Sink.contents c.args.out.now) (g.K.Sink.faults c.args.out.now)
       (g.C.Clock.given c.args.clock.now) c.loop-command.command-index
       c.command-item.result _ c.loop-command.stage c.turn-after.result.stage (g.K.Sink.contents c.loop-command.out) (g.K.Sink.contents c.turn-after.new.out)
       (g.K.Sink.faults c.loop-command.out) (g.K.Sink.faults c.turn-after.new.out) (g.C.Clock.told c.loop-command.clock)
@@ -27,7 +27,7 @@ loop-command-preserved g c = record {
 
 pub returns-in-Some-clause-run : goal.returns-in-Some-clause-run
 returns-in-Some-clause-run g c =
-    Run-behind g.V.Volumes.faults c.args.inputs.now c.args.commands.now c.args.stage (g.K.Sink.contents c.args.out.now) (g.K.Sink.faults c.args.out.now)
+    Run-behind g.V.Volumes.disk c.args.inputs.now c.args.commands.now c.args.stage (g.K.Sink.contents c.args.out.now) (g.K.Sink.faults c.args.out.now)
     (g.C.Clock.given c.args.clock.now) c.loop-command.command-index
     c.command-item.result _ c.loop-command.stage c.turn-after.result.stage (g.K.Sink.contents c.loop-command.out) (g.K.Sink.contents c.turn-after.new.out)
     (g.K.Sink.faults c.loop-command.out) (g.K.Sink.faults c.turn-after.new.out) (g.C.Clock.told c.loop-command.clock) (g.C.Clock.told c.turn-after.new.clock)
@@ -37,7 +37,7 @@ returns-in-Some-clause-run g c =
 
 pub returns-clause-run : goal.returns-clause-run
 returns-clause-run g c =
-    Run-whole g.V.Volumes.faults c.args.inputs.now c.args.commands.now c.args.stage (g.K.Sink.contents c.args.out.now) (g.K.Sink.faults c.args.out.now)
+    Run-whole g.V.Volumes.disk c.args.inputs.now c.args.commands.now c.args.stage (g.K.Sink.contents c.args.out.now) (g.K.Sink.faults c.args.out.now)
     (g.C.Clock.given c.args.clock.now) c.loop-command.command-index
     c.loop-command.stage (g.K.Sink.contents c.loop-command.out) (g.K.Sink.faults c.loop-command.out) (g.C.Clock.told c.loop-command.clock)
     (g.C.Clock.given c.loop-command.clock) c.loop-command.invariant.so_far (let end = c.loop-command-test.false in omega arith)

@@ -3,7 +3,7 @@ use Rattle.runs.proofs.turns.run_script.Given as goal
 
 abbrev pub invariant-loop-command : goal.invariant-loop-command
 invariant-loop-command g l = record {
-  so_far : SoFar g.V.Volumes.faults l.inputs l.commands l.command-index l.initial.stage l.stage
+  so_far : SoFar g.V.Volumes.disk l.inputs l.commands l.command-index l.initial.stage l.stage
       (g.K.Sink.contents l.initial.out) (g.K.Sink.contents l.out) (g.K.Sink.faults l.initial.out) (g.K.Sink.faults l.out)
       (g.C.Clock.told l.clock) (g.C.Clock.given l.initial.clock) (g.C.Clock.given l.clock);
   still : g.C.Clock.told l.clock → g.C.Clock.told l.initial.clock;

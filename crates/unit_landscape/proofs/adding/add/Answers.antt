@@ -24,7 +24,7 @@ returns-in-Ok-clause-stored g c =
     ap (λ w. is_up w c.args.system) c.in-Ok.ensures.written.world ∙ up-written c.args.both.now.world c.args.system c.args.next c.requires.can.writes.up in
     record {
       in_step = c.note.ensures.in_step;
-      on_volumes = on_volumes-after g.V.Volumes.told g.V.Volumes.volume c.write.new.vols c.write.new.both.world c.note.new.both.world c.write.new.journals
+      on_volumes = on_volumes-after g.V.Volumes.disk c.write.new.vols c.write.new.both.world c.note.new.both.world c.write.new.journals
           c.args.system
           c.args.claim c.note.result up c.note.ensures.world c.note.ensures.fallen c.in-Ok.ensures.written.on_volumes;
     }

@@ -12,7 +12,7 @@ fall-requires-clause-up g c =
     let world = c.args.kept.now.world in
     let rules = g.R.Rules.meaning c.args.kept.now.world.rules in
     let due = c.requires.due in
-    ap (λ k. is_up k.world c.args.system) (was-full rules g.V.Volumes.faults c.args.kept.now c.record.new.kept due.event
+    ap (λ k. is_up k.world c.args.system) (was-full rules g.V.Volumes.disk c.args.kept.now c.record.new.kept due.event
     (at c.args.system c.args.next) c.record.result
     c.in-Err-Full.field-0 c.in-Err-Full.size c.in-Err-Full.is c.in-Err-Full.field-0-is (c.record.ensures.ends due.event due.appends)).same
     ∙ event-up rules (g.met.R.Rules.lawful c.args.kept.now.world.rules) world c.requires.landscape.safe c.requires.landscape.writable due.event c.args.system
@@ -25,7 +25,7 @@ returns-in-Err-Full-clause-landscape g c =
     let rules = g.R.Rules.meaning c.args.kept.now.world.rules in
     let due = c.requires.due in
     let up = ap (λ k. is_up k.world c.args.system)
-    (was-full rules g.V.Volumes.faults c.args.kept.now c.record.new.kept due.event (at c.args.system c.args.next) c.record.result
+    (was-full rules g.V.Volumes.disk c.args.kept.now c.record.new.kept due.event (at c.args.system c.args.next) c.record.result
     c.in-Err-Full.field-0 c.in-Err-Full.size c.in-Err-Full.is c.in-Err-Full.field-0-is (c.record.ensures.ends due.event due.appends)).same
     ∙ event-up rules (g.met.R.Rules.lawful c.args.kept.now.world.rules) world c.requires.landscape.safe c.requires.landscape.writable due.event c.args.system
     c.args.next
@@ -43,7 +43,7 @@ returns-in-Err-Full-clause-ends g c = λ e does.
     let within = state_of-most world.systems c.args.system known.0 known.1 in
     let all = c.requires.landscape.safe.systems in
     let few = law.systems_most in
-    inr (overflowed rules g.V.Volumes.faults c.args.kept.now c.record.new.kept c.fall.new.self c.args.system c.args.next c.in-Err-Full.size up
-    (was-full rules g.V.Volumes.faults c.args.kept.now c.record.new.kept e (at c.args.system c.args.next) c.record.result
+    inr (overflowed rules g.V.Volumes.disk c.args.kept.now c.record.new.kept c.fall.new.self c.args.system c.args.next c.in-Err-Full.size up
+    (was-full rules g.V.Volumes.disk c.args.kept.now c.record.new.kept e (at c.args.system c.args.next) c.record.result
     c.in-Err-Full.field-0 c.in-Err-Full.size c.in-Err-Full.is c.in-Err-Full.field-0-is (c.record.ensures.ends e does))
     c.fall.ensures.world c.fall.ensures.journals c.fall.ensures.vols c.fall.ensures.causes c.world.ensures.kept.causes (omega arith))

@@ -6,20 +6,20 @@ use Rattle.unit_landscape.proofs.beginning.begin.Goals as goal
 
 pub append-requires : goal.append-requires
 append-requires g c = record {
-  can = to_append g.R.Rules.meaning g.met.R.Rules.lawful g.A.Application.stands g.A.Application.goes_with g.V.Volumes.told g.V.Volumes.volume c.args.kept.now
+  can = to_append g.R.Rules.meaning g.met.R.Rules.lawful g.A.Application.stands g.A.Application.goes_with g.V.Volumes.disk c.args.kept.now
       c.args.system c.args.text c.args.extra c.get.ensures.least c.world.ensures.kept c.requires c.get.result c.get.ensures.number;
 }
 
 pub unreachable-requires : goal.unreachable-requires
 unreachable-requires g c =
-    first-fits g.R.Rules.meaning g.met.R.Rules.lawful g.A.Application.stands g.A.Application.goes_with g.V.Volumes.told g.V.Volumes.volume c.args.kept.now
+    first-fits g.R.Rules.meaning g.met.R.Rules.lawful g.A.Application.stands g.A.Application.goes_with g.V.Volumes.disk c.args.kept.now
     c.args.system c.args.text c.args.extra c.get.ensures.least c.world.ensures.kept c.requires c.get.result c.append.result c.in-Err-Full.field-0
     c.in-Err-Full.field-0-0 c.append.ensures.full c.in-Err-Full.is c.in-Err-Full.field-0-is
 
 pub returns-in-Ok-clause-begun : goal.returns-in-Ok-clause-begun
 returns-in-Ok-clause-begun g c = (
   subst (λ n. c.append.new.self.world ≡ with_record c.args.kept.now.world c.args.system (Genesis n c.args.text)) c.get.ensures.number c.in-Ok.ensures.did,
-  HasFirst-more g.R.Rules.meaning g.met.R.Rules.lawful g.A.Application.stands g.A.Application.goes_with g.V.Volumes.told g.V.Volumes.volume c.args.kept.now
+  HasFirst-more g.R.Rules.meaning g.met.R.Rules.lawful g.A.Application.stands g.A.Application.goes_with g.V.Volumes.disk c.args.kept.now
       c.args.system c.args.text c.args.extra c.get.ensures.least c.world.ensures.kept c.requires c.append.new.self.journals c.in-Ok.ensures.journals,
   c.in-Ok.ensures.causes,
 )
@@ -31,35 +31,35 @@ returns-in-Err-After-clause-begun g c =
     inr (
       subst (λ n. c.append.new.self.world ≡ with_fall (with_record c.args.kept.now.world c.args.system (Genesis n c.args.text)) c.args.system None)
           c.get.ensures.number did,
-      HasFirst-more g.R.Rules.meaning g.met.R.Rules.lawful g.A.Application.stands g.A.Application.goes_with g.V.Volumes.told g.V.Volumes.volume c.args.kept.now
+      HasFirst-more g.R.Rules.meaning g.met.R.Rules.lawful g.A.Application.stands g.A.Application.goes_with g.V.Volumes.disk c.args.kept.now
           c.args.system c.args.text c.args.extra c.get.ensures.least c.world.ensures.kept c.requires c.append.new.self.journals journals,
       rw c.in-Err-After.field-0-is at c.in-Err-After.ensures.causes,
     )
 
 pub returns-in-Ok-clause-any_moment : goal.returns-in-Ok-clause-any_moment
 returns-in-Ok-clause-any_moment g c = λ tells.
-    first-any_moment g.R.Rules.meaning g.met.R.Rules.lawful g.A.Application.stands g.A.Application.goes_with g.V.Volumes.told g.V.Volumes.volume c.args.kept.now
-    c.args.system c.args.text c.args.extra c.get.ensures.least c.world.ensures.kept c.requires g.V.Volumes.moment g.V.Volumes.images_since
+    first-any_moment g.R.Rules.meaning g.met.R.Rules.lawful g.A.Application.stands g.A.Application.goes_with g.V.Volumes.disk c.args.kept.now
+    c.args.system c.args.text c.args.extra c.get.ensures.least c.world.ensures.kept c.requires g.V.Volumes.disk
     c.append.new.self.vols
     c.get.result c.get.ensures.number (c.append.ensures.any_moment tells)
 
 pub returns-in-Err-Volume-clause-any_moment : goal.returns-in-Err-Volume-clause-any_moment
 returns-in-Err-Volume-clause-any_moment g c = λ tells.
-    first-any_moment g.R.Rules.meaning g.met.R.Rules.lawful g.A.Application.stands g.A.Application.goes_with g.V.Volumes.told g.V.Volumes.volume c.args.kept.now
-    c.args.system c.args.text c.args.extra c.get.ensures.least c.world.ensures.kept c.requires g.V.Volumes.moment g.V.Volumes.images_since
+    first-any_moment g.R.Rules.meaning g.met.R.Rules.lawful g.A.Application.stands g.A.Application.goes_with g.V.Volumes.disk c.args.kept.now
+    c.args.system c.args.text c.args.extra c.get.ensures.least c.world.ensures.kept c.requires g.V.Volumes.disk
     c.append.new.self.vols
     c.get.result c.get.ensures.number (c.append.ensures.any_moment tells)
 
 pub returns-in-Err-Before-clause-any_moment : goal.returns-in-Err-Before-clause-any_moment
 returns-in-Err-Before-clause-any_moment g c = λ tells.
-    first-any_moment g.R.Rules.meaning g.met.R.Rules.lawful g.A.Application.stands g.A.Application.goes_with g.V.Volumes.told g.V.Volumes.volume c.args.kept.now
-    c.args.system c.args.text c.args.extra c.get.ensures.least c.world.ensures.kept c.requires g.V.Volumes.moment g.V.Volumes.images_since
+    first-any_moment g.R.Rules.meaning g.met.R.Rules.lawful g.A.Application.stands g.A.Application.goes_with g.V.Volumes.disk c.args.kept.now
+    c.args.system c.args.text c.args.extra c.get.ensures.least c.world.ensures.kept c.requires g.V.Volumes.disk
     c.append.new.self.vols
     c.get.result c.get.ensures.number (c.append.ensures.any_moment tells)
 
 pub returns-in-Err-After-clause-any_moment : goal.returns-in-Err-After-clause-any_moment
 returns-in-Err-After-clause-any_moment g c = λ tells.
-    first-any_moment g.R.Rules.meaning g.met.R.Rules.lawful g.A.Application.stands g.A.Application.goes_with g.V.Volumes.told g.V.Volumes.volume c.args.kept.now
-    c.args.system c.args.text c.args.extra c.get.ensures.least c.world.ensures.kept c.requires g.V.Volumes.moment g.V.Volumes.images_since
+    first-any_moment g.R.Rules.meaning g.met.R.Rules.lawful g.A.Application.stands g.A.Application.goes_with g.V.Volumes.disk c.args.kept.now
+    c.args.system c.args.text c.args.extra c.get.ensures.least c.world.ensures.kept c.requires g.V.Volumes.disk
     c.append.new.self.vols
     c.get.result c.get.ensures.number (c.append.ensures.any_moment tells)

@@ -21,15 +21,15 @@ write-requires-clause-entry g c =
     subst IsWritable (sym same) c.requires.last.2
 
 pub returns-clause-wrote : goal.returns-clause-wrote
-returns-clause-wrote g c = λ next log last disk.
+returns-clause-wrote g c = λ next log last on_disk.
     let same : c.in-Some.next.now ≡ next = same_Some c.in-Some.next.now next (sym (ap option_copied c.in-Some.is) ∙ c.last.ensures ∙ last) in
-    subst (λ (n : Record). IsWriteOf g.V.Volumes.told g.V.Volumes.volume c.args.vols.now c.write.new.vols (c.args.system - 1) c.args.journals.now
+    subst (λ (n : Record). IsWriteOf g.V.Volumes.disk c.args.vols.now c.write.new.vols (c.args.system - 1) c.args.journals.now
     c.write.new.self log n c.write.result) same
     (record {
-      written = c.write.ensures.written log disk;
-      torn = c.write.ensures.torn log disk;
-      unwritten = c.write.ensures.unwritten log disk;
-      full = c.write.ensures.full log disk;
+      written = c.write.ensures.written log on_disk;
+      torn = c.write.ensures.torn log on_disk;
+      unwritten = c.write.ensures.unwritten log on_disk;
+      full = c.write.ensures.full log on_disk;
       full_same = c.write.ensures.full_same;
       left = c.write.ensures.left;
       one = c.write.ensures.one;
@@ -38,8 +38,8 @@ returns-clause-wrote g c = λ next log last disk.
     })
 
 pub returns-clause-any_moment : goal.returns-clause-any_moment
-returns-clause-any_moment g c = λ tells next log last disk.
+returns-clause-any_moment g c = λ tells next log last on_disk.
     let same : c.in-Some.next.now ≡ next = same_Some c.in-Some.next.now next (sym (ap option_copied c.in-Some.is) ∙ c.last.ensures ∙ last) in
-    subst (λ n. LeavesOnly g.V.Volumes.moment g.V.Volumes.images_since c.args.vols.now c.write.new.vols (c.args.system - 1)
+    subst (λ n. LeavesOnly g.V.Volumes.disk c.args.vols.now c.write.new.vols (c.args.system - 1)
     (IsBeforeOrAfter (entries_at c.args.journals.now (c.args.system - 1) log) (entry_with (next_moment c.args.journals.now (c.args.system - 1)) n))) same
-    (c.write.ensures.any_moment tells log disk)
+    (c.write.ensures.any_moment tells log on_disk)

@@ -8,19 +8,19 @@ use Rattle.unit_works.proofs.WorkedLemmas.{meaning, still}
 use Rattle.unit_works.proofs.answering.answer_of.Goals as goal
 
 pub returns-in-New-clause-went : goal.returns-in-New-clause-went
-returns-in-New-clause-went g c = still g.V.Volumes.faults is_end true c.args.landscape.now c.args.landscape.now refl
+returns-in-New-clause-went g c = still g.V.Volumes.disk is_end true c.args.landscape.now c.args.landscape.now refl
 
 pub returns-in-Known-clause-went : goal.returns-in-Known-clause-went
-returns-in-Known-clause-went g c = still g.V.Volumes.faults is_end true c.args.landscape.now c.args.landscape.now refl
+returns-in-Known-clause-went g c = still g.V.Volumes.disk is_end true c.args.landscape.now c.args.landscape.now refl
 
 pub returns-in-Busy-clause-went : goal.returns-in-Busy-clause-went
-returns-in-Busy-clause-went g c = still g.V.Volumes.faults is_end true c.args.landscape.now c.args.landscape.now refl
+returns-in-Busy-clause-went g c = still g.V.Volumes.disk is_end true c.args.landscape.now c.args.landscape.now refl
 
 pub returns-in-SysFail-clause-went : goal.returns-in-SysFail-clause-went
-returns-in-SysFail-clause-went g c = still g.V.Volumes.faults is_end true c.args.landscape.now c.args.landscape.now refl
+returns-in-SysFail-clause-went g c = still g.V.Volumes.disk is_end true c.args.landscape.now c.args.landscape.now refl
 
 pub returns-in-Down-clause-went : goal.returns-in-Down-clause-went
-returns-in-Down-clause-went g c = still g.V.Volumes.faults is_end true c.args.landscape.now c.args.landscape.now refl
+returns-in-Down-clause-went g c = still g.V.Volumes.disk is_end true c.args.landscape.now c.args.landscape.now refl
 
 pub returns-in_ok-finished-in-Run-clause-grew : goal.returns-in_ok-finished-in-Run-clause-grew
 returns-in_ok-finished-in-Run-clause-grew g c = λ unit given others named tells claims.

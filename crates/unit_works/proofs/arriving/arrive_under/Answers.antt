@@ -12,14 +12,14 @@ use Rattle.unit_works.proofs.arriving.arrive_under.Goals as goal
 
 pub returns-in_err-arrive_again-clause-went : goal.returns-in_err-arrive_again-clause-went
 returns-in_err-arrive_again-clause-went g c =
-    short-of g.V.Volumes.faults is_arrival c.args.landscape.now c.arrive_again.new.landscape
+    short-of g.V.Volumes.disk is_arrival c.args.landscape.now c.arrive_again.new.landscape
     c.from_residual-in_err-arrive_again.result c.from_residual-in_err-arrive_again.ensures.0
-    (on g.V.Volumes.faults is_arrival false c.args.landscape.now c.arrive.new.landscape c.arrive_again.new.landscape c.in_ok-first.ensures.went
+    (on g.V.Volumes.disk is_arrival false c.args.landscape.now c.arrive.new.landscape c.arrive_again.new.landscape c.in_ok-first.ensures.went
     c.in_err-arrive_again.ensures.went)
 
 pub returns-clause-went : goal.returns-clause-went
 returns-clause-went g c =
-    on g.V.Volumes.faults is_arrival true c.args.landscape.now c.arrive.new.landscape c.arrive_again.new.landscape c.in_ok-first.ensures.went
+    on g.V.Volumes.disk is_arrival true c.args.landscape.now c.arrive.new.landscape c.arrive_again.new.landscape c.in_ok-first.ensures.went
     c.in_ok-arrive_again.ensures.went
 
 pub returns-clause-claims : goal.returns-clause-claims
@@ -28,11 +28,11 @@ returns-clause-claims g c =
     (sym c.in_ok-arrive_again.ensures.same) c.in_ok-first.ensures.claims
 
 pub returns-in_err-unit-clause-went : goal.returns-in_err-unit-clause-went
-returns-in_err-unit-clause-went g c = still g.V.Volumes.faults is_arrival (is_ok c.from_residual.result) c.args.landscape.now c.args.landscape.now refl
+returns-in_err-unit-clause-went g c = still g.V.Volumes.disk is_arrival (is_ok c.from_residual.result) c.args.landscape.now c.args.landscape.now refl
 
 pub returns-clause-grew : goal.returns-clause-grew
 returns-clause-grew g c =
-    arrived-on g.V.Volumes.faults c.args.landscape.now c.arrive.new.landscape c.arrive_again.new.landscape c.args.claim.now.tid c.in_ok-unit.unit
+    arrived-on g.V.Volumes.disk c.args.landscape.now c.arrive.new.landscape c.arrive_again.new.landscape c.args.claim.now.tid c.in_ok-unit.unit
     c.in_ok-first.first c.in_ok-unit.ensures c.in_ok-first.ensures.grew
     c.in_ok-arrive_again.ensures.same
 

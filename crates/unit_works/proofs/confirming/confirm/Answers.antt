@@ -6,7 +6,7 @@ use Rattle.unit_works.proofs.WorkedLemmas.{still}
 use Rattle.unit_works.proofs.confirming.confirm.Goals as goal
 
 pub returns-then-not-is_due-clause-went : goal.returns-then-not-is_due-clause-went
-returns-then-not-is_due-clause-went g c = still g.V.Volumes.faults is_confirmation true c.args.landscape.now c.args.landscape.now refl
+returns-then-not-is_due-clause-went g c = still g.V.Volumes.disk is_confirmation true c.args.landscape.now c.args.landscape.now refl
 
 pub returns-then-not-is_due-clause-due : goal.returns-then-not-is_due-clause-due
 returns-then-not-is_due-clause-due g c = λ unit named due. absurd (c.is_due.ensures.other c.if-not-is_due.true unit named due)

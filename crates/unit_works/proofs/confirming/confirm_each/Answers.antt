@@ -11,14 +11,14 @@ use Rattle.unit_works.proofs.confirming.confirm_each.Goals as goal
 pub returns-in_err-confirm_due-clause-visited : goal.returns-in_err-confirm_due-clause-visited
 returns-in_err-confirm_due-clause-visited g c =
     let worked = (c.loop-tid.invariant.0).worked in
-    visited-short g.V.Volumes.faults c.args.landscape.now c.confirm_due.new.landscape c.args.wires.now c.confirm_due.new.wires
+    visited-short g.V.Volumes.disk c.args.landscape.now c.confirm_due.new.landscape c.args.wires.now c.confirm_due.new.wires
     (λ (other : TidOf). is_listed other c.args.tids.now ≡ true) c.from_residual.result c.from_residual.ensures.0
-    (on g.V.Volumes.faults is_work false c.args.landscape.now c.loop-tid.landscape c.confirm_due.new.landscape worked.went
+    (on g.V.Volumes.disk is_work false c.args.landscape.now c.loop-tid.landscape c.confirm_due.new.landscape worked.went
     c.in_err-confirm_due.ensures.worked)
 
 pub loop-tid-init : goal.loop-tid-init
 loop-tid-init g c = (
-  visited-none g.V.Volumes.faults c.args.landscape.now c.args.landscape.now c.args.wires.now c.args.wires.now
+  visited-none g.V.Volumes.disk c.args.landscape.now c.args.landscape.now c.args.wires.now c.args.wires.now
       (λ (other : TidOf). is_listed other (take 0 c.args.tids.now) ≡ true) refl refl (λ unit none named due. cc),
   inl refl,
 )
@@ -26,7 +26,7 @@ loop-tid-init g c = (
 pub loop-tid-preserved : goal.loop-tid-preserved
 loop-tid-preserved g c =
     let at = c.loop-tid.tid-index in (
-      visited-on g.V.Volumes.faults c.args.landscape.now c.loop-tid.landscape c.confirm_due.new.landscape c.args.wires.now c.loop-tid.wires
+      visited-on g.V.Volumes.disk c.args.landscape.now c.loop-tid.landscape c.confirm_due.new.landscape c.args.wires.now c.loop-tid.wires
           c.confirm_due.new.wires (λ (other : TidOf). is_listed other (take at c.args.tids.now) ≡ true) (λ (other : TidOf). other ≡ c.tid-item.result)
           (λ (other : TidOf). is_listed other (take (at + 1) c.args.tids.now) ≡ true)
           (λ other listed. listed-next c.args.tids.now at c.tid-item.result other c.loop-tid-test.true c.tid-item.is listed)
@@ -36,7 +36,7 @@ loop-tid-preserved g c =
           (apart-before c.args.tids.now at c.tid-item.result c.loop-tid-test.true c.tid-item.is c.requires.apart)) listed)
           c.loop-tid.invariant.0
           c.in_ok-confirm_due.ensures.worked,
-      visited-claims g.V.Volumes.faults c.args.landscape.now c.loop-tid.landscape c.confirm_due.new.landscape c.args.wires.now c.loop-tid.wires
+      visited-claims g.V.Volumes.disk c.args.landscape.now c.loop-tid.landscape c.confirm_due.new.landscape c.args.wires.now c.loop-tid.wires
           c.confirm_due.new.wires (λ (other : TidOf). is_listed other (take at c.args.tids.now) ≡ true) (λ (other : TidOf). other ≡ c.tid-item.result)
           c.loop-tid.invariant.0 c.in_ok-confirm_due.ensures.worked c.loop-tid.invariant.1 c.in_ok-confirm_due.ensures.claims,
     )
@@ -46,7 +46,7 @@ returns-clause-claims g c = c.loop-tid.invariant.1
 
 pub returns-clause-visited : goal.returns-clause-visited
 returns-clause-visited g c =
-    visited-among g.V.Volumes.faults c.args.landscape.now c.loop-tid.landscape c.args.wires.now c.loop-tid.wires
+    visited-among g.V.Volumes.disk c.args.landscape.now c.loop-tid.landscape c.args.wires.now c.loop-tid.wires
     (λ (other : TidOf). is_listed other (take c.loop-tid.tid-index c.args.tids.now) ≡ true) (λ (other : TidOf). is_listed other c.args.tids.now ≡ true)
     (λ unit listed named due.
     ap (is_listed unit.tid) (take_all c.loop-tid.tid-index c.args.tids.now c.loop-tid-test.false) ∙ listed)

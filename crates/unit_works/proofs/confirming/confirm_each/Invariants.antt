@@ -8,5 +8,5 @@ use Rattle.unit_works.proofs.confirming.confirm_each.Given as goal
 -- the ids so far were visited, and no claim went unless a system fell
 abbrev pub invariant-loop-tid : goal.invariant-loop-tid
 invariant-loop-tid g l =
-    HasVisited g.V.Volumes.faults l.fn.landscape l.fn.wires l.landscape l.wires (λ (other : TidOf). is_listed other (take l.tid-index l.tids) ≡ true)
+    HasVisited g.V.Volumes.disk l.fn.landscape l.fn.wires l.landscape l.wires (λ (other : TidOf). is_listed other (take l.tid-index l.tids) ≡ true)
     × AreOrGone l.fn.landscape.world l.landscape.world l.fn.landscape.world.claims

@@ -7,7 +7,7 @@ use Rattle.unit_works.proofs.WorkedLemmas.{still}
 use Rattle.unit_works.proofs.confirming.confirm_sent.Goals as goal
 
 pub returns-then-not-is_sent_under-clause-went : goal.returns-then-not-is_sent_under-clause-went
-returns-then-not-is_sent_under-clause-went g c = still g.V.Volumes.faults is_confirmation true c.args.landscape.now c.args.landscape.now refl
+returns-then-not-is_sent_under-clause-went g c = still g.V.Volumes.disk is_confirmation true c.args.landscape.now c.args.landscape.now refl
 
 pub returns-clause-due : goal.returns-clause-due
 returns-clause-due g c = λ unit named due.

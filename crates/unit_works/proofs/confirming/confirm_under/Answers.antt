@@ -9,7 +9,7 @@ use Rattle.unit_works.proofs.confirming.confirm_under.Goals as goal
 
 pub returns-then-not-is_confirmed_under-clause-went : goal.returns-then-not-is_confirmed_under-clause-went
 returns-then-not-is_confirmed_under-clause-went g c =
-    still g.V.Volumes.faults (is_confirming c.args.letter) true c.args.landscape.now c.args.landscape.now refl
+    still g.V.Volumes.disk (is_confirming c.args.letter) true c.args.landscape.now c.args.landscape.now refl
 
 pub returns-clause-due : goal.returns-clause-due
 returns-clause-due g c = λ unit named due.
@@ -19,5 +19,5 @@ returns-clause-due g c = λ unit named due.
 
 pub returns-clause-went : goal.returns-clause-went
 returns-clause-went g c =
-    wider g.V.Volumes.faults is_confirmation (is_confirming c.args.letter) (is_ok c.confirm.result) c.args.landscape.now c.confirm.new.landscape
+    wider g.V.Volumes.disk is_confirmation (is_confirming c.args.letter) (is_ok c.confirm.result) c.args.landscape.now c.confirm.new.landscape
     (confirmation-confirms c.args.letter (sym c.is_confirmed_under.ensures ∙ c.if-not-is_confirmed_under.false)) c.confirm.ensures.went

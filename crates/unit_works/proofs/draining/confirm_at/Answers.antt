@@ -9,7 +9,7 @@ use Rattle.unit_works.proofs.draining.confirm_at.Goals as goal
 
 pub returns-clause-visited : goal.returns-clause-visited
 returns-clause-visited g c =
-    visited-so g.V.Volumes.faults c.args.landscape.now c.confirm_each.new.landscape c.args.wires.now c.confirm_each.new.wires
+    visited-so g.V.Volumes.disk c.args.landscape.now c.confirm_each.new.landscape c.args.wires.now c.confirm_each.new.wires
     (λ (other : TidOf). is_listed other c.as_slice.result.now ≡ true) (λ (other : TidOf). other.system ≡ c.args.system) c.confirm_each.result
     (λ unit here named due. due-found c.args.landscape.now.world c.world.ensures.safe unit c.args.system c.as_slice.result.now
     (subst (AreUnconfirmedAt c.args.landscape.now.world c.args.system) (sym c.as_slice.ensures) c.in_ok-tids.ensures.unconfirmed) here named due)
@@ -19,6 +19,6 @@ returns-clause-visited g c =
 
 pub returns-in_err-tids-clause-visited : goal.returns-in_err-tids-clause-visited
 returns-in_err-tids-clause-visited g c =
-    visited-short g.V.Volumes.faults c.args.landscape.now c.args.landscape.now c.args.wires.now c.args.wires.now
+    visited-short g.V.Volumes.disk c.args.landscape.now c.args.landscape.now c.args.wires.now c.args.wires.now
     (λ (other : TidOf). other.system ≡ c.args.system) c.from_residual.result c.from_residual.ensures.0
-    (still g.V.Volumes.faults is_work false c.args.landscape.now c.args.landscape.now refl)
+    (still g.V.Volumes.disk is_work false c.args.landscape.now c.args.landscape.now refl)

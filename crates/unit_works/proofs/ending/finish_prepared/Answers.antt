@@ -6,10 +6,10 @@ use Rattle.unit_works.proofs.WorkedLemmas.{still}
 use Rattle.unit_works.proofs.ending.finish_prepared.Goals as goal
 
 pub returns-in-None-clause-went : goal.returns-in-None-clause-went
-returns-in-None-clause-went g c = still g.V.Volumes.faults is_end true c.args.landscape.now c.args.landscape.now refl
+returns-in-None-clause-went g c = still g.V.Volumes.disk is_end true c.args.landscape.now c.args.landscape.now refl
 
 pub returns-in_err-prepared_for-clause-went : goal.returns-in_err-prepared_for-clause-went
-returns-in_err-prepared_for-clause-went g c = still g.V.Volumes.faults is_end (is_ok c.from_residual.result) c.args.landscape.now c.args.landscape.now refl
+returns-in_err-prepared_for-clause-went g c = still g.V.Volumes.disk is_end (is_ok c.from_residual.result) c.args.landscape.now c.args.landscape.now refl
 
 pub returns-in-None-clause-left : goal.returns-in-None-clause-left
 returns-in-None-clause-left g c = λ stands.

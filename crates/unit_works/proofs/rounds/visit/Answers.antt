@@ -18,12 +18,12 @@ returns-in_err-executed-clause-found g c =
     let after = c.execute_next.new.landscape in
     let lines = c.args.wires.now in
     let lines_after = c.ship_next.new.wires in
-    found-short g.V.Volumes.faults before after lines lines_after 2 (NothingAt before.world c.args.system)
+    found-short g.V.Volumes.disk before after lines lines_after 2 (NothingAt before.world c.args.system)
     c.from_residual-in_err-executed.result c.from_residual-in_err-executed.ensures.0
-    (on g.V.Volumes.faults is_work false before between after
-    (found-went g.V.Volumes.faults before between lines lines_after 1 (NothingOut before.world c.args.system) c.in_ok-shipped.shipped
-    (shipped-found g.V.Volumes.faults before between lines lines_after c.args.system c.in_ok-shipped.shipped c.in_ok-shipped.ensures))
-    (executed-went g.V.Volumes.faults false between after c.in_err-executed.ensures))
+    (on g.V.Volumes.disk is_work false before between after
+    (found-went g.V.Volumes.disk before between lines lines_after 1 (NothingOut before.world c.args.system) c.in_ok-shipped.shipped
+    (shipped-found g.V.Volumes.disk before between lines lines_after c.args.system c.in_ok-shipped.shipped c.in_ok-shipped.ensures))
+    (executed-went g.V.Volumes.disk false between after c.in_err-executed.ensures))
 
 pub returns-clause-found : goal.returns-clause-found
 returns-clause-found g c =
@@ -32,11 +32,11 @@ returns-clause-found g c =
     let after = c.execute_next.new.landscape in
     let lines = c.args.wires.now in
     let lines_after = c.ship_next.new.wires in
-    subst (Found g.V.Volumes.faults before lines after lines_after 2 (NothingAt before.world c.args.system)) (sym c.joined.ensures)
-    (found-on g.V.Volumes.faults before between after lines lines_after lines_after 1 1 (NothingOut before.world c.args.system)
+    subst (Found g.V.Volumes.disk before lines after lines_after 2 (NothingAt before.world c.args.system)) (sym c.joined.ensures)
+    (found-on g.V.Volumes.disk before between after lines lines_after lines_after 1 1 (NothingOut before.world c.args.system)
     (λ (k : KeptOf ModelRules DocumentTables g.row.V.Denot). NothingIn k.world c.args.system) c.in_ok-shipped.shipped c.in_ok-executed.executed
-    (shipped-found g.V.Volumes.faults before between lines lines_after c.args.system c.in_ok-shipped.shipped c.in_ok-shipped.ensures)
-    (executed-found g.V.Volumes.faults between after lines_after c.args.system c.in_ok-executed.executed c.in_ok-executed.ensures))
+    (shipped-found g.V.Volumes.disk before between lines lines_after c.args.system c.in_ok-shipped.shipped c.in_ok-shipped.ensures)
+    (executed-found g.V.Volumes.disk between after lines_after c.args.system c.in_ok-executed.executed c.in_ok-executed.ensures))
 
 pub returns-clause-claims : goal.returns-clause-claims
 returns-clause-claims g c =
@@ -45,11 +45,11 @@ returns-clause-claims g c =
     let after = c.execute_next.new.landscape in
     let lines = c.args.wires.now in
     let lines_after = c.ship_next.new.wires in
-    claims-on g.V.Volumes.faults is_work is_work true before between after
-    (found-went g.V.Volumes.faults before between lines lines_after 1 (NothingOut before.world c.args.system) c.in_ok-shipped.shipped
-    (shipped-found g.V.Volumes.faults before between lines lines_after c.args.system c.in_ok-shipped.shipped c.in_ok-shipped.ensures))
-    (found-went g.V.Volumes.faults between after lines_after lines_after 1 (NothingIn between.world c.args.system) c.in_ok-executed.executed
-    (executed-found g.V.Volumes.faults between after lines_after c.args.system c.in_ok-executed.executed c.in_ok-executed.ensures))
+    claims-on g.V.Volumes.disk is_work is_work true before between after
+    (found-went g.V.Volumes.disk before between lines lines_after 1 (NothingOut before.world c.args.system) c.in_ok-shipped.shipped
+    (shipped-found g.V.Volumes.disk before between lines lines_after c.args.system c.in_ok-shipped.shipped c.in_ok-shipped.ensures))
+    (found-went g.V.Volumes.disk between after lines_after lines_after 1 (NothingIn between.world c.args.system) c.in_ok-executed.executed
+    (executed-found g.V.Volumes.disk between after lines_after c.args.system c.in_ok-executed.executed c.in_ok-executed.ensures))
     before.world.claims
-    (shipped-claims g.V.Volumes.faults before between lines lines_after c.args.system c.in_ok-shipped.shipped c.in_ok-shipped.ensures)
-    (executed-claims g.V.Volumes.faults between after c.args.system c.in_ok-executed.executed c.in_ok-executed.ensures)
+    (shipped-claims g.V.Volumes.disk before between lines lines_after c.args.system c.in_ok-shipped.shipped c.in_ok-shipped.ensures)
+    (executed-claims g.V.Volumes.disk between after c.args.system c.in_ok-executed.executed c.in_ok-executed.ensures)

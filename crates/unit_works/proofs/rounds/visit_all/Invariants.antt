@@ -7,5 +7,5 @@ use Rattle.unit_works.proofs.rounds.visit_all.Given as goal
 -- what was found at the systems so far; no claim went unless a system fell
 abbrev pub invariant-loop-number : goal.invariant-loop-number
 invariant-loop-number g l =
-    Found g.V.Volumes.faults l.fn.landscape l.fn.wires l.landscape l.wires (2 * l.number) (NothingTo l.fn.landscape.world l.number) l.found
+    Found g.V.Volumes.disk l.fn.landscape l.fn.wires l.landscape l.wires (2 * l.number) (NothingTo l.fn.landscape.world l.number) l.found
     × AreOrGone l.fn.landscape.world l.landscape.world l.fn.landscape.world.claims

@@ -18,7 +18,7 @@ returns-in_err-write_synced-clause-any_moment g c = λ told log s.
     let old = c.args.vols.now in
     let mid = c.write_synced.new.vols in
     let block = c.deref.ensures.value ∙ c.in_ok-block.ensures in
-    weaker V.moment V.images_since old mid journal.volume _ _ (first_before V.volume old mid mid journal log c.args.body.now _ s block)
+    weaker V.disk old mid journal.volume _ _ (first_before V.disk old mid mid journal log c.args.body.now _ s block)
     (c.write_synced.ensures.any_moment told s.durable)
 
 -- the second leaves it with the body or without
@@ -32,12 +32,12 @@ returns-in_err-write_synced-2-clause-any_moment g c = λ told log s.
     let block = c.deref.ensures.value ∙ c.in_ok-block.ensures in
     let wrote = c.in_ok-write_synced.ensures.written told in
     let fits : journal.gate + 5 + length c.args.body.now < most_bytes = omega arith in
-    let first = weaker V.moment V.images_since old mid journal.volume _ _ (first_before V.volume old mid new journal log c.args.body.now _ s block)
+    let first = weaker V.disk old mid journal.volume _ _ (first_before V.disk old mid new journal log c.args.body.now _ s block)
     (c.write_synced.ensures.any_moment told s.durable) in
-    let durable = mid_durable V.volume old mid new journal log c.args.body.now _ s block wrote c.requires.body fits in
-    joined V.moment V.images_since old mid new journal.volume _ first
-    (weaker V.moment V.images_since mid new journal.volume _ _
-    (second_torn V.volume old mid new journal log c.args.body.now _ s block wrote c.requires.body fits) (c.write_synced-2.ensures.any_moment told durable))
+    let durable = mid_durable V.disk old mid new journal log c.args.body.now _ s block wrote c.requires.body fits in
+    joined V.disk old mid new journal.volume _ first
+    (weaker V.disk mid new journal.volume _ _
+    (second_torn V.disk old mid new journal log c.args.body.now _ s block wrote c.requires.body fits) (c.write_synced-2.ensures.any_moment told durable))
 
 pub returns-in_err-write_synced-2-clause-no_memory : goal.returns-in_err-write_synced-2-clause-no_memory
 returns-in_err-write_synced-2-clause-no_memory g c = λ told log s no_memory.
@@ -45,7 +45,7 @@ returns-in_err-write_synced-2-clause-no_memory g c = λ told log s no_memory.
     let block = c.deref.ensures.value ∙ c.in_ok-block.ensures in
     let wrote = c.in_ok-write_synced.ensures.written told in
     let refused : IsErrOf c.write_synced-2.result OutOfMemory = search rules in
-    still_settled V.volume c.args.vols.now c.write_synced.new.vols c.write_synced-2.new.vols c.args.self.now log c.args.body.now _ s block wrote
+    still_settled V.disk c.args.vols.now c.write_synced.new.vols c.write_synced-2.new.vols c.args.self.now log c.args.body.now _ s block wrote
     (c.write_synced-2.ensures.no_memory told refused)
 
 pub returns-clause-any_moment : goal.returns-clause-any_moment
@@ -58,12 +58,12 @@ returns-clause-any_moment g c = λ told log s.
     let block = c.deref.ensures.value ∙ c.in_ok-block.ensures in
     let wrote = c.in_ok-write_synced.ensures.written told in
     let fits : journal.gate + 5 + length c.args.body.now < most_bytes = omega arith in
-    let first = weaker V.moment V.images_since old mid journal.volume _ _ (first_before V.volume old mid new journal log c.args.body.now _ s block)
+    let first = weaker V.disk old mid journal.volume _ _ (first_before V.disk old mid new journal log c.args.body.now _ s block)
     (c.write_synced.ensures.any_moment told s.durable) in
-    let durable = mid_durable V.volume old mid new journal log c.args.body.now _ s block wrote c.requires.body fits in
-    joined V.moment V.images_since old mid new journal.volume _ first
-    (weaker V.moment V.images_since mid new journal.volume _ _
-    (second_torn V.volume old mid new journal log c.args.body.now _ s block wrote c.requires.body fits) (c.write_synced-2.ensures.any_moment told durable))
+    let durable = mid_durable V.disk old mid new journal log c.args.body.now _ s block wrote c.requires.body fits in
+    joined V.disk old mid new journal.volume _ first
+    (weaker V.disk mid new journal.volume _ _
+    (second_torn V.disk old mid new journal log c.args.body.now _ s block wrote c.requires.body fits) (c.write_synced-2.ensures.any_moment told durable))
 
 pub returns-clause-added : goal.returns-clause-added
 returns-clause-added g c = λ told log s.
@@ -72,7 +72,7 @@ returns-clause-added g c = λ told log s.
     let block = c.deref.ensures.value ∙ c.in_ok-block.ensures in
     let wrote = c.in_ok-write_synced.ensures.written told in
     let fits : journal.gate + 5 + length c.args.body.now < most_bytes = omega arith in
-    added V.volume c.args.vols.now c.write_synced.new.vols c.write_synced-2.new.vols journal log c.args.body.now _ s block wrote c.requires.body fits _ refl
+    added V.disk c.args.vols.now c.write_synced.new.vols c.write_synced-2.new.vols journal log c.args.body.now _ s block wrote c.requires.body fits _ refl
     refl (c.in_ok-write_synced-2.ensures.written told)
 
 -- ---- what a read gives
@@ -80,7 +80,7 @@ returns-clause-added g c = λ told log s.
 pub returns-in_err-block-clause-leaves : goal.returns-in_err-block-clause-leaves
 returns-in_err-block-clause-leaves g c = λ told.
     let p = err_from_is_err_and c.from_residual.result c.from_residual.ensures.1 in
-    rw p.1 (appended-none (g.V.Volumes.volume c.args.vols.now c.args.self.now.volume).contents c.args.self.now.gate c.args.body.now p.0 p.2)
+    rw p.1 (appended-none (g.V.Volumes.disk.volume c.args.vols.now c.args.self.now.volume).contents c.args.self.now.gate c.args.body.now p.0 p.2)
 
 pub returns-in_err-write_synced-clause-leaves : goal.returns-in_err-write_synced-clause-leaves
 returns-in_err-write_synced-clause-leaves g c = λ told.
@@ -88,7 +88,7 @@ returns-in_err-write_synced-clause-leaves g c = λ told.
     let p = err_from_is_err_and c.from_residual-in_err-write_synced.result c.from_residual-in_err-write_synced.ensures.1 in
     let n = c.args.self.now.volume in
     let block = c.deref.ensures.value ∙ c.in_ok-block.ensures in
-    rw p.1 (appended-first (V.volume c.args.vols.now n) (V.volume c.write_synced.new.vols n) c.args.self.now.gate c.args.body.now _
+    rw p.1 (appended-first (V.disk.volume c.args.vols.now n) (V.disk.volume c.write_synced.new.vols n) c.args.self.now.gate c.args.body.now _
     c.in_err-write_synced.field-0.0 p.0 block p.2 (c.write_synced.ensures.torn told)
     (λ is. c.write_synced.ensures.no_memory told (c.in_err-write_synced.was ∙ ap Err is)))
 
@@ -97,11 +97,11 @@ returns-in_err-write_synced-2-clause-leaves g c = λ told.
     let V = g.V.Volumes in
     let p = err_from_is_err_and c.from_residual-in_err-write_synced-2.result c.from_residual-in_err-write_synced-2.ensures.1 in
     let n = c.args.self.now.volume in
-    let old = (V.volume c.args.vols.now n).contents in
+    let old = (V.disk.volume c.args.vols.now n).contents in
     let block = c.deref.ensures.value ∙ c.in_ok-block.ensures in
     let wrote = ap (λ (v : Volume). v.contents) (c.in_ok-write_synced.ensures.written told)
     ∙ ap (λ (b : List ℕ). overwritten old (c.args.self.now.gate + 1) b) block in
-    rw p.1 (appended-second old (V.volume c.write_synced.new.vols n) (V.volume c.write_synced-2.new.vols n) c.args.self.now.gate c.args.body.now
+    rw p.1 (appended-second old (V.disk.volume c.write_synced.new.vols n) (V.disk.volume c.write_synced-2.new.vols n) c.args.self.now.gate c.args.body.now
     c.in_err-write_synced-2.field-0.0 p.0 wrote p.2 (c.write_synced-2.ensures.torn told)
     (λ is. c.write_synced-2.ensures.no_memory told (c.in_err-write_synced-2.was ∙ ap Err is)))
 
@@ -110,7 +110,7 @@ returns-clause-leaves g c = λ told.
     let V = g.V.Volumes in
     let n = c.args.self.now.volume in
     let gate = c.args.self.now.gate in
-    let old = (V.volume c.args.vols.now n).contents in
+    let old = (V.disk.volume c.args.vols.now n).contents in
     let block = c.deref.ensures.value ∙ c.in_ok-block.ensures in
     let wrote = ap (λ (v : Volume). v.contents) (c.in_ok-write_synced.ensures.written told) ∙ ap (λ (b : List ℕ). overwritten old (gate + 1) b) block in
     let settled = c.requires.settled told in

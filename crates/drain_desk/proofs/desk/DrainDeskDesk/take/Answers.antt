@@ -7,10 +7,10 @@ use Rattle.drain_desk.proofs.desk.DrainDeskDesk.take.Goals as goal
 pub invariant_of-result : goal.invariant_of-result
 invariant_of-result g c =
     let began = c.self.inside.origin in
-    let going = keeps-going g.V.Volumes.faults began.landscape.value c.self.inside.parts.landscape began.wires.value c.self.inside.parts.wires
+    let going = keeps-going g.V.Volumes.disk began.landscape.value c.self.inside.parts.landscape began.wires.value c.self.inside.parts.wires
     c.self.inside.parts.finished
     c.self.inside.parts.is_short c.if-self.false c.self.invariant in
-    work-made g.V.Volumes.faults began c.self.inside.parts.landscape c.claim_any.new.landscape c.self.inside.parts.wires c.self.inside.parts.finished
+    work-made g.V.Volumes.disk began c.self.inside.parts.landscape c.claim_any.new.landscape c.self.inside.parts.wires c.self.inside.parts.finished
     c.in-Ok-Some.offer
     c.of.result.value c.of.ensures going c.in-Ok-Some.ensures.claims
     (subst (λ found. IfSome found (IsOffer c.claim_any.new.landscape.world)) c.in-Ok-Some.field-0-is c.in-Ok-Some.ensures.offer)
@@ -18,20 +18,20 @@ invariant_of-result g c =
 pub invariant_of-self : goal.invariant_of-self
 invariant_of-self g c =
     let began = c.self.inside.origin in
-    let going = keeps-going g.V.Volumes.faults began.landscape.value c.self.inside.parts.landscape began.wires.value c.self.inside.parts.wires
+    let going = keeps-going g.V.Volumes.disk began.landscape.value c.self.inside.parts.landscape began.wires.value c.self.inside.parts.wires
     c.self.inside.parts.finished
     c.self.inside.parts.is_short c.if-self.false c.self.invariant in
-    going-keeps g.V.Volumes.faults began.landscape.value c.claim_any.new.landscape began.wires.value c.self.inside.parts.wires c.self.inside.parts.finished
+    going-keeps g.V.Volumes.disk began.landscape.value c.claim_any.new.landscape began.wires.value c.self.inside.parts.wires c.self.inside.parts.finished
     c.self.inside.parts.is_short c.if-self.false
-    (going-claimed g.V.Volumes.faults began.landscape.value c.self.inside.parts.landscape c.claim_any.new.landscape began.wires.value c.self.inside.parts.wires
+    (going-claimed g.V.Volumes.disk began.landscape.value c.self.inside.parts.landscape c.claim_any.new.landscape began.wires.value c.self.inside.parts.wires
     c.self.inside.parts.finished going c.in-Ok-Some.ensures.claims)
 
 pub invariant_of-self-in-Err : goal.invariant_of-self-in-Err
 invariant_of-self-in-Err g c =
     let began = c.self.inside.origin in
     let claims = c.in-Err.ensures.claims in
-    let going = keeps-going g.V.Volumes.faults began.landscape.value c.self.inside.parts.landscape began.wires.value c.self.inside.parts.wires
+    let going = keeps-going g.V.Volumes.disk began.landscape.value c.self.inside.parts.landscape began.wires.value c.self.inside.parts.wires
     c.self.inside.parts.finished
     c.self.inside.parts.is_short c.if-self.false c.self.invariant in
-    going-short g.V.Volumes.faults began.landscape.value c.self.inside.parts.landscape c.claim_any.new.landscape began.wires.value c.self.inside.parts.wires
+    going-short g.V.Volumes.disk began.landscape.value c.self.inside.parts.landscape c.claim_any.new.landscape began.wires.value c.self.inside.parts.wires
     c.self.inside.parts.finished going claims.went

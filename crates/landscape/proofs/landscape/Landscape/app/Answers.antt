@@ -6,6 +6,6 @@ use Rattle.landscape.proofs.landscape.Landscape.app.Goals as goal
 
 pub returns-in-Err-clause-disk : goal.returns-in-Err-clause-disk
 returns-in-Err-clause-disk g c =
-    disk-asked g.V.Volumes.told g.V.Volumes.volume g.V.Volumes.moment g.V.Volumes.images_since c.args.self.now c.operate.new.self c.args.system is_applications
+    disk-asked g.V.Volumes.disk c.args.self.now c.operate.new.self c.args.system is_applications
     (asked_at c.args.self.now.world c.args.system (λ log. asked_app log c.args.doc.0)) c.judged_app-judged.result c.judged_app-judged.ensures
     c.operate.ensures.disk

@@ -11,6 +11,7 @@ use Rattle.document_state.specs.declared.document_tables.DocumentTables.{Documen
 use Rattle.document_state.specs.declared.model_rules.ModelRules.{ModelRules}
 use Rattle.landscape.proofs.BegunLemmas.{begun-appends}
 use Rattle.landscape.proofs.CarriedLemmas.{commit-commits}
+use Rattle.landscape.proofs.SoundLemmas.{sound-event, sound-none}
 use Rattle.landscape.proofs.landscape.Landscape.commit_added.Goals as goal
 
 pub commit-requires-clause-commits : goal.commit-requires-clause-commits
@@ -25,5 +26,15 @@ commit-requires-clause-commits g c =
 
 pub invariant_of-self : goal.invariant_of-self
 invariant_of-self g c =
-    begun-appends g.V.Volumes.faults c.self.inside.units c.commit.new.self c.world.ensures.safe c.self.invariant (event.Commit c.args.system c.args.next)
+    begun-appends g.V.Volumes.disk c.self.inside.units c.commit.new.self c.world.ensures.safe c.self.invariant (event.Commit c.args.system c.args.next)
     (at c.args.system c.args.next) c.commit.result c.commit.ensures.ends
+
+pub returns-in-Err-clause-sound : goal.returns-in-Err-clause-sound
+returns-in-Err-clause-sound g c =
+    sound-none g.V.Volumes.disk g.met.V.Volumes.only_now c.self.inside.units c.args.self.now c.self.view_is c.world.ensures.safe c.world.ensures.kept.on_volumes
+
+pub returns-in-Ok-clause-sound : goal.returns-in-Ok-clause-sound
+returns-in-Ok-clause-sound g c =
+    sound-event g.V.Volumes.disk g.met.V.Volumes.only_now c.self.inside.units c.args.self.now c.self.view_is c.world.ensures.safe
+    c.world.ensures.kept.on_volumes
+    c.commit.new.self (event.Commit c.args.system c.args.next) c.commit.ensures.disk

@@ -1,7 +1,15 @@
 use Rattle.landscape.proofs.BegunLemmas.{begun-confirmed}
+use Rattle.trfc_protocol.specs.declared.event.Event.TheVariants as event
+use Rattle.landscape.proofs.SoundLemmas.{sound-event}
 use Rattle.landscape.proofs.landscape.Landscape.confirm.Goals as goal
 
 pub invariant_of-self : goal.invariant_of-self
 invariant_of-self g c =
-    begun-confirmed g.V.Volumes.faults c.self.inside.units c.confirm.new.self c.world.ensures.safe c.self.invariant c.args.tid c.confirm.result
+    begun-confirmed g.V.Volumes.disk c.self.inside.units c.confirm.new.self c.world.ensures.safe c.self.invariant c.args.tid c.confirm.result
     c.confirm.ensures.event c.confirm.ensures.short
+
+pub returns-clause-sound : goal.returns-clause-sound
+returns-clause-sound g c =
+    sound-event g.V.Volumes.disk g.met.V.Volumes.only_now c.self.inside.units c.args.self.now c.self.view_is c.world.ensures.safe
+    c.world.ensures.kept.on_volumes
+    c.confirm.new.self (event.Confirm c.args.tid) c.confirm.ensures.disk

@@ -1,7 +1,14 @@
 use Rattle.landscape.proofs.BegunLemmas.{begun-crashed}
+use Rattle.landscape.proofs.SoundLemmas.{sound-still}
 use Rattle.landscape.proofs.landscape.Landscape.crash.Goals as goal
 
 pub invariant_of-self : goal.invariant_of-self
 invariant_of-self g c =
-    begun-crashed g.V.Volumes.faults c.self.inside.units c.crash.new.self c.world.ensures.safe c.self.invariant c.args.system c.crash.result
+    begun-crashed g.V.Volumes.disk c.self.inside.units c.crash.new.self c.world.ensures.safe c.self.invariant c.args.system c.crash.result
     c.crash.ensures.event c.crash.ensures.same
+
+pub returns-clause-sound : goal.returns-clause-sound
+returns-clause-sound g c =
+    sound-still g.V.Volumes.disk g.met.V.Volumes.only_now c.self.inside.units c.args.self.now c.self.view_is c.world.ensures.safe
+    c.world.ensures.kept.on_volumes
+    c.crash.new.self c.crash.ensures.volumes.vols

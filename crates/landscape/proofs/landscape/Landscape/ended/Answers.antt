@@ -1,7 +1,16 @@
 use Rattle.landscape.proofs.BegunLemmas.{begun-closed}
+use Rattle.trfc_protocol.specs.declared.event.Event.TheVariants as event
+use Rattle.trfc_protocol.specs.declared.event.ReplyTo.TheVariants.{Forgotten}
+use Rattle.landscape.proofs.SoundLemmas.{sound-event}
 use Rattle.landscape.proofs.landscape.Landscape.ended.Goals as goal
 
 pub invariant_of-self : goal.invariant_of-self
 invariant_of-self g c =
-    begun-closed g.V.Volumes.faults c.self.inside.units c.ended.new.self c.world.ensures.safe c.self.invariant c.args.tid c.ended.result c.ended.ensures.event
+    begun-closed g.V.Volumes.disk c.self.inside.units c.ended.new.self c.world.ensures.safe c.self.invariant c.args.tid c.ended.result c.ended.ensures.event
     c.ended.ensures.short
+
+pub returns-clause-sound : goal.returns-clause-sound
+returns-clause-sound g c =
+    sound-event g.V.Volumes.disk g.met.V.Volumes.only_now c.self.inside.units c.args.self.now c.self.view_is c.world.ensures.safe
+    c.world.ensures.kept.on_volumes
+    c.ended.new.self (event.Reply (Forgotten c.args.tid)) c.ended.ensures.disk

@@ -16,11 +16,12 @@ use Rattle.landscape.specs.Begun.{AreBegun}
 use Rattle.landscape.specs.Working.{IsMadeFor}
 use Rattle.landscape.proofs.BegunLemmas.{meaning, is_lawful, begun-finished}
 use Rattle.landscape.proofs.WorkingLemmas.{finish-goes, finish-offered}
+use Rattle.landscape.proofs.SoundLemmas.{sound-event, sound-none}
 use Rattle.landscape.proofs.landscape.Landscape.finish.Goals as goal
 
 pub returns-in_default-clause-disk : goal.returns-in_default-clause-disk
 returns-in_default-clause-disk g c =
-    disk-seen g.V.Volumes.told g.V.Volumes.volume g.V.Volumes.moment g.V.Volumes.images_since g.met.V.Volumes.only_now
+    disk-seen g.V.Volumes.disk g.met.V.Volumes.only_now
     meaning is_lawful c.self.inside.units c.args.self.now c.self.view_is c.world.ensures.safe c.world.ensures.kept.on_volumes
     (λ (world : World ModelRules). finish_event (meaning world.rules) world c.args.claim)
 
@@ -49,11 +50,25 @@ finish-requires-clause-goes g c stands it writes its there =
 
 pub invariant_of-self : goal.invariant_of-self
 invariant_of-self g c =
-    begun-finished g.V.Volumes.faults c.self.inside.units c.finish.new.self c.world.ensures.safe c.self.invariant c.args.claim c.finish.result
+    begun-finished g.V.Volumes.disk c.self.inside.units c.finish.new.self c.world.ensures.safe c.self.invariant c.args.claim c.finish.result
     c.finish.ensures.ends
 
 pub returns-in-Err-clause-disk : goal.returns-in-Err-clause-disk
 returns-in-Err-clause-disk g c =
-    disk-seen g.V.Volumes.told g.V.Volumes.volume g.V.Volumes.moment g.V.Volumes.images_since g.met.V.Volumes.only_now
+    disk-seen g.V.Volumes.disk g.met.V.Volumes.only_now
     meaning is_lawful c.self.inside.units c.args.self.now c.self.view_is c.world.ensures.safe c.world.ensures.kept.on_volumes
     (λ (world : World ModelRules). finish_event (meaning world.rules) world c.args.claim)
+
+pub returns-in_default-clause-sound : goal.returns-in_default-clause-sound
+returns-in_default-clause-sound g c =
+    sound-none g.V.Volumes.disk g.met.V.Volumes.only_now c.self.inside.units c.args.self.now c.self.view_is c.world.ensures.safe c.world.ensures.kept.on_volumes
+
+pub returns-in-Ok-clause-sound : goal.returns-in-Ok-clause-sound
+returns-in-Ok-clause-sound g c =
+    sound-event g.V.Volumes.disk g.met.V.Volumes.only_now c.self.inside.units c.args.self.now c.self.view_is c.world.ensures.safe
+    c.world.ensures.kept.on_volumes
+    c.finish.new.self (finish_event (meaning c.self.inside.units.world.rules) c.self.inside.units.world c.args.claim) c.finish.ensures.disk
+
+pub returns-in-Err-clause-sound : goal.returns-in-Err-clause-sound
+returns-in-Err-clause-sound g c =
+    sound-none g.V.Volumes.disk g.met.V.Volumes.only_now c.self.inside.units c.args.self.now c.self.view_is c.world.ensures.safe c.world.ensures.kept.on_volumes

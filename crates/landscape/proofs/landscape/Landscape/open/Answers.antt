@@ -16,12 +16,12 @@ begun-requires-clause-begun g c =
     a = c.len-systems.ensures in let b = c.as_lists.ensures.same in let d = c.deref.ensures in cc) in
     let text : c.as_slice.result.now ≡ c.args.text = (let a = c.as_slice.ensures in let b = c.text.view_is in cc) in
     let so_far =
-    subst (λ m. AreBegunSoFar g.V.Volumes.told g.V.Volumes.volume g.V.Volumes.moment g.V.Volumes.images_since g.V.Volumes.faults m c.args.text c.args.moment
+    subst (λ m. AreBegunSoFar g.V.Volumes.disk m c.args.text c.args.moment
     c.args.vols m c.in-Ok.kept) many
-    (subst (λ (t : List ℕ). AreBegunSoFar g.V.Volumes.told g.V.Volumes.volume g.V.Volumes.moment g.V.Volumes.images_since g.V.Volumes.faults
+    (subst (λ (t : List ℕ). AreBegunSoFar g.V.Volumes.disk
     c.len-systems.result t c.args.moment c.args.vols c.len-systems.result c.in-Ok.kept) text
     c.in-Ok.ensures) in
-    has-begun g.V.Volumes.told g.V.Volumes.volume g.V.Volumes.moment g.V.Volumes.images_since g.V.Volumes.faults (length (arc_value c.args.model).systems)
+    has-begun g.V.Volumes.disk (length (arc_value c.args.model).systems)
     c.args.text c.args.moment c.args.vols c.in-Ok.kept so_far
 
 pub begun-requires-clause-writable : goal.begun-requires-clause-writable
@@ -33,13 +33,13 @@ new-requires g c =
     a = c.len-systems.ensures in let b = c.as_lists.ensures.same in let d = c.deref.ensures in cc) in
     let text : c.as_slice.result.now ≡ c.args.text = (let a = c.as_slice.ensures in let b = c.text.view_is in cc) in
     let so_far =
-    subst (λ m. AreBegunSoFar g.V.Volumes.told g.V.Volumes.volume g.V.Volumes.moment g.V.Volumes.images_since g.V.Volumes.faults m c.args.text c.args.moment
+    subst (λ m. AreBegunSoFar g.V.Volumes.disk m c.args.text c.args.moment
     c.args.vols m c.in-Ok.kept) many
-    (subst (λ (t : List ℕ). AreBegunSoFar g.V.Volumes.told g.V.Volumes.volume g.V.Volumes.moment g.V.Volumes.images_since g.V.Volumes.faults
+    (subst (λ (t : List ℕ). AreBegunSoFar g.V.Volumes.disk
     c.len-systems.result t c.args.moment c.args.vols c.len-systems.result c.in-Ok.kept) text
     c.in-Ok.ensures) in
     subst (λ (k : KeptOf ModelRules DocumentTables g.row.V.Denot). AreBegun k.world) (sym c.begun.ensures)
-    (are-begun g.V.Volumes.told g.V.Volumes.volume g.V.Volumes.moment g.V.Volumes.images_since g.V.Volumes.faults (length (arc_value c.args.model).systems)
+    (are-begun g.V.Volumes.disk (length (arc_value c.args.model).systems)
     c.args.text c.args.moment c.args.vols c.in-Ok.kept so_far (arc_value c.args.model) c.requires.said refl)
 
 pub returns-in-Ok-clause-opened : goal.returns-in-Ok-clause-opened
@@ -48,11 +48,11 @@ returns-in-Ok-clause-opened g c =
     a = c.len-systems.ensures in let b = c.as_lists.ensures.same in let d = c.deref.ensures in cc) in
     let text : c.as_slice.result.now ≡ c.args.text = (let a = c.as_slice.ensures in let b = c.text.view_is in cc) in
     let so_far =
-    subst (λ m. AreBegunSoFar g.V.Volumes.told g.V.Volumes.volume g.V.Volumes.moment g.V.Volumes.images_since g.V.Volumes.faults m c.args.text c.args.moment
+    subst (λ m. AreBegunSoFar g.V.Volumes.disk m c.args.text c.args.moment
     c.args.vols m c.in-Ok.kept) many
-    (subst (λ (t : List ℕ). AreBegunSoFar g.V.Volumes.told g.V.Volumes.volume g.V.Volumes.moment g.V.Volumes.images_since g.V.Volumes.faults
+    (subst (λ (t : List ℕ). AreBegunSoFar g.V.Volumes.disk
     c.len-systems.result t c.args.moment c.args.vols c.len-systems.result c.in-Ok.kept) text
     c.in-Ok.ensures) in
     subst (HasOpened (length (arc_value c.args.model).systems) c.args.text c.args.moment) (sym (c.new.ensures ∙ c.begun.ensures))
-    (has-opened g.V.Volumes.told g.V.Volumes.volume g.V.Volumes.moment g.V.Volumes.images_since g.V.Volumes.faults (length (arc_value c.args.model).systems)
+    (has-opened g.V.Volumes.disk (length (arc_value c.args.model).systems)
     c.args.text c.args.moment c.args.vols c.in-Ok.kept so_far)

@@ -8,28 +8,37 @@ use Rattle.landscape.specs.Carried.{CarriedAs, DiskAsked, asked_at, operator_eve
 use Rattle.landscape.specs.Operator.{asked_retry}
 use Rattle.landscape.proofs.BegunLemmas.{begun-operated}
 use Rattle.landscape.proofs.OperatorLemmas.{retry-carried, retry-disk}
+use Rattle.trfc_protocol.specs.declared.event.Event.TheVariants as event
+use Rattle.trfc_protocol.specs.declared.event.Action.TheVariants.{Append}
+use Rattle.landscape.proofs.SoundLemmas.{sound-event}
 use Rattle.landscape.proofs.landscape.Landscape.retry.Goals as goal
 
 pub invariant_of-self : goal.invariant_of-self
 invariant_of-self g c =
-    begun-operated g.V.Volumes.faults c.self.inside.units c.retry.new.self c.world.ensures.safe c.self.invariant c.args.system
+    begun-operated g.V.Volumes.disk c.self.inside.units c.retry.new.self c.world.ensures.safe c.self.invariant c.args.system
     (log.Retry c.way_at.result c.args.tid) c.retry.result c.retry.ensures.ends
 
 pub returns-clause-ends : goal.returns-clause-ends
 returns-clause-ends g c =
-    subst (λ (k : KeptOf ModelRules DocumentTables g.row.V.Denot). CarriedAs g.V.Volumes.faults k c.retry.new.self c.args.system (operator_event c.args.system)
+    subst (λ (k : KeptOf ModelRules DocumentTables g.row.V.Denot). CarriedAs g.V.Volumes.disk k c.retry.new.self c.args.system (operator_event c.args.system)
     (asked_at k.world c.args.system (asked_retry k.world.rules.systems c.args.system c.args.tid)) {T = Unit {0}} (λ done. ⊤) c.refused.result) c.self.view_is
-    (subst (CarriedAs g.V.Volumes.faults c.self.inside.units c.retry.new.self c.args.system (operator_event c.args.system)
+    (subst (CarriedAs g.V.Volumes.disk c.self.inside.units c.retry.new.self c.args.system (operator_event c.args.system)
     (asked_at c.self.inside.units.world c.args.system (asked_retry c.self.inside.units.world.rules.systems c.args.system c.args.tid)) {T = Unit {0}}
     (λ done. ⊤))
     (sym c.refused.ensures)
-    (retry-carried g.V.Volumes.faults c.self.inside.units c.retry.new.self c.world.ensures.safe c.args.system c.args.tid c.way_at.result c.way_at.ensures
+    (retry-carried g.V.Volumes.disk c.self.inside.units c.retry.new.self c.world.ensures.safe c.args.system c.args.tid c.way_at.result c.way_at.ensures
     c.retry.result c.retry.ensures.ends))
 
 pub returns-clause-disk : goal.returns-clause-disk
 returns-clause-disk g c =
-    subst (λ (k : KeptOf ModelRules DocumentTables g.row.V.Denot). DiskAsked g.V.Volumes.told g.V.Volumes.volume g.V.Volumes.moment g.V.Volumes.images_since k
+    subst (λ (k : KeptOf ModelRules DocumentTables g.row.V.Denot). DiskAsked g.V.Volumes.disk k
     c.retry.new.self c.args.system
     (asked_at k.world c.args.system (asked_retry k.world.rules.systems c.args.system c.args.tid))) c.self.view_is
-    (retry-disk g.V.Volumes.faults c.self.inside.units c.retry.new.self c.world.ensures.safe c.args.system c.args.tid c.way_at.result c.way_at.ensures
-    g.V.Volumes.told g.V.Volumes.volume g.V.Volumes.moment g.V.Volumes.images_since c.retry.ensures.disk)
+    (retry-disk g.V.Volumes.disk c.self.inside.units c.retry.new.self c.world.ensures.safe c.args.system c.args.tid c.way_at.result c.way_at.ensures
+    c.retry.ensures.disk)
+
+pub returns-clause-sound : goal.returns-clause-sound
+returns-clause-sound g c =
+    sound-event g.V.Volumes.disk g.met.V.Volumes.only_now c.self.inside.units c.args.self.now c.self.view_is c.world.ensures.safe
+    c.world.ensures.kept.on_volumes
+    c.retry.new.self (event.Operator (Append c.args.system (log.Retry c.way_at.result c.args.tid))) c.retry.ensures.disk

@@ -11,7 +11,7 @@ begin_next-requires-clause-empty g c =
 
 pub returns-in-Err : goal.returns-in-Err
 returns-in-Err g c set before start =
-    subst (λ (v : g.row.V.Denot). HasEnded g.V.Volumes.told g.V.Volumes.volume g.V.Volumes.moment g.V.Volumes.images_since g.V.Volumes.faults c.args.systems
+    subst (λ (v : g.row.V.Denot). HasEnded g.V.Volumes.disk c.args.systems
     c.args.text.now set before (record { why = c.in-Err.why; vols = v }))
     (sym c.into_volumes.ensures)
     (c.in-Err.ensures.begun c.args.systems set before c.loop-number-test.true (c.loop-number.invariant.so_far set before start))
@@ -24,7 +24,7 @@ loop-number-preserved g c =
       world = subst (λ k. c.begin_next.new.kept.world ≡ begun_world c.begin_next.new.kept.world.rules (replicate k c.args.text.now) (c.args.systems - k)) more
           (next-begun c.args.systems c.loop-number.number c.args.text.now c.loop-number.kept.world c.loop-number.invariant.world c.loop-number-test.true
           c.begin_next.new.kept.world c.in-Ok.ensures.world);
-      so_far = λ set before start. subst (λ k. AreBegunSoFar g.V.Volumes.told g.V.Volumes.volume g.V.Volumes.moment g.V.Volumes.images_since g.V.Volumes.faults
+      so_far = λ set before start. subst (λ k. AreBegunSoFar g.V.Volumes.disk
           c.args.systems c.args.text.now set before k c.begin_next.new.kept) more
           (c.in-Ok.ensures.begun c.args.systems set before c.loop-number-test.true (c.loop-number.invariant.so_far set before start));
     }
@@ -32,5 +32,5 @@ loop-number-preserved g c =
 pub returns : goal.returns
 returns g c set before start =
     let done : c.loop-number.number ≡ c.args.systems = (let test = c.loop-number-test.false in let end = c.loop-number.auto.number-end in omega arith) in
-    subst (λ k. AreBegunSoFar g.V.Volumes.told g.V.Volumes.volume g.V.Volumes.moment g.V.Volumes.images_since g.V.Volumes.faults c.args.systems c.args.text.now
+    subst (λ k. AreBegunSoFar g.V.Volumes.disk c.args.systems c.args.text.now
     set before k c.loop-number.kept) done (c.loop-number.invariant.so_far set before start)

@@ -7,8 +7,7 @@ use Rattle.landscape.proofs.landscape.opening.begin_all.Given as goal
 abbrev pub invariant-loop-number : goal.invariant-loop-number
 invariant-loop-number g l = record {
   world : l.kept.world ≡ begun_world l.kept.world.rules (replicate l.number l.text) (l.systems - l.number);
-  so_far : (set : Option ℕ) (before : g.row.V.Denot) → AreBegunSoFar g.V.Volumes.told g.V.Volumes.volume g.V.Volumes.moment g.V.Volumes.images_since
-      g.V.Volumes.faults l.systems l.text set before 0 l.fn.kept
-      → AreBegunSoFar g.V.Volumes.told g.V.Volumes.volume g.V.Volumes.moment g.V.Volumes.images_since g.V.Volumes.faults l.systems l.text set before l.number
+  so_far : (set : Option ℕ) (before : g.row.V.Denot) → AreBegunSoFar g.V.Volumes.disk l.systems l.text set before 0 l.fn.kept
+      → AreBegunSoFar g.V.Volumes.disk l.systems l.text set before l.number
       l.kept;
 }

@@ -25,12 +25,12 @@ returns-clause-world g c =
 pub returns-clause-begun : goal.returns-clause-begun
 returns-clause-begun g c many set before less so_far =
     let next : c.in-Some.system ≡ suc c.args.number = (let found = c.in-Some.ensures.found in omega arith) in
-    subst (BeginsNext g.V.Volumes.told g.V.Volumes.volume g.V.Volumes.moment g.V.Volumes.images_since g.V.Volumes.faults many c.args.text.now set before
+    subst (BeginsNext g.V.Volumes.disk many c.args.text.now set before
     (suc c.args.number) c.begin.new.kept) (sym c.begun_as.ensures)
-    (subst (λ (t : List ℕ). AreBegunSoFar g.V.Volumes.told g.V.Volumes.volume g.V.Volumes.moment g.V.Volumes.images_since g.V.Volumes.faults many t set before
+    (subst (λ (t : List ℕ). AreBegunSoFar g.V.Volumes.disk many t set before
     c.args.number c.args.kept.now
-    → BeginsNext g.V.Volumes.told g.V.Volumes.volume g.V.Volumes.moment g.V.Volumes.images_since g.V.Volumes.faults many t set before (suc c.args.number)
+    → BeginsNext g.V.Volumes.disk many t set before (suc c.args.number)
     c.begin.new.kept (begun_of c.begin.result)) c.in-Ok.ensures
-    (λ is. begins-next g.V.Volumes.told g.V.Volumes.volume g.V.Volumes.moment g.V.Volumes.images_since g.V.Volumes.faults many c.in-Ok.text set before
+    (λ is. begins-next g.V.Volumes.disk many c.in-Ok.text set before
     c.args.number c.args.kept.now is less c.in-Some.system next c.begin.new.kept
     c.begin.ensures.any_moment c.begin.ensures.others c.begin.result c.begin.ensures.begun c.begin.ensures.faults) so_far)

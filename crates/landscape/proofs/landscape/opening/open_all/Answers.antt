@@ -10,29 +10,29 @@ open_next-requires g c =
 
 pub returns-in-Err : goal.returns-in-Err
 returns-in-Err g c text =
-    subst (OpensAs g.V.Volumes.told g.V.Volumes.volume g.V.Volumes.moment g.V.Volumes.images_since g.V.Volumes.faults c.args.systems text c.args.moment
+    subst (OpensAs g.V.Volumes.disk c.args.systems text c.args.moment
     c.args.vols (suc c.loop-number._number)) c.in-Err.is
-    (opens-at g.V.Volumes.told g.V.Volumes.volume g.V.Volumes.moment g.V.Volumes.images_since g.V.Volumes.faults c.loop-number.opening c.open_next.result
+    (opens-at g.V.Volumes.disk c.loop-number.opening c.open_next.result
     c.open_next.ensures c.args.systems c.loop-number._number text c.args.moment c.args.vols
     (c.loop-number.invariant text))
 
 pub loop-number-preserved : goal.loop-number-preserved
 loop-number-preserved g c text =
     let more : suc c.loop-number._number ≡ c.loop-number._number + 1 = omega arith in
-    subst (λ k. AreOpened g.V.Volumes.told g.V.Volumes.volume g.V.Volumes.moment g.V.Volumes.images_since g.V.Volumes.faults c.args.systems text c.args.moment
+    subst (λ k. AreOpened g.V.Volumes.disk c.args.systems text c.args.moment
     c.args.vols k c.in-Ok.next) more
-    (subst (OpensAs g.V.Volumes.told g.V.Volumes.volume g.V.Volumes.moment g.V.Volumes.images_since g.V.Volumes.faults c.args.systems text c.args.moment
+    (subst (OpensAs g.V.Volumes.disk c.args.systems text c.args.moment
     c.args.vols (suc c.loop-number._number)) c.in-Ok.is
-    (opens-at g.V.Volumes.told g.V.Volumes.volume g.V.Volumes.moment g.V.Volumes.images_since g.V.Volumes.faults c.loop-number.opening c.open_next.result
+    (opens-at g.V.Volumes.disk c.loop-number.opening c.open_next.result
     c.open_next.ensures c.args.systems c.loop-number._number text c.args.moment c.args.vols
     (c.loop-number.invariant text)))
 
 pub returns : goal.returns
 returns g c text =
     let done : c.loop-number._number ≡ c.args.systems = (let test = c.loop-number-test.false in let end = c.loop-number.auto._number-end in omega arith) in
-    subst (AreBegunSoFar g.V.Volumes.told g.V.Volumes.volume g.V.Volumes.moment g.V.Volumes.images_since g.V.Volumes.faults c.args.systems text c.args.moment
+    subst (AreBegunSoFar g.V.Volumes.disk c.args.systems text c.args.moment
     c.args.vols 0) (sym c.into_kept.ensures.kept)
-    (begins-first g.V.Volumes.told g.V.Volumes.volume g.V.Volumes.moment g.V.Volumes.images_since g.V.Volumes.faults c.args.systems text c.args.moment
+    (begins-first g.V.Volumes.disk c.args.systems text c.args.moment
     c.args.vols c.loop-number.opening
-    (subst (λ k. AreOpened g.V.Volumes.told g.V.Volumes.volume g.V.Volumes.moment g.V.Volumes.images_since g.V.Volumes.faults c.args.systems text c.args.moment
+    (subst (λ k. AreOpened g.V.Volumes.disk c.args.systems text c.args.moment
     c.args.vols k c.loop-number.opening) done (c.loop-number.invariant text)) c.into_kept.ensures.world)

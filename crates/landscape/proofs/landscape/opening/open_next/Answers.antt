@@ -5,8 +5,8 @@ use Rattle.landscape.proofs.landscape.opening.open_next.Goals as goal
 
 pub returns : goal.returns
 returns g c text set before so_far =
-    subst (OpensAs g.V.Volumes.told g.V.Volumes.volume g.V.Volumes.moment g.V.Volumes.images_since g.V.Volumes.faults c.args.opening.world.rules.systems text
+    subst (OpensAs g.V.Volumes.disk c.args.opening.world.rules.systems text
     set before _) (sym c.opened.ensures)
-    (opens-next g.V.Volumes.told g.V.Volumes.volume g.V.Volumes.moment g.V.Volumes.images_since g.V.Volumes.faults c.args.opening.world.rules.systems text set
+    (opens-next g.V.Volumes.disk c.args.opening.world.rules.systems text set
     before _ c.args.opening so_far c.requires.next c.new.result c.system.result c.system.ensures.opened
     c.system.ensures.why c.system.ensures.any_moment c.system.ensures.others c.system.ensures.faults)

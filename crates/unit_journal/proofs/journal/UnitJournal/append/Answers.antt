@@ -16,7 +16,7 @@ returns-in_err-body-clause-any_moment g c = λ told log s.
     let vols = c.args.vols.now in
     let journal = c.args.self.now in
     let entry = entry_with c.args.moment c.args.what.now in
-    unappended V.volume V.moment V.images_since vols journal log entry (λ image left. g.met.V.Volumes.only_now told vols (bodies journal).volume image left) s
+    unappended V.disk vols journal log entry (λ image left. g.met.V.Volumes.only_now told vols (bodies journal).volume image left) s
 
 pub append-requires-clause-body : goal.append-requires-clause-body
 append-requires-clause-body g c = rw (c.deref.ensures.value ∙ c.in_ok-body.ensures.spelled) (entry_spelling-some (entry_with c.args.moment c.args.what.now))
@@ -28,8 +28,8 @@ returns-clause-any_moment g c = λ told log s.
     let new = c.append.new.vols in
     let journal = c.args.self.now in
     let leaves = c.append.ensures.any_moment told (bodies_of log) s.settled in
-    appended V.volume V.moment V.images_since old new journal log (entry_with c.args.moment c.args.what.now) s c.in_ok-body.ensures.has_spelling
-    (subst (λ (body : List ℕ). LeavesOnly V.moment V.images_since old new (bodies journal).volume (bodies_settled.IsBeforeOrAfter (bodies_of log) body))
+    appended V.disk old new journal log (entry_with c.args.moment c.args.what.now) s c.in_ok-body.ensures.has_spelling
+    (subst (λ (body : List ℕ). LeavesOnly V.disk old new (bodies journal).volume (bodies_settled.IsBeforeOrAfter (bodies_of log) body))
     (c.deref.ensures.value ∙ c.in_ok-body.ensures.spelled) leaves)
 
 pub returns-clause-full : goal.returns-clause-full

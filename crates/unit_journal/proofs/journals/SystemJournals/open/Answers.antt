@@ -9,8 +9,8 @@ returns-clause-opened g c =
     let opened = c.in_ok-opened.opened in
     let its = c.in_ok-opened.ensures.opened in
     let entries = entries_of opened.moments opened.log in
-    subst (IsOnDisk g.V.Volumes.told g.V.Volumes.volume c.open_volume.new.vols (count_of c.args.self.now) c.add.new.self) (sym c.in_ok-add.ensures.ok.0)
-    (IsOnDisk-opened g.V.Volumes.told g.V.Volumes.volume c.open_volume.new.vols c.args.self.now c.add.new.self opened.journal opened.moments opened.log entries
+    subst (IsOnDisk g.V.Volumes.disk c.open_volume.new.vols (count_of c.args.self.now) c.add.new.self) (sym c.in_ok-add.ensures.ok.0)
+    (IsOnDisk-opened g.V.Volumes.disk c.open_volume.new.vols c.args.self.now c.add.new.self opened.journal opened.moments opened.log entries
     c.in_ok-add.ensures.ok.1 c.requires.moments its.each refl (subst (λ (n : ℕ). IsOn opened.journal n entries) c.len-place.ensures its.on) its.settled)
 
 pub returns-clause-next : goal.returns-clause-next

@@ -21,19 +21,19 @@ use Rattle.unit_journal.proofs.WriteLemmas.{IsOnDisk-written, IsOnDisk-unwritten
 use Rattle.unit_journal.proofs.journals.SystemJournals.write.Goals as goal
 
 pub returns-in_err-note-clause-unwritten : goal.returns-in_err-note-clause-unwritten
-returns-in_err-note-clause-unwritten g c = λ log disk is.
+returns-in_err-note-clause-unwritten g c = λ log on_disk is.
     let V = g.V.Volumes in
-    subst (λ (moments : List (List (Option ℕ))). IsOnDisk V.told V.volume c.args.vols.now (c.args.system - 1)
+    subst (λ (moments : List (List (Option ℕ))). IsOnDisk V.disk c.args.vols.now (c.args.system - 1)
     (record c.args.self.now { moments = moments }) log)
-    (sym c.in_err-note.ensures.err) disk
+    (sym c.in_err-note.ensures.err) on_disk
 
 pub returns-in_err-note-clause-any_moment : goal.returns-in_err-note-clause-any_moment
-returns-in_err-note-clause-any_moment g c = λ tells log disk.
+returns-in_err-note-clause-any_moment g c = λ tells log on_disk.
     let V = g.V.Volumes in
     let old = c.args.vols.now in
     let place = c.args.system - 1 in
-    started V.moment V.images_since old place _
-    (λ image left. inl (IsOnDisk-stands V.told V.volume old place c.args.self.now log tells disk image (g.met.V.Volumes.only_now tells old place image left)))
+    started V.disk old place _
+    (λ image left. inl (IsOnDisk-stands V.disk old place c.args.self.now log tells on_disk image (g.met.V.Volumes.only_now tells old place image left)))
 
 pub at_mut-requires : goal.at_mut-requires
 at_mut-requires g c =
@@ -56,7 +56,7 @@ take_back-requires g c =
     subst (λ (n : ℕ). k < n) (sym (length-noted all.moments c.note.new.moments k moment c.in_ok-note.ensures.ok)) within
 
 pub returns-in-Ok-clause-written : goal.returns-in-Ok-clause-written
-returns-in-Ok-clause-written g c = λ log disk.
+returns-in-Ok-clause-written g c = λ log on_disk.
     let V = g.V.Volumes in
     let old = c.args.vols.now in
     let all = c.args.self.now in
@@ -71,7 +71,7 @@ returns-in-Ok-clause-written g c = λ log disk.
     let room = within-place all.journals k place up.journal at up.here in
     let now = c.append.new.self in
     let after : SystemJournals = record all { journals = slice_set all.journals k now; moments = c.note.new.moments } in
-    IsOnDisk-written V.told V.volume old place all log was here disk c.append.new.vols after c.args.next.now moment now
+    IsOnDisk-written V.disk old place all log was here on_disk c.append.new.vols after c.args.next.now moment now
     (got-set_at all.journals k place now at room)
     (noted-here all.moments c.note.new.moments k place moment at within c.in_ok-note.ensures.ok)
     c.in-Ok.ensures.spelled (record { volume = c.in-Ok.ensures.moves_on.0; at_end = c.in-Ok.ensures.moves_on.1 }) c.in-Ok.ensures.added
@@ -101,7 +101,7 @@ returns-in-Ok-clause-grown g c =
     ∙ ap (λ (m : Option ℕ). moments_at all place ++ m ∷ []) c.next_moment-moment.ensures
 
 pub returns-in-Err-clause-torn : goal.returns-in-Err-clause-torn
-returns-in-Err-clause-torn g c = λ log disk is.
+returns-in-Err-clause-torn g c = λ log on_disk is.
     let V = g.V.Volumes in
     let old = c.args.vols.now in
     let new = c.append.new.vols in
@@ -119,21 +119,21 @@ returns-in-Err-clause-torn g c = λ log disk is.
     (set-got all.journals k was c.append.new.self c.at_mut.ensures.value c.in-Err.ensures.moves_on)
     (c.take_back.ensures all.moments moment within c.in_ok-note.ensures.ok) refl in
     let entries = entries_at all place log in
-    let settled = settled-here V.told V.volume old place all log was here disk in
+    let settled = settled-here V.disk old place all log was here on_disk in
     let entry = entry_with moment c.args.next.now in
-    let leaves : V.told → LeavesOnly V.moment V.images_since old new place (IsBeforeOrAfter entries entry) =
-    λ tells. subst (λ (n : ℕ). LeavesOnly V.moment V.images_since old new n (IsBeforeOrAfter entries entry))
-    (on-here V.told V.volume old place all log was here disk).volume
+    let leaves : V.disk.told → LeavesOnly V.disk old new place (IsBeforeOrAfter entries entry) =
+    λ tells. subst (λ (n : ℕ). LeavesOnly V.disk old new n (IsBeforeOrAfter entries entry))
+    (on-here V.disk old place all log was here on_disk).volume
     (c.append.ensures.any_moment tells entries (settled tells)) in
     let fault : c.in-Err.fault ≡ AppendFault.Volume = same_Some c.in-Err.fault AppendFault.Volume (ap result_err is) in
     let found : slice_index_or c.keep_rest.new.rests place None ≡ moment =
     ap (λ (i : ℕ). slice_index_or c.keep_rest.new.rests i None) (sym at) ∙ c.keep_rest.ensures.found fault in
-    subst (λ (after : SystemJournals). IsLeftOnDisk V.told V.volume new place after log (Some c.args.next.now)) (sym same)
-    (IsLeft-torn V.told V.volume old place all log was here disk V.moment V.images_since new c.args.next.now moment c.next_moment-moment.ensures
-    (λ tells image later image_is. g.met.V.Volumes.counts_now tells new place (V.moment old) image later image_is) leaves c.keep_rest.new.rests found)
+    subst (λ (after : SystemJournals). IsLeftOnDisk V.disk new place after log (Some c.args.next.now)) (sym same)
+    (IsLeft-torn V.disk old place all log was here on_disk new c.args.next.now moment c.next_moment-moment.ensures
+    (λ tells image later image_is. g.met.V.Volumes.counts_now tells new place (V.disk.moment old) image later image_is) leaves c.keep_rest.new.rests found)
 
 pub returns-in-Err-clause-unwritten : goal.returns-in-Err-clause-unwritten
-returns-in-Err-clause-unwritten g c = λ log disk is.
+returns-in-Err-clause-unwritten g c = λ log on_disk is.
     let V = g.V.Volumes in
     let old = c.args.vols.now in
     let new = c.append.new.vols in
@@ -154,14 +154,14 @@ returns-in-Err-clause-unwritten g c = λ log disk is.
     let fault : c.in-Err.fault ≡ AppendFault.OutOfMemory = same_Some c.in-Err.fault AppendFault.OutOfMemory (ap result_err is) in
     let all_same = same ∙ left-unless all place k moment at c.next_moment-moment.ensures c.in-Err.fault fault in
     let entries = entries_at all place log in
-    let settled = settled-here V.told V.volume old place all log was here disk in
-    subst (λ (after : SystemJournals). IsOnDisk V.told V.volume new place after log) (sym all_same)
-    (IsOnDisk-unwritten V.told V.volume old place all log was here disk new
-    (λ tells. subst (λ (journal : UnitJournal). IsSettled V.volume new journal entries) c.in-Err.ensures.moves_on
+    let settled = settled-here V.disk old place all log was here on_disk in
+    subst (λ (after : SystemJournals). IsOnDisk V.disk new place after log) (sym all_same)
+    (IsOnDisk-unwritten V.disk old place all log was here on_disk new
+    (λ tells. subst (λ (journal : UnitJournal). IsSettled V.disk new journal entries) c.in-Err.ensures.moves_on
     (c.in-Err.ensures.no_memory tells entries (settled tells) is)))
 
 pub returns-in-Err-clause-full : goal.returns-in-Err-clause-full
-returns-in-Err-clause-full g c = λ log disk length not_memory.
+returns-in-Err-clause-full g c = λ log on_disk length not_memory.
     let V = g.V.Volumes in
     let old = c.args.vols.now in
     let all = c.args.self.now in
@@ -172,7 +172,7 @@ returns-in-Err-clause-full g c = λ log disk length not_memory.
     let was = c.at_mut.result.now in
     let here : slice_get all.journals place ≡ Some was = ap (λ (i : ℕ). slice_get all.journals i) (sym at) ∙ c.at_mut.ensures.value in
     full-here was (entries_at all place log) moment (next_moment all place) c.args.next.now length
-    (on-here V.told V.volume old place all log was here disk).at_end c.next_moment-moment.ensures (c.in-Err.ensures.full length not_memory)
+    (on-here V.disk old place all log was here on_disk).at_end c.next_moment-moment.ensures (c.in-Err.ensures.full length not_memory)
 
 pub returns-in-Err-clause-left : goal.returns-in-Err-clause-left
 returns-in-Err-clause-left g c =

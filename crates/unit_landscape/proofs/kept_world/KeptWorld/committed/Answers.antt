@@ -15,7 +15,7 @@ overflow_add-all g c =
     let place = c.loop-its.its-index in
     let committed : ℕ → ℕ = λ system. length (committed_by rules kept.world system) in
     let room = subst (λ (k : KeptOf g.row.R.Denot g.row.A.Denot g.row.V.Denot).
-    IsRoom g.R.Rules.meaning g.A.Application.stands g.V.Volumes.told g.V.Volumes.volume k c.self.inside.counted) c.self.view_is c.self.invariant in
+    IsRoom g.R.Rules.meaning g.A.Application.stands g.V.Volumes.disk k c.self.inside.counted) c.self.view_is c.self.invariant in
     let tables : c.as_slice-its-items.result.now ≡ kept.tables =
     c.as_slice-its-items.ensures ∙ ap (λ (k : KeptOf g.row.R.Denot g.row.A.Denot g.row.V.Denot). k.tables) c.self.view_is in
     let got = ap (λ t. slice_get t place) (sym tables)
@@ -38,7 +38,7 @@ loop-its-preserved g c =
     let place = c.loop-its.its-index in
     let committed : ℕ → ℕ = λ system. length (committed_by rules kept.world system) in
     let room = subst (λ (k : KeptOf g.row.R.Denot g.row.A.Denot g.row.V.Denot).
-    IsRoom g.R.Rules.meaning g.A.Application.stands g.V.Volumes.told g.V.Volumes.volume k c.self.inside.counted) c.self.view_is c.self.invariant in
+    IsRoom g.R.Rules.meaning g.A.Application.stands g.V.Volumes.disk k c.self.inside.counted) c.self.view_is c.self.invariant in
     let tables : c.as_slice-its-items.result.now ≡ kept.tables =
     c.as_slice-its-items.ensures ∙ ap (λ (k : KeptOf g.row.R.Denot g.row.A.Denot g.row.V.Denot). k.tables) c.self.view_is in
     let got = ap (λ t. slice_get t place) (sym tables)
@@ -58,7 +58,7 @@ returns g c =
     let place = c.loop-its.its-index in
     let committed : ℕ → ℕ = λ system. length (committed_by rules kept.world system) in
     let room = subst (λ (k : KeptOf g.row.R.Denot g.row.A.Denot g.row.V.Denot).
-    IsRoom g.R.Rules.meaning g.A.Application.stands g.V.Volumes.told g.V.Volumes.volume k c.self.inside.counted) c.self.view_is c.self.invariant in
+    IsRoom g.R.Rules.meaning g.A.Application.stands g.V.Volumes.disk k c.self.inside.counted) c.self.view_is c.self.invariant in
     let tables : c.as_slice-its-items.result.now ≡ kept.tables =
     c.as_slice-its-items.ensures ∙ ap (λ (k : KeptOf g.row.R.Denot g.row.A.Denot g.row.V.Denot). k.tables) c.self.view_is in
     let done : place ≡ length c.as_slice-its-items.result.now =

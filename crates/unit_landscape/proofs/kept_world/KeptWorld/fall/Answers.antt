@@ -18,19 +18,18 @@ fall-requires-clause-in_step g c =
 
 pub invariant_of-self : goal.invariant_of-self
 invariant_of-self g c =
-    let told = g.V.Volumes.told in
-    let volume = g.V.Volumes.volume in
+    let disk = g.V.Volumes.disk in
     let world = c.self.inside.both.world in
     let journals = c.self.inside.journals in
     let vols = c.self.inside.vols in
     let up : is_up world c.args.system ≡ true = ap (λ k. is_up k.world c.args.system) c.self.view_is ∙ c.requires.up in
-    let disk = on_disk-up told volume vols world journals c.args.system up c.self.invariant.on_volumes in
+    let on_disk = on_disk-up disk vols world journals c.args.system up c.self.invariant.on_volumes in
     record {
       in_step = c.fall.ensures.in_step;
-      on_volumes = subst (λ w. AreOnVolumes told volume vols w.systems journals) (sym c.fall.ensures.world)
-          (on_volumes-fell told volume vols vols world journals journals c.args.system None up c.self.invariant.on_volumes
-          (OnlyAt-same told volume (c.args.system - 1) journals) (c.self.invariant.on_volumes.order (c.args.system - 1)) (λ other differs tells. refl)
-          (IsLeft-of told volume vols (c.args.system - 1) journals (log_of world c.args.system) None disk));
+      on_volumes = subst (λ w. AreOnVolumes disk vols w.systems journals) (sym c.fall.ensures.world)
+          (on_volumes-fell disk vols vols world journals journals c.args.system None up c.self.invariant.on_volumes
+          (OnlyAt-same disk (c.args.system - 1) journals) (c.self.invariant.on_volumes.order (c.args.system - 1)) (λ other differs tells. refl)
+          (IsLeft-of disk vols (c.args.system - 1) journals (log_of world c.args.system) None on_disk));
       causes = subst (λ n. AreCausesOf c.fall.new.self.world.systems (with_cause c.self.inside.causes n c.args.cause)) (sym c.get.ensures.number)
           (subst (λ w. AreCausesOf w.systems (with_cause c.self.inside.causes c.args.system c.args.cause)) (sym c.fall.ensures.world)
           (causes-fell world c.args.system None c.args.cause c.self.inside.causes up

@@ -31,10 +31,10 @@ pub returns-clause-ends : goal.returns-clause-ends
 returns-clause-ends g c =
     let rules = g.R.Rules.meaning c.args.self.now.world.rules in
     let world = c.args.self.now.world in
-    subst (OperatedAs rules g.V.Volumes.faults c.args.self.now c.record.new.kept c.args.system c.args.next) (sym c.operated.ensures)
-    (operated-as rules g.V.Volumes.faults c.args.self.now c.record.new.kept c.args.system c.args.next c.record.result c.requires.up c.requires.may
+    subst (OperatedAs rules g.V.Volumes.disk c.args.self.now c.record.new.kept c.args.system c.args.next) (sym c.operated.ensures)
+    (operated-as rules g.V.Volumes.disk c.args.self.now c.record.new.kept c.args.system c.args.next c.record.result c.requires.up c.requires.may
     (asked-record rules world c.args.system c.args.next c.requires.up c.requires.may c.requires.kind c.requires.silent)
-    (subst (λ k. EndsAs (g.R.Rules.meaning k.world.rules) g.V.Volumes.faults k c.record.new.kept c.args.system c.args.next None c.record.result) c.self.view_is
+    (subst (λ k. EndsAs (g.R.Rules.meaning k.world.rules) g.V.Volumes.disk k c.record.new.kept c.args.system c.args.next None c.record.result) c.self.view_is
     c.record.ensures.ends
     (event.Operator (Append c.args.system c.args.next))
     (asked-appends rules world c.args.system c.args.next c.requires.up c.requires.may c.requires.kind c.requires.silent)))
@@ -42,10 +42,7 @@ returns-clause-ends g c =
 pub returns-clause-disk : goal.returns-clause-disk
 returns-clause-disk g c =
     let rules = g.R.Rules.meaning c.args.self.now.world.rules in
-    let told = g.V.Volumes.told in
-    let volume = g.V.Volumes.volume in
-    let moment = g.V.Volumes.moment in
-    let images = g.V.Volumes.images_since in
-    disk-some told volume moment images c.args.self.now c.record.new.kept _ (at c.args.system c.args.next)
+    let disk = g.V.Volumes.disk in
+    disk-some disk c.args.self.now c.record.new.kept _ (at c.args.system c.args.next)
     (asked-record rules c.args.self.now.world c.args.system c.args.next c.requires.up c.requires.may c.requires.kind c.requires.silent)
-    (subst (λ k. WritesOnly told volume moment images k c.record.new.kept (at c.args.system c.args.next)) c.self.view_is c.record.ensures.disk)
+    (subst (λ k. WritesOnly disk k c.record.new.kept (at c.args.system c.args.next)) c.self.view_is c.record.ensures.disk)

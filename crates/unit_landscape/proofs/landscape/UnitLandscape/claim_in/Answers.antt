@@ -48,8 +48,8 @@ returns-clause-event g c =
     let claim : InClaim =
     record { number = c.in_ok-number.number; tid = c.in-Some.tid; system = c.args.system; opening = c.world.result.now.falls } in
     subst (λ (k : KeptOf g.row.R.Denot g.row.A.Denot g.row.V.Denot).
-    ClaimedIn (g.R.Rules.meaning k.world.rules) g.V.Volumes.faults k c.claim_next.new.self c.args.system (Some claim))
+    ClaimedIn (g.R.Rules.meaning k.world.rules) g.V.Volumes.disk k c.claim_next.new.self c.args.system (Some claim))
     c.self.view_is
-    (claimed_in (g.R.Rules.meaning world.rules) (g.met.R.Rules.lawful world.rules) g.V.Volumes.faults kept c.claim_next.new.self
+    (claimed_in (g.R.Rules.meaning world.rules) (g.met.R.Rules.lawful world.rules) g.V.Volumes.disk kept c.claim_next.new.self
     (c.self.invariant).safe c.args.system claim first c.in_ok-number.ensures.world refl
     (ap (λ (w : World g.row.R.Denot). w.falls) c.world.ensures.world) c.claim_next.ensures.volumes)

@@ -33,7 +33,7 @@ returns-then-not-is_known-clause-event g c =
 
 pub returns-then-not-is_known-clause-disk : goal.returns-then-not-is_known-clause-disk
 returns-then-not-is_known-clause-disk g c =
-    disk-seen g.V.Volumes.told g.V.Volumes.volume g.V.Volumes.moment g.V.Volumes.images_since g.met.V.Volumes.only_now
+    disk-seen g.V.Volumes.disk g.met.V.Volumes.only_now
     g.R.Rules.meaning g.met.R.Rules.lawful c.self.inside.kept c.args.self.now c.self.view_is c.self.invariant c.world.ensures.kept.on_volumes
     (λ world. event.Confirm c.args.tid)
 

@@ -26,6 +26,6 @@ returns-clause-event g c = λ is.
     let rules = g.R.Rules.meaning c.self.inside.kept.world.rules in
     let up : is_up kept.world c.args.system ≡ true =
     ap (λ (w : World g.row.R.Denot). is_up w c.args.system) (sym c.world.ensures.world) ∙ sym c.is_up.ensures ∙ c.if-not-is_up.false in
-    subst (λ k. Happened (g.R.Rules.meaning k.world.rules) g.V.Volumes.faults k c.fall.new.self (event.Fall c.args.system None)) c.self.view_is
-    (happened-fall rules g.V.Volumes.faults kept c.fall.new.self c.args.system
+    subst (λ k. Happened (g.R.Rules.meaning k.world.rules) g.V.Volumes.disk k c.fall.new.self (event.Fall c.args.system None)) c.self.view_is
+    (happened-fall rules g.V.Volumes.disk kept c.fall.new.self c.args.system
     (c.fall.ensures.world ∙ sym (falls-up rules kept.world c.args.system up)) c.fall.ensures.journals c.fall.ensures.vols c.fall.ensures.causes)

@@ -33,20 +33,20 @@ pub returns-clause-event : goal.returns-clause-event
 returns-clause-event g c =
     let rules = g.R.Rules.meaning c.args.self.now.world.rules in
     let is = subst (λ k. IsLandscape g.R.Rules.meaning k.world) c.self.view_is c.self.invariant in
-    subst (λ r. IfOk r (ClosedAs rules g.V.Volumes.faults c.args.self.now c.append.new.kept c.args.tid)) (sym c.closed.ensures)
-    (closed-as rules (g.met.R.Rules.lawful c.args.self.now.world.rules) g.V.Volumes.faults c.args.self.now c.append.new.kept c.args.tid c.args.sender
+    subst (λ r. IfOk r (ClosedAs rules g.V.Volumes.disk c.args.self.now c.append.new.kept c.args.tid)) (sym c.closed.ensures)
+    (closed-as rules (g.met.R.Rules.lawful c.args.self.now.world.rules) g.V.Volumes.disk c.args.self.now c.append.new.kept c.args.tid c.args.sender
     c.append.result is.safe c.requires
-    (subst (λ k. EndsSo (g.R.Rules.meaning k.world.rules) g.V.Volumes.faults k c.append.new.kept c.args.sender (log.Ended c.args.tid) None c.append.result)
+    (subst (λ k. EndsSo (g.R.Rules.meaning k.world.rules) g.V.Volumes.disk k c.append.new.kept c.args.sender (log.Ended c.args.tid) None c.append.result)
     c.self.view_is c.append.ensures.ends)).0
 
 pub returns-clause-short : goal.returns-clause-short
 returns-clause-short g c =
     let rules = g.R.Rules.meaning c.args.self.now.world.rules in
     let is = subst (λ k. IsLandscape g.R.Rules.meaning k.world) c.self.view_is c.self.invariant in
-    subst (λ r. OnErr r (IsShort rules g.V.Volumes.faults c.args.self.now c.append.new.kept (event.Reply (Forgotten c.args.tid)))) (sym c.closed.ensures)
-    (closed-as rules (g.met.R.Rules.lawful c.args.self.now.world.rules) g.V.Volumes.faults c.args.self.now c.append.new.kept c.args.tid c.args.sender
+    subst (λ r. OnErr r (IsShort rules g.V.Volumes.disk c.args.self.now c.append.new.kept (event.Reply (Forgotten c.args.tid)))) (sym c.closed.ensures)
+    (closed-as rules (g.met.R.Rules.lawful c.args.self.now.world.rules) g.V.Volumes.disk c.args.self.now c.append.new.kept c.args.tid c.args.sender
     c.append.result is.safe c.requires
-    (subst (λ k. EndsSo (g.R.Rules.meaning k.world.rules) g.V.Volumes.faults k c.append.new.kept c.args.sender (log.Ended c.args.tid) None c.append.result)
+    (subst (λ k. EndsSo (g.R.Rules.meaning k.world.rules) g.V.Volumes.disk k c.append.new.kept c.args.sender (log.Ended c.args.tid) None c.append.result)
     c.self.view_is c.append.ensures.ends)).1
 
 pub returns-clause-disk : goal.returns-clause-disk
@@ -54,7 +54,7 @@ returns-clause-disk g c =
     let rules = g.R.Rules.meaning c.args.self.now.world.rules in
     let is = subst (λ k. IsLandscape g.R.Rules.meaning k.world) c.self.view_is c.self.invariant in
     let does = end-appends rules (g.met.R.Rules.lawful c.args.self.now.world.rules) c.args.self.now.world is.safe c.args.tid c.args.sender c.requires in
-    disk-some g.V.Volumes.told g.V.Volumes.volume g.V.Volumes.moment g.V.Volumes.images_since c.args.self.now c.append.new.kept _
+    disk-some g.V.Volumes.disk c.args.self.now c.append.new.kept _
     (at c.args.sender (log.Ended c.args.tid)) does.writes
-    (subst (λ k. WritesOnly g.V.Volumes.told g.V.Volumes.volume g.V.Volumes.moment g.V.Volumes.images_since k c.append.new.kept
+    (subst (λ k. WritesOnly g.V.Volumes.disk k c.append.new.kept
     (at c.args.sender (log.Ended c.args.tid))) c.self.view_is c.append.ensures.disk)

@@ -15,7 +15,7 @@ work_record-requires-clause-found g c = in-found c.args.self.now.world c.args.cl
 
 pub returns-in-Err-clause-disk : goal.returns-in-Err-clause-disk
 returns-in-Err-clause-disk g c =
-    disk-seen g.V.Volumes.told g.V.Volumes.volume g.V.Volumes.moment g.V.Volumes.images_since g.met.V.Volumes.only_now
+    disk-seen g.V.Volumes.disk g.met.V.Volumes.only_now
     g.R.Rules.meaning g.met.R.Rules.lawful c.self.inside.kept c.args.self.now c.self.view_is c.self.invariant c.world.ensures.kept.on_volumes
     (λ world. finish_event (g.R.Rules.meaning world.rules) world c.args.claim)
 
@@ -40,10 +40,10 @@ append-appended-requires-clause-due g c =
 pub returns-clause-ends : goal.returns-clause-ends
 returns-clause-ends g c =
     let rules = g.R.Rules.meaning c.args.self.now.world.rules in
-    let faults = g.V.Volumes.faults in
-    subst (FinishedAs rules faults c.args.self.now c.append-appended.new.kept c.args.claim) (sym c.finished.ensures)
-    (executed-as rules faults c.args.self.now c.append-appended.new.kept c.args.claim c.args.held c.requires.holds c.in-Ok.next c.append-appended.result
-    (subst (λ k. EndsSo (g.R.Rules.meaning k.world.rules) faults k c.append-appended.new.kept c.args.held.system c.in-Ok.next
+    let disk = g.V.Volumes.disk in
+    subst (FinishedAs rules disk c.args.self.now c.append-appended.new.kept c.args.claim) (sym c.finished.ensures)
+    (executed-as rules disk c.args.self.now c.append-appended.new.kept c.args.claim c.args.held c.requires.holds c.in-Ok.next c.append-appended.result
+    (subst (λ k. EndsSo (g.R.Rules.meaning k.world.rules) disk k c.append-appended.new.kept c.args.held.system c.in-Ok.next
     (Some c.args.held.number) c.append-appended.result)
     c.self.view_is c.append-appended.ensures.ends)
     (record { tid = c.args.held.tid }) c.requires.holds.its c.requires.offers c.in-Ok.ensures.appends)
@@ -51,12 +51,9 @@ returns-clause-ends g c =
 pub returns-clause-disk : goal.returns-clause-disk
 returns-clause-disk g c =
     let rules = g.R.Rules.meaning c.args.self.now.world.rules in
-    let told = g.V.Volumes.told in
-    let volume = g.V.Volumes.volume in
-    let moment = g.V.Volumes.moment in
-    let images = g.V.Volumes.images_since in
-    disk-some told volume moment images c.args.self.now c.append-appended.new.kept _ (at c.args.held.system c.in-Ok.next)
+    let disk = g.V.Volumes.disk in
+    disk-some disk c.args.self.now c.append-appended.new.kept _ (at c.args.held.system c.in-Ok.next)
     (ap (λ b. record_of rules c.args.self.now.world (cond b (event.Finish c.args.claim.number) (event.Fail c.args.claim.number))) c.requires.offers
     ∙ executed-record rules c.args.self.now.world c.args.claim c.args.held c.requires.holds c.in-Ok.next c.in-Ok.ensures.appends)
-    (subst (λ k. WritesOnly told volume moment images k c.append-appended.new.kept (at c.args.held.system c.in-Ok.next)) c.self.view_is
+    (subst (λ k. WritesOnly disk k c.append-appended.new.kept (at c.args.held.system c.in-Ok.next)) c.self.view_is
     c.append-appended.ensures.disk)

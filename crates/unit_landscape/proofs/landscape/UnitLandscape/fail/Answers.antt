@@ -33,12 +33,12 @@ pub returns-clause-ends : goal.returns-clause-ends
 returns-clause-ends g c =
     let rules = g.R.Rules.meaning c.args.self.now.world.rules in
     let lawful = g.met.R.Rules.lawful c.args.self.now.world.rules in
-    let faults = g.V.Volumes.faults in
+    let disk = g.V.Volumes.disk in
     let is = subst (λ k. IsLandscape g.R.Rules.meaning k.world) c.self.view_is c.self.invariant in
-    subst (FinishedAs rules faults c.args.self.now c.append-appended.new.kept c.args.claim) (sym c.finished.ensures)
-    (failed-as rules faults c.args.self.now c.append-appended.new.kept c.args.claim c.args.held c.requires.holds
+    subst (FinishedAs rules disk c.args.self.now c.append-appended.new.kept c.args.claim) (sym c.finished.ensures)
+    (failed-as rules disk c.args.self.now c.append-appended.new.kept c.args.claim c.args.held c.requires.holds
     (log.Fail c.args.held.tid) c.append-appended.result
-    (subst (λ k. EndsSo (g.R.Rules.meaning k.world.rules) faults k c.append-appended.new.kept c.args.held.system (log.Fail c.args.held.tid)
+    (subst (λ k. EndsSo (g.R.Rules.meaning k.world.rules) disk k c.append-appended.new.kept c.args.held.system (log.Fail c.args.held.tid)
     (Some c.args.held.number)
     c.append-appended.result) c.self.view_is c.append-appended.ensures.ends)
     c.requires.offers (failing rules lawful c.args.self.now.world is.safe c.args.claim c.args.held c.requires.holds c.requires.offers))
@@ -48,13 +48,10 @@ returns-clause-disk g c =
     let rules = g.R.Rules.meaning c.args.self.now.world.rules in
     let lawful = g.met.R.Rules.lawful c.args.self.now.world.rules in
     let is = subst (λ k. IsLandscape g.R.Rules.meaning k.world) c.self.view_is c.self.invariant in
-    let told = g.V.Volumes.told in
-    let volume = g.V.Volumes.volume in
-    let moment = g.V.Volumes.moment in
-    let images = g.V.Volumes.images_since in
-    disk-some told volume moment images c.args.self.now c.append-appended.new.kept _ (at c.args.held.system (log.Fail c.args.held.tid))
+    let disk = g.V.Volumes.disk in
+    disk-some disk c.args.self.now c.append-appended.new.kept _ (at c.args.held.system (log.Fail c.args.held.tid))
     (ap (λ b. record_of rules c.args.self.now.world (cond b (event.Finish c.args.claim.number) (event.Fail c.args.claim.number))) c.requires.offers
     ∙ failed-record rules c.args.self.now.world c.args.claim c.args.held c.requires.holds (log.Fail c.args.held.tid)
     (failing rules lawful c.args.self.now.world is.safe c.args.claim c.args.held c.requires.holds c.requires.offers))
-    (subst (λ k. WritesOnly told volume moment images k c.append-appended.new.kept (at c.args.held.system (log.Fail c.args.held.tid))) c.self.view_is
+    (subst (λ k. WritesOnly disk k c.append-appended.new.kept (at c.args.held.system (log.Fail c.args.held.tid))) c.self.view_is
     c.append-appended.ensures.disk)

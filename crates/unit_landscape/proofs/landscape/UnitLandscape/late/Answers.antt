@@ -5,15 +5,16 @@ use Rattle.trfc_protocol.specs.Worlds.{is_claimed}
 use Rattle.unit_landscape.specs.Kept.{IsLandscape}
 use Rattle.unit_landscape.specs.Writes.{DiskAs}
 use Rattle.unit_landscape.specs.Late.{late_record, LateAs}
+use Rattle.unit_landscape.proofs.CrashLemmas.{leaves-seen}
 use Rattle.unit_landscape.proofs.LateLemmas.{late_may_arrive}
 use Rattle.unit_landscape.proofs.LateEndsLemmas.{late-still, late-its, late-comes, comes-arrives, arrived-still, not_busy}
 use Rattle.unit_landscape.proofs.landscape.UnitLandscape.late.Goals as goal
 
 pub returns-in-Err-clause-disk : goal.returns-in-Err-clause-disk
 returns-in-Err-clause-disk g c =
-    subst (λ k. DiskAs g.V.Volumes.told g.V.Volumes.volume g.V.Volumes.moment g.V.Volumes.images_since k k
+    subst (λ k. DiskAs g.V.Volumes.disk k k
     (late_record (g.R.Rules.meaning k.world.rules) k.world c.args.tid)) c.self.view_is
-    (late-still g.V.Volumes.told g.V.Volumes.volume g.V.Volumes.moment g.V.Volumes.images_since c.self.inside.kept g.met.V.Volumes.only_now
+    (late-still g.V.Volumes.disk c.self.inside.kept g.met.V.Volumes.only_now
     c.world.ensures.kept.on_volumes (g.R.Rules.meaning c.self.inside.kept.world.rules) c.args.tid)
 
 pub answer_to-requires-clause-may : goal.answer_to-requires-clause-may
@@ -57,7 +58,7 @@ returns-in-New-clause-ends g c =
     let rules = g.R.Rules.meaning c.args.self.now.world.rules in
     let lawful = g.met.R.Rules.lawful c.args.self.now.world.rules in
     let is = subst (λ k. IsLandscape g.R.Rules.meaning k.world) c.self.view_is c.self.invariant in
-    subst (λ t. LateAs rules g.V.Volumes.faults c.args.self.now c.take_late.new.self t c.take_late.result)
+    subst (λ t. LateAs rules g.V.Volumes.disk c.args.self.now c.take_late.new.self t c.take_late.result)
     (late-its rules lawful world is.safe c.args.tid c.in-Ok.unit c.in-Ok.ensures) c.take_late.ensures.ends
 
 pub returns-in-New-clause-disk : goal.returns-in-New-clause-disk
@@ -66,7 +67,7 @@ returns-in-New-clause-disk g c =
     let rules = g.R.Rules.meaning c.args.self.now.world.rules in
     let lawful = g.met.R.Rules.lawful c.args.self.now.world.rules in
     let is = subst (λ k. IsLandscape g.R.Rules.meaning k.world) c.self.view_is c.self.invariant in
-    subst (λ t. DiskAs g.V.Volumes.told g.V.Volumes.volume g.V.Volumes.moment g.V.Volumes.images_since c.args.self.now c.take_late.new.self
+    subst (λ t. DiskAs g.V.Volumes.disk c.args.self.now c.take_late.new.self
     (late_record rules world t))
     (late-its rules lawful world is.safe c.args.tid c.in-Ok.unit c.in-Ok.ensures) c.take_late.ensures.disk
 
@@ -76,7 +77,7 @@ returns-in-Run-clause-ends g c =
     let rules = g.R.Rules.meaning c.args.self.now.world.rules in
     let lawful = g.met.R.Rules.lawful c.args.self.now.world.rules in
     let is = subst (λ k. IsLandscape g.R.Rules.meaning k.world) c.self.view_is c.self.invariant in
-    subst (λ t. LateAs rules g.V.Volumes.faults c.args.self.now c.run_late.new.self t c.run_late.result)
+    subst (λ t. LateAs rules g.V.Volumes.disk c.args.self.now c.run_late.new.self t c.run_late.result)
     (late-its rules lawful world is.safe c.args.tid c.in-Ok.unit c.in-Ok.ensures) c.run_late.ensures.ends
 
 pub returns-in-Run-clause-disk : goal.returns-in-Run-clause-disk
@@ -85,7 +86,7 @@ returns-in-Run-clause-disk g c =
     let rules = g.R.Rules.meaning c.args.self.now.world.rules in
     let lawful = g.met.R.Rules.lawful c.args.self.now.world.rules in
     let is = subst (λ k. IsLandscape g.R.Rules.meaning k.world) c.self.view_is c.self.invariant in
-    subst (λ t. DiskAs g.V.Volumes.told g.V.Volumes.volume g.V.Volumes.moment g.V.Volumes.images_since c.args.self.now c.run_late.new.self
+    subst (λ t. DiskAs g.V.Volumes.disk c.args.self.now c.run_late.new.self
     (late_record rules world t))
     (late-its rules lawful world is.safe c.args.tid c.in-Ok.unit c.in-Ok.ensures) c.run_late.ensures.disk
 
@@ -98,7 +99,7 @@ returns-in-Known-clause-ends g c =
     let given = sym c.answer_to.ensures ∙ c.in-Known.is in
     let arrives = comes-arrives rules lawful world is.safe c.in-Ok.unit answer.Known
     (late-comes rules lawful world is.safe c.args.tid c.in-Ok.unit answer.Known c.in-Ok.ensures given) in
-    (c.in-Ok.unit, c.in-Ok.ensures, ((given, arrived-still rules g.V.Volumes.faults c.args.self.now c.in-Ok.unit answer.Known arrives refl refl), refl))
+    (c.in-Ok.unit, c.in-Ok.ensures, ((given, arrived-still rules g.V.Volumes.disk c.args.self.now c.in-Ok.unit answer.Known arrives refl refl), refl))
 
 pub returns-in-SysFail-clause-ends : goal.returns-in-SysFail-clause-ends
 returns-in-SysFail-clause-ends g c =
@@ -109,7 +110,7 @@ returns-in-SysFail-clause-ends g c =
     let given = sym c.answer_to.ensures ∙ c.in-SysFail.is in
     let arrives = comes-arrives rules lawful world is.safe c.in-Ok.unit answer.SysFail
     (late-comes rules lawful world is.safe c.args.tid c.in-Ok.unit answer.SysFail c.in-Ok.ensures given) in
-    (c.in-Ok.unit, c.in-Ok.ensures, ((given, arrived-still rules g.V.Volumes.faults c.args.self.now c.in-Ok.unit answer.SysFail arrives refl refl), refl))
+    (c.in-Ok.unit, c.in-Ok.ensures, ((given, arrived-still rules g.V.Volumes.disk c.args.self.now c.in-Ok.unit answer.SysFail arrives refl refl), refl))
 
 pub returns-in-Down-clause-ends : goal.returns-in-Down-clause-ends
 returns-in-Down-clause-ends g c =
@@ -120,4 +121,24 @@ returns-in-Down-clause-ends g c =
     let given = sym c.answer_to.ensures ∙ c.in-Down.is in
     let arrives = comes-arrives rules lawful world is.safe c.in-Ok.unit answer.Down
     (late-comes rules lawful world is.safe c.args.tid c.in-Ok.unit answer.Down c.in-Ok.ensures given) in
-    (c.in-Ok.unit, c.in-Ok.ensures, inl ((given, arrived-still rules g.V.Volumes.faults c.args.self.now c.in-Ok.unit answer.Down arrives refl refl), refl))
+    (c.in-Ok.unit, c.in-Ok.ensures, inl ((given, arrived-still rules g.V.Volumes.disk c.args.self.now c.in-Ok.unit answer.Down arrives refl refl), refl))
+
+pub returns-in-Err-clause-sound : goal.returns-in-Err-clause-sound
+returns-in-Err-clause-sound g c =
+    leaves-seen g.R.Rules.meaning g.met.R.Rules.lawful g.V.Volumes.disk g.met.V.Volumes.only_now c.self.inside.kept c.args.self.now c.self.view_is
+    c.self.invariant c.world.ensures.kept.on_volumes
+
+pub returns-in-Known-clause-sound : goal.returns-in-Known-clause-sound
+returns-in-Known-clause-sound g c =
+    leaves-seen g.R.Rules.meaning g.met.R.Rules.lawful g.V.Volumes.disk g.met.V.Volumes.only_now c.self.inside.kept c.args.self.now c.self.view_is
+    c.self.invariant c.world.ensures.kept.on_volumes
+
+pub returns-in-SysFail-clause-sound : goal.returns-in-SysFail-clause-sound
+returns-in-SysFail-clause-sound g c =
+    leaves-seen g.R.Rules.meaning g.met.R.Rules.lawful g.V.Volumes.disk g.met.V.Volumes.only_now c.self.inside.kept c.args.self.now c.self.view_is
+    c.self.invariant c.world.ensures.kept.on_volumes
+
+pub returns-in-Down-clause-sound : goal.returns-in-Down-clause-sound
+returns-in-Down-clause-sound g c =
+    leaves-seen g.R.Rules.meaning g.met.R.Rules.lawful g.V.Volumes.disk g.met.V.Volumes.only_now c.self.inside.kept c.args.self.now c.self.view_is
+    c.self.invariant c.world.ensures.kept.on_volumes

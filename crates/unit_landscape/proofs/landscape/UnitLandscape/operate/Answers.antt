@@ -26,7 +26,7 @@ record-requires-clause-due g c =
 pub returns-clause-ends : goal.returns-clause-ends
 returns-clause-ends g c =
     let rules = g.R.Rules.meaning c.args.self.now.world.rules in
-    subst (λ k. EndsAs (g.R.Rules.meaning k.world.rules) g.V.Volumes.faults k c.record.new.kept c.args.system c.args.next None c.record.result) c.self.view_is
+    subst (λ k. EndsAs (g.R.Rules.meaning k.world.rules) g.V.Volumes.disk k c.record.new.kept c.args.system c.args.next None c.record.result) c.self.view_is
     c.record.ensures.ends
     (event.Operator (Append c.args.system c.args.next))
     (operator-appends rules c.args.self.now.world c.args.system c.args.next c.requires.possible (λ has. c.requires.writable))

@@ -7,7 +7,7 @@ use Rattle.unit_landscape.proofs.landscape.UnitLandscape.reply.Goals as goal
 
 pub returns-in_default-clause-disk : goal.returns-in_default-clause-disk
 returns-in_default-clause-disk g c =
-    disk-seen g.V.Volumes.told g.V.Volumes.volume g.V.Volumes.moment g.V.Volumes.images_since g.met.V.Volumes.only_now
+    disk-seen g.V.Volumes.disk g.met.V.Volumes.only_now
     g.R.Rules.meaning g.met.R.Rules.lawful c.self.inside.kept c.args.self.now c.self.view_is c.self.invariant c.world.ensures.kept.on_volumes
     (λ world. reply_event (g.R.Rules.meaning world.rules) world c.args.claim c.args.given)
 

@@ -38,6 +38,6 @@ returns-then-not-is_outstanding-clause-ends g c =
 
 pub returns-then-not-is_outstanding-clause-disk : goal.returns-then-not-is_outstanding-clause-disk
 returns-then-not-is_outstanding-clause-disk g c =
-    disk-seen g.V.Volumes.told g.V.Volumes.volume g.V.Volumes.moment g.V.Volumes.images_since g.met.V.Volumes.only_now
+    disk-seen g.V.Volumes.disk g.met.V.Volumes.only_now
     g.R.Rules.meaning g.met.R.Rules.lawful c.self.inside.kept c.args.self.now c.self.view_is c.self.invariant c.world.ensures.kept.on_volumes
     (λ world. event.Operator (Append c.args.system (log.Retry c.args.way c.args.tid)))

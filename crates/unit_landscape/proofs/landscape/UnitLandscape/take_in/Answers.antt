@@ -18,7 +18,7 @@ use Rattle.unit_landscape.proofs.landscape.UnitLandscape.take_in.Goals as goal
 
 pub returns-in_err-next-clause-disk : goal.returns-in_err-next-clause-disk
 returns-in_err-next-clause-disk g c =
-    disk-seen g.V.Volumes.told g.V.Volumes.volume g.V.Volumes.moment g.V.Volumes.images_since g.met.V.Volumes.only_now
+    disk-seen g.V.Volumes.disk g.met.V.Volumes.only_now
     g.R.Rules.meaning g.met.R.Rules.lawful c.self.inside.kept c.args.self.now c.self.view_is c.self.invariant c.world.ensures.kept.on_volumes
     (λ world. event.Arrive c.args.unit.now.tid)
 
@@ -41,46 +41,46 @@ append-requires-clause-due g c =
 
 pub returns-clause-event : goal.returns-clause-event
 returns-clause-event g c =
-    let faults = g.V.Volumes.faults in
+    let disk = g.V.Volumes.disk in
     let world = c.self.inside.kept.world in
     let rules = g.R.Rules.meaning c.self.inside.kept.world.rules in
     let arrive = event.Arrive c.args.unit.now.tid in
     let arrives = subst (λ k. Arrives (g.R.Rules.meaning k.world.rules) k.world c.args.unit.now answer.New) (sym c.self.view_is) c.requires in
     let does = subst (λ next. Appends rules world c.args.unit.now.receiver next None (event.Arrive c.args.unit.now.tid)) (sym c.in_ok-next.ensures)
     (accept-appends rules world c.args.unit.now arrives) in
-    subst (λ k. IfOk c.match-append.result (Arrived (g.R.Rules.meaning k.world.rules) faults k c.append.new.kept c.args.unit.now)) c.self.view_is
+    subst (λ k. IfOk c.match-append.result (Arrived (g.R.Rules.meaning k.world.rules) disk k c.append.new.kept c.args.unit.now)) c.self.view_is
     (elim c.match-append.branch [
-      | in-Ok-Written w ↦ subst (λ r. IfOk r (Arrived rules faults c.self.inside.kept c.append.new.kept c.args.unit.now)) (sym w.result-is) (
+      | in-Ok-Written w ↦ subst (λ r. IfOk r (Arrived rules disk c.self.inside.kept c.append.new.kept c.args.unit.now)) (sym w.result-is) (
         (
           arrives.answer,
-          was-written rules faults c.self.inside.kept c.append.new.kept c.args.unit.now.receiver c.in_ok-next.next None arrive does c.append.result
+          was-written rules disk c.self.inside.kept c.append.new.kept c.args.unit.now.receiver c.in_ok-next.next None arrive does c.append.result
               c.append.ensures.ends w.in-Ok-Written.field-0 w.in-Ok-Written.is w.in-Ok-Written.field-0-is,
         ),
         refl,
       )
-      | in-Ok-Fallen w ↦ subst (λ r. IfOk r (Arrived rules faults c.self.inside.kept c.append.new.kept c.args.unit.now)) (sym w.result-is)
+      | in-Ok-Fallen w ↦ subst (λ r. IfOk r (Arrived rules disk c.self.inside.kept c.append.new.kept c.args.unit.now)) (sym w.result-is)
           (inr (
             arrives.answer,
-            was-fallen rules faults c.self.inside.kept c.append.new.kept c.args.unit.now.receiver c.in_ok-next.next None arrive does c.append.result
+            was-fallen rules disk c.self.inside.kept c.append.new.kept c.args.unit.now.receiver c.in_ok-next.next None arrive does c.append.result
                 c.append.ensures.ends w.in-Ok-Fallen.field-0 w.in-Ok-Fallen.is w.in-Ok-Fallen.field-0-is,
           ))
-      | in-Err w ↦ subst (λ r. IfOk r (Arrived rules faults c.self.inside.kept c.append.new.kept c.args.unit.now)) (sym w.result-is) tt
+      | in-Err w ↦ subst (λ r. IfOk r (Arrived rules disk c.self.inside.kept c.append.new.kept c.args.unit.now)) (sym w.result-is) tt
     ])
 
 pub returns-clause-short : goal.returns-clause-short
 returns-clause-short g c =
-    let faults = g.V.Volumes.faults in
+    let disk = g.V.Volumes.disk in
     let world = c.self.inside.kept.world in
     let rules = g.R.Rules.meaning c.self.inside.kept.world.rules in
     let arrive = event.Arrive c.args.unit.now.tid in
     let arrives = subst (λ k. Arrives (g.R.Rules.meaning k.world.rules) k.world c.args.unit.now answer.New) (sym c.self.view_is) c.requires in
     let does = subst (λ next. Appends rules world c.args.unit.now.receiver next None (event.Arrive c.args.unit.now.tid)) (sym c.in_ok-next.ensures)
     (accept-appends rules world c.args.unit.now arrives) in
-    subst (λ k. OnErr c.match-append.result (IsShort (g.R.Rules.meaning k.world.rules) faults k c.append.new.kept arrive)) c.self.view_is
+    subst (λ k. OnErr c.match-append.result (IsShort (g.R.Rules.meaning k.world.rules) disk k c.append.new.kept arrive)) c.self.view_is
     (elim c.match-append.branch [
-      | in-Ok-Written w ↦ subst (λ r. OnErr r (IsShort rules faults c.self.inside.kept c.append.new.kept arrive)) (sym w.result-is) tt
-      | in-Ok-Fallen w ↦ subst (λ r. OnErr r (IsShort rules faults c.self.inside.kept c.append.new.kept arrive)) (sym w.result-is) tt
-      | in-Err w ↦ subst (λ r. OnErr r (IsShort rules faults c.self.inside.kept c.append.new.kept arrive)) (sym w.result-is)
-          (was-short rules faults c.self.inside.kept c.append.new.kept c.args.unit.now.receiver c.in_ok-next.next None arrive does c.append.result
+      | in-Ok-Written w ↦ subst (λ r. OnErr r (IsShort rules disk c.self.inside.kept c.append.new.kept arrive)) (sym w.result-is) tt
+      | in-Ok-Fallen w ↦ subst (λ r. OnErr r (IsShort rules disk c.self.inside.kept c.append.new.kept arrive)) (sym w.result-is) tt
+      | in-Err w ↦ subst (λ r. OnErr r (IsShort rules disk c.self.inside.kept c.append.new.kept arrive)) (sym w.result-is)
+          (was-short rules disk c.self.inside.kept c.append.new.kept c.args.unit.now.receiver c.in_ok-next.next None arrive does c.append.result
           c.append.ensures.ends w.in-Err.short w.in-Err.is)
     ])

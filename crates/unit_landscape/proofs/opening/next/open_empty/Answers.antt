@@ -6,7 +6,7 @@ use Rattle.unit_landscape.proofs.opening.next.open_empty.Goals as goal
 
 pub returns-then-is_empty-clause-opened : goal.returns-then-is_empty-clause-opened
 returns-then-is_empty-clause-opened g c =
-    subst (λ (log : List Record). IsOnDisk g.V.Volumes.told g.V.Volumes.volume c.open.new.vols (count_of c.args.journals.now) c.open.new.self log)
+    subst (λ (log : List Record). IsOnDisk g.V.Volumes.disk c.open.new.vols (count_of c.args.journals.now) c.open.new.self log)
     (c.is_empty.ensures.0 c.if-is_empty.true) c.in-Ok.ensures.opened
 
 pub returns-in-Ok-clause-why : goal.returns-in-Ok-clause-why
