@@ -38,3 +38,9 @@ pub mod TablesLemmas
 pub mod TrackedLemmas
 -- the queues of the units that a record adds
 pub mod QueuedLemmas
+-- whom what a record adds is for
+pub mod AddressedLemmas
+-- which documents the units carry that a record adds
+pub mod CarriedLemmas
+-- each document of a log is in one place
+pub mod PlaceLemmas

@@ -9,8 +9,14 @@ pub mod QueueNames
 pub mod Queued
 -- what one record adds to the documents and units of a log
 pub mod Added
+-- who sends a document, and whom it is for
+pub mod Addressed
+-- which documents the units carry that a record adds
+pub mod Carried
 -- the documents and units of a whole log
 pub mod Committed
+-- each document of a log is in one place
+pub mod Once
 -- what every unit of a log is
 pub mod Units
 -- when an outbound document gets which status

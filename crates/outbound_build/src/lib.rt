@@ -6,9 +6,10 @@
 //! fault; `Outbox::added` is exactly what one more record of a log adds, and `committed` are the units of a whole log, to
 //! which each record adds and in which it changes nothing; `OutboundTables` keeps, exactly, the documents and the statuses of a
 //! log, record by record. The definitions are in `specs/`: `ControlRecord` and `Sent` (one document), `QueueNames`, `Queued` (the
-//! queues of a unit by its documents, in other words), `Added` (one record), `Committed` (whole logs), `Statuses` (when a document
-//! gets which status), `Tables` (that tables are those of a log), and `Units`, which holds of every unit of a log by the lemmas of
-//! `proofs/UnitLemmas`.
+//! queues of a unit by its documents, in other words), `Added` (one record), `Addressed` (whom documents and units are for, by their
+//! control records), `Carried` (which documents units carry, in other words), `Committed` (whole logs), `Once` (that each document is
+//! in one place, by the lemmas of `proofs/PlaceLemmas`), `Statuses` (when a document gets which status), `Tables` (that tables are
+//! those of a log), and `Units`, which holds of every unit of a log by the lemmas of `proofs/UnitLemmas`.
 #![tactic(auto)]
 
 mod added;

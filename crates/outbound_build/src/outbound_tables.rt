@@ -24,7 +24,10 @@ pub struct OutboundTables {
 impl OutboundTables {
     ghost use Rattle.std.specs.Prelude.{◌≡◌, ◌≤◌, ◌<◌, ℕ, Err, IfOk, OnOk, length, slice_get};
     ghost use Rattle.std.specs.Option.{option_copied};
+    ghost use Rattle.unit_core.specs.declared.records.Record.TheVariants.{Dispatch};
     ghost use Rattle.outbound_build.specs.Added.{added_by, units_with};
+    ghost use Rattle.outbound_build.specs.Addressed.{AreAddressed, AreMadeFor, AreUnitsAddressed};
+    ghost use Rattle.outbound_build.specs.Carried.{AreCarried};
     ghost use Rattle.outbound_build.specs.Queued.{AreQueued};
     ghost use Rattle.outbound_build.specs.Statuses.{Tracked, nothing_tracked, tracked_with};
     ghost use Rattle.outbound_build.specs.Tables.{AreTablesOf};
@@ -82,6 +85,12 @@ impl OutboundTables {
         ensures added { (tracked : Tracked) → AreTablesOf tracked self.now
             → IfOk result (λ added. added ≡ added_by model.now system tracked.past.outbox next.now) }
         ensures queued { IfOk result (λ added. AreQueued model.now next.now added.units) }
+        ensures made_for { IfOk result (λ added. AreMadeFor model.now system added.documents) }
+        ensures addressed { (tracked : Tracked) → AreTablesOf tracked self.now
+            → (next.now ≡ Dispatch → AreAddressed model.now system tracked.past.outbox.waiting)
+            → IfOk result (λ added. AreUnitsAddressed model.now system added.units) }
+        ensures carried { (tracked : Tracked) → AreTablesOf tracked self.now
+            → IfOk result (AreCarried model.now system tracked.past.outbox.waiting next.now) }
         ensures few { (tracked : Tracked) → AreTablesOf tracked self.now
             → OnOk result (units_with model.now system tracked.past.outbox next.now ≤ 65536) }
         ensures too_many { (tracked : Tracked) → AreTablesOf tracked self.now → (count : ℕ) → result ≡ Err (AddFault.TooMany count)

@@ -27,7 +27,11 @@ pub struct Outbox {
 
 impl Outbox {
     ghost use Rattle.std.specs.Prelude.{◌≡◌, ◌≤◌, ◌<◌, ◌+◌, ℕ, Err, IfOk, OnOk, OnErr, length};
+    ghost use Rattle.dist_model.specs.declared.lists.Lists.{Lists as ListsOf};
+    ghost use Rattle.unit_core.specs.declared.records.Record.TheVariants.{Dispatch};
     ghost use Rattle.outbound_build.specs.Added.{added_by, after, batch_of, units_with};
+    ghost use Rattle.outbound_build.specs.Addressed.{AreAddressed, AreMadeFor, AreUnitsAddressed};
+    ghost use Rattle.outbound_build.specs.Carried.{AreCarried};
     ghost use Rattle.outbound_build.specs.Committed.{empty_outbox};
     ghost use Rattle.outbound_build.specs.Queued.{AreQueued};
 
@@ -47,6 +51,10 @@ impl Outbox {
     /// `TooMany` comes exactly where the log would have more than 65,536 units, with their number. What a Commit takes
     /// grows with its own documents and what is sent of them, what a Dispatch takes with the documents that wait and the
     /// rows of the model.
+    ///
+    /// The control record of each document that it makes names this system as its sender, and as its receiver that of the row by
+    /// which it was made; that of each document of a unit names the unit's receiver. The units of a Commit carry what it sends at
+    /// once, and those of a Dispatch what waits for each row: each document once, in order.
     pub fn added(
         &self,
         alloc: Global,
@@ -56,10 +64,16 @@ impl Outbox {
     ) -> Result<Added, AddFault>
         ensures added { IfOk result (λ added. added ≡ added_by model.now system self.now next.now) }
         ensures queued { IfOk result (λ added. AreQueued model.now next.now added.units) }
+        ensures made_for { IfOk result (λ added. AreMadeFor model.now system added.documents) }
+        ensures addressed { (next.now ≡ Dispatch → AreAddressed model.now system self.now.waiting)
+            → IfOk result (λ added. AreUnitsAddressed model.now system added.units) }
+        ensures carried { IfOk result (AreCarried model.now system self.now.waiting next.now) }
         ensures few { OnOk result (units_with model.now system self.now next.now ≤ 65536) }
         ensures too_many { (count : ℕ) → result ≡ Err (AddFault.TooMany count)
             → (count ≡ units_with model.now system self.now next.now) × (65536 < count) }
     {
+        // The rules of a model say that its rows and profiles name systems that it has.
+        let _rules = model.as_lists();
         let batch = self.batch_of(alloc, model, system, next)?;
         let Batch { documents, parcels } = batch;
         let units = units_of(alloc, system, self.units, parcels)?;
@@ -96,9 +110,11 @@ impl Outbox {
     }
 
     /// Takes in a record and what it adds: the counts grow, documents that wait are kept, and a Dispatch leaves none of
-    /// those that waited. After an `Err` it is as before.
+    /// those that waited. What waits stays addressed. After an `Err` it is as before.
     pub fn take(&mut self, alloc: Global, next: &Record, added: &Added) -> Result<(), OutOfMemory>
         ensures taken { OnOk result (self.new ≡ after next.now added.now self.old) }
+        ensures addressed { (model : ListsOf) (system : ℕ) → AreAddressed model system self.old.waiting → AreMadeFor model system added.now.documents
+            → OnOk result (AreAddressed model system self.new.waiting) }
         ensures err { OnErr result (self.new ≡ self.old) }
     {
         let documents = sum(self.documents, added.documents.len())?;
