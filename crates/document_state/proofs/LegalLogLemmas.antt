@@ -43,7 +43,8 @@ applied-stays models (next ∷ records) past some =
     let least = models-least past.models next in
     applied-stays models records (past_after models past next) (omega (arith, some, least)) ∙ system-stays past.models past.system next some
 
-sent-begun : (system : ℕ) (records : List Record) → IsLogOf system records → 1 ≤ length records → (sent_by records).past.system ≡ system
+-- the log of a system that has a record is that of the system
+pub sent-begun : (system : ℕ) (records : List Record) → IsLogOf system records → 1 ≤ length records → (sent_by records).past.system ≡ system
 unfolding tracked_of
 sent-begun system [] of some = absurd (omega (arith, some))
 sent-begun system (log.Genesis number text ∷ rest) of some =

@@ -6,6 +6,8 @@ pub mod AddedLemmas
 pub mod NotedLemmas
 -- what is known behind a legal log
 pub mod LegalLogLemmas
+-- what a legal log sends is addressed, and each of its documents is in one place
+pub mod AddressedLemmas
 -- what is committed can be written
 pub mod WritableLemmas
 -- whether there is room

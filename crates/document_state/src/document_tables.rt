@@ -35,9 +35,13 @@ impl DocumentTables {
     ghost use Rattle.inbound_post.specs.Prepared.{offers};
     ghost use Rattle.unit_core.specs.declared.records.Record.{Record};
     ghost use Rattle.said_models.specs.OfLog.{model_of};
+    ghost use Rattle.outbound_build.specs.Addressed.{AreMadeFor, AreUnitsAddressed};
+    ghost use Rattle.outbound_build.specs.Carried.{AreCarried};
     ghost use Rattle.outbound_build.specs.Tables.{AreTablesOf as AreSent};
     ghost use Rattle.inbound_post.specs.Tables.{AreTablesOf as AreApplied};
     ghost use Rattle.document_state.specs.OfLog.{sent_by, applied_by, added_behind, postings_behind};
+    ghost use Rattle.trfc_protocol.specs.Legal.{IsLegal};
+    ghost use Rattle.document_state.specs.Meaning.{model_meaning};
     ghost use Rattle.document_state.specs.Tables.{AreTablesOf};
 
     /// The tables of a log that has no record. It takes no memory.
@@ -89,9 +93,19 @@ impl DocumentTables {
     ///
     /// `TooMany` comes exactly where a model is in force and the log would have more than 65,536 units, with their number.
     /// `OutOfMemory` comes where a request for memory was refused.
+    ///
+    /// Behind a legal log each document that it adds is from this system to the receiver of its row, and each document of a unit
+    /// from this system to the unit's receiver, by the names in its control record. The units carry each document once that is
+    /// sent at once, or that waits and is dispatched.
     pub fn added(&self, alloc: Global, system: SystemNo, next: &Record) -> Result<Added, AddFault>
         ensures added { (log : List Record) → AreTablesOf log self.now → (sent_by log).past.system ≡ system
             → IfOk result (λ added. added ≡ added_behind log next.now) }
+        ensures made_for { (log : List Record) → AreTablesOf log self.now → (model : ListsOf) → model_of log ≡ Some model
+            → IfOk result (λ added. AreMadeFor model system added.documents) }
+        ensures addressed { (systems : ℕ) (log : List Record) → AreTablesOf log self.now → IsLegal (model_meaning systems) system log
+            → (model : ListsOf) → model_of log ≡ Some model → IfOk result (λ added. AreUnitsAddressed model system added.units) }
+        ensures carried { (log : List Record) → AreTablesOf log self.now → (model : ListsOf) → model_of log ≡ Some model
+            → IfOk result (AreCarried model system (sent_by log).past.outbox.waiting next.now) }
         ensures few { (log : List Record) → AreTablesOf log self.now → (sent_by log).past.system ≡ system
             → (model : ListsOf) → model_of log ≡ Some model
             → OnOk result (length (sent_by log).past.units + length (added_behind log next.now).units ≤ 65536) }

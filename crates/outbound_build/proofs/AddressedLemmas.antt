@@ -73,7 +73,8 @@ all-packets P size waiting all =
     let packet : ℕ → List Waiting = λ place. take size (drop (place * size) waiting) in
     let places = range_with_len 0 (packet_count size (length waiting)) in
     AllByRecursion-map (AllByRecursion P) packet places
-    (AllByRecursion-of (λ place. AllByRecursion P (packet place)) (λ place. all-take P size (drop (place * size) waiting) (all-drop P (place * size) waiting all))
+    (AllByRecursion-of (λ place. AllByRecursion P (packet place))
+    (λ place. all-take P size (drop (place * size) waiting) (all-drop P (place * size) waiting all))
     places)
 
 -- the text of a field that has the name of a system of the model names it

@@ -117,7 +117,9 @@ module _ (number : ℕ) where
         | inr (is, differ) ↦ absurd (differ (omega arith))
       ]
   at_rows-once {A} test place (suc k) count (first ∷ xs) x here passes =
-      by_test (ap (λ (row : ℕ). at_rows row count (places_from test (suc place) xs)) shift ∙ at_rows-once test (suc place) k count xs x here passes) (test first)
+      by_test
+      (ap (λ (row : ℕ). at_rows row count (places_from test (suc place) xs)) shift ∙ at_rows-once test (suc place) k count xs x here passes)
+      (test first)
     where
       shift : place + suc k ≡ suc place + k
       shift = omega arith
@@ -205,7 +207,8 @@ module _ (number : ℕ) where
 
   -- a number of documents stands among what is sent at once, what waits and what is refused
   fates-times : (documents : List OutDocument)
-      → times number (map (λ one. one.0) (sent_in documents)) + times number (map (λ one. one.number) (waits_of documents)) + times number (refused_in documents)
+      → times number (map (λ one. one.0) (sent_in documents)) + times number (map (λ one. one.number) (waits_of documents))
+      + times number (refused_in documents)
       ≡ times number (map (λ one. one.number) documents)
   fates-times [] = refl
   fates-times (one ∷ documents) = by_fate (fates-times documents) one.fate ∙ sym (times-cons one.number (map (λ d. d.number) documents))
