@@ -119,6 +119,16 @@ unkept : {A : Type 0} (found : Option A) → is_none found ≡ true → found �
 unkept None none = refl
 unkept (Some x) none = absurd (cc)
 
+-- a model that a text says, which may replace another one, keeps it
+pub replaced-grown : (old : Lists) (text : List ℕ) → may_replace old text ≡ true → (new : Lists) → said text ≡ Some new → IsGrown old new
+replaced-grown old text may new says = of (said text) says may
+  where
+    of : (found : Option Lists) → found ≡ Some new → option_map_or (λ one. is_none (first_unkept old one)) found false ≡ true → IsGrown old new
+    of None lies may = absurd (cc)
+    of (Some other) same may =
+        let equal = same_Some other new same in
+        subst (IsGrown old) equal ((none_unkept old other).0 (unkept (first_unkept old other) may))
+
 module _ (systems system : ℕ) where
   log-of : (records : List Record) (next : Record) → may_follow (model_meaning systems) system records next ≡ true → IsLogOf system records
       → IsLogOf system (records ++ next ∷ [])
@@ -207,18 +217,9 @@ module _ (systems system : ℕ) where
             sent-with (λ (p : Past). AreUnitsAddressed model system p.units) records (log.Model text)
             (subst (λ (more : Added). AreUnitsAddressed model system ((sent_by records).past.units ++ more.units)) adds
             (units-nil model system (sent_by records).past.units
-            (units-grown by.0 model (replaced by.0 text parts.1 model
+            (units-grown by.0 model (replaced-grown by.0 text parts.1 model
             (told.1 ∙ sym known ∙ found)) system (sent_by records).past.units (is.units by.0 by.1))));
       }
-    where
-      replaced : (old : Lists) (text : List ℕ) → may_replace old text ≡ true → (new : Lists) → said text ≡ Some new → IsGrown old new
-      replaced old text may new says = of (said text) says may
-        where
-          of : (found : Option Lists) → found ≡ Some new → option_map_or (λ one. is_none (first_unkept old one)) found false ≡ true → IsGrown old new
-          of None lies may = absurd (cc)
-          of (Some other) same may =
-              let equal = same_Some other new same in
-              subst (IsGrown old) equal ((none_unkept old other).0 (unkept (first_unkept old other) may))
 
   sent-first : (next : Record) → may_follow (model_meaning systems) system [] next ≡ true → IsSentOf system [] → IsSentOf system (next ∷ [])
   unfolding tracked_of

@@ -8,6 +8,8 @@ pub mod NotedLemmas
 pub mod LegalLogLemmas
 -- what a legal log sends is addressed, and each of its documents is in one place
 pub mod AddressedLemmas
+-- what had a posting keeps one, whichever model comes into force
+pub mod StaysReadLemmas
 -- what is committed can be written
 pub mod WritableLemmas
 -- whether there is room

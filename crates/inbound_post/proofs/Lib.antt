@@ -12,3 +12,11 @@ pub mod RecordLemmas
 pub mod PreparedLemmas
 -- what a posting says, and what a Commit does to pointers
 pub mod LawLemmas
+-- what a unit that is executed brings
+pub mod ExecutedLemmas
+-- what is read by the IDoc types of two models
+pub mod RenamedLemmas
+-- a document that has a posting under a model has one under another model of the same types
+pub mod KeptPostingLemmas
+-- inbound documents that were read are read again
+pub mod StaysReadLemmas

@@ -6,3 +6,5 @@ pub mod DecidedLemmas
 pub mod KeptLemmas
 -- no part is unkept exactly where all is kept
 pub mod GrowthLemmas
+-- the numbers that types of a model have in one that keeps it
+pub mod NumberLemmas

@@ -2,11 +2,13 @@
 use Rattle.std.specs.Prelude.{Contains, slice_get, nat_eq, fold, map, filter, ◌==◌, ◌*◌, ◌&&◌, if◌then◌else◌}
 use Rattle.std.specs.List.{AllByRecursion, cons_option, list_all, range_with_len}
 use Rattle.std.specs.Option.{option_map, option_map_or}
-use Rattle.std.proofs.Common.{nat_le, ◌≡◌, ℕ, zero, suc, ◌+◌, ◌-◌, ◌≤◌, Bool, true, false, cond, Option, Some, None, Result, Ok, Err, List, [], ◌∷◌, ◌++◌, length, take, drop, refl, sym, ap, subst, ◌∙◌, arith}
+use Rattle.std.proofs.Common.{nat_le, ◌≡◌, ℕ, zero, suc, ◌+◌, ◌-◌, ◌≤◌, Bool, true, false, cond, Option, Some, None, Result, Ok, Err, List, [], ◌∷◌}
+use Rattle.std.proofs.Common.{◌++◌, length, take, drop, refl, sym, ap, subst, ◌∙◌, arith}
 use Rattle.std.proofs.lemmas.Bool.{and_parts, eqb-true}
 use Rattle.std.proofs.lemmas.Option.{same_Some, slice_get-map}
 use Rattle.ale_base.specs.Blanks.{trimmed}
-use Rattle.ale_base.proofs.ListLemmas.{AllByRecursion-append, AllByRecursion-at, AllByRecursion-flat_map, AllByRecursion-map, AllByRecursion-of, AllByRecursion-weaker, slice_get-within}
+use Rattle.ale_base.proofs.ListLemmas.{AllByRecursion-append, AllByRecursion-at, AllByRecursion-flat_map, AllByRecursion-map, AllByRecursion-of}
+use Rattle.ale_base.proofs.ListLemmas.{AllByRecursion-weaker, slice_get-within}
 use Rattle.ale_base.specs.declared.queue_name.NameFault.{NameFault}
 use Rattle.idoc_record.specs.declared.control_field.ControlField.{ControlField}
 use Rattle.idoc_record.specs.declared.control_field.ControlField.TheVariants.{Rcvprn, Rcvprt, Sndprn, Sndprt}
@@ -34,7 +36,8 @@ use Rattle.outbound_build.specs.declared.outbox.Outbox.{Outbox}
 use Rattle.outbound_build.specs.declared.parcel.Parcel.{Parcel}
 use Rattle.outbound_build.specs.declared.queue_lists.QueueLists.{QueueLists}
 use Rattle.outbound_build.specs.Added.{Master, batch_of, dispatched, master_of, no_batch, numbered, packed, packed_for, packets, parcel_of, rows_of}
-use Rattle.outbound_build.specs.Added.{packet_count, still_waiting, waiting_for, waits_as, waits_of, with_document, with_master, with_row, with_rows, with_sent, with_unit}
+use Rattle.outbound_build.specs.Added.{packet_count, still_waiting, waiting_for, waits_as, waits_of, with_document, with_master, with_row, with_rows}
+use Rattle.outbound_build.specs.Added.{with_sent, with_unit}
 use Rattle.outbound_build.specs.Addressed.{AreAddressed, AreMadeFor, AreUnitsAddressed, IsAddressed, IsForRow}
 use Rattle.outbound_build.specs.ControlRecord.{control_text, system_name}
 use Rattle.outbound_build.specs.Document.{Document, carried}
