@@ -13,7 +13,7 @@ use Rattle.model_text.specs.Text.{answer_to}
 use Rattle.script_text.specs.declared.command.Command.{Command}
 use Rattle.unit_core.specs.declared.raw_unit_doc.RawUnitDoc.{RawUnitDoc}
 use Rattle.unit_journal.specs.Log.{Stands}
-use Rattle.outbound_build.specs.ControlRecord.{system_name}
+use Rattle.dist_model.specs.Named.{system_name}
 use Rattle.document_state.specs.declared.document_tables.DocumentTables.{DocumentTables}
 use Rattle.document_state.specs.declared.model_rules.ModelRules.{ModelRules}
 use Rattle.document_state.specs.Meaning.{model_meaning}

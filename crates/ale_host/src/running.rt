@@ -4,7 +4,7 @@ ghost use Rattle.std.specs.Prelude.{◌≡◌, ◌≢◌, ◌≤◌, ℕ, List, 
 ghost use Rattle.std.specs.Arc.{arc_value};
 ghost use Rattle.said_models.specs.Said.{said};
 ghost use Rattle.unit_landscape.specs.declared.beginning.TheConstants.{MOST_TEXT};
-ghost use Rattle.outbound_build.specs.ControlRecord.{system_name};
+ghost use Rattle.dist_model.specs.Named.{system_name};
 ghost use Rattle.report_text.specs.declared.faults.FaultLine.TheVariants as last;
 ghost use Rattle.report_text.specs.FaultLine.{fault_line};
 ghost use Rattle.runs.specs.declared.run_end.RunEnd.TheVariants as run_end;
@@ -310,9 +310,5 @@ fn line_of(alloc: Global, line: FaultLine) -> Result<Vec<u8>, OutOfMemory>
 fn system_name(model: &Model, system: SystemNo) -> &[u8]
     ensures { result.now ≡ system_name model.now system }
 {
-    let number = usize::from(system.get());
-    match model.as_lists().systems.get(number - 1) {
-        None => &[],
-        Some(system) => system.name.as_slice(),
-    }
+    dist_model::system_name(model.as_lists(), system)
 }

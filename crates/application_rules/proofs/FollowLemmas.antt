@@ -16,36 +16,36 @@ use Rattle.idoc_record.specs.declared.control_field.ControlField.TheVariants.{Id
 use Rattle.idoc_record.specs.Control.{HasRoom, blank_text, field_of, written_at}
 use Rattle.idoc_record.proofs.FieldsLemmas.{HasRoom-written, field_of-control_with}
 use Rattle.segment_defs.specs.declared.idoc_type.IdocType.{IdocType}
-use Rattle.segment_defs.specs.IdocType.{IsIdocType, IsPreorder}
+use Rattle.segment_defs.specs.declared.idoc_type.TypePlace.{TypePlace}
+use Rattle.segment_defs.specs.IdocType.{IsIdocType}
 use Rattle.segment_defs.proofs.NameLemmas.{name-trimmed, position-map, position-only}
 use Rattle.idoc_tree.specs.Forest.{Forest, Segment, leaf}
 use Rattle.idoc_tree.specs.FromRecords.{built}
 use Rattle.idoc_tree.specs.Lines.{lines_of}
-use Rattle.idoc_tree.proofs.BuildsLemmas.{Builds-built}
-use Rattle.idoc_tree.proofs.LineLemmas.{lines_of-spell}
 use Rattle.dist_model.specs.declared.kind.Kind.{Kind}
 use Rattle.dist_model.specs.declared.lists.Lists.{Lists}
 use Rattle.dist_model.specs.declared.message.Message.{Message}
-use Rattle.dist_model.specs.Message.{IsMessage, entries_at, message_entries, message_names}
-use Rattle.dist_model.specs.Model.{IsModel, message_named}
+use Rattle.dist_model.specs.Message.{IsMessage, message_names}
+use Rattle.dist_model.specs.Model.{IsModel, entries_for, message_named}
+use Rattle.dist_model.specs.Named.{idoc_type_name_of, message_name}
 use Rattle.dist_model.proofs.LookupLemmas.{message-named}
-use Rattle.version_reduce.specs.Document.{IsOfMessage}
+use Rattle.idoc_reading.specs.Document.{IsOfEntries}
+use Rattle.idoc_reading.specs.Reading.{read_as}
+use Rattle.idoc_reading.proofs.EntryLemmas.{built-again, entries-are}
 use Rattle.unit_core.specs.declared.raw_unit_doc.RawUnitDoc.{RawUnitDoc}
 use Rattle.outbound_build.specs.Added.{may_be_of}
-use Rattle.outbound_build.specs.ControlRecord.{type_name}
 use Rattle.object_store.specs.Objects.{Fields, ObjectsOf, object_at}
 use Rattle.change_pointers.specs.declared.pointer.ObjectKey.{ObjectKey}
 use Rattle.change_pointers.specs.declared.pointer.Pointer.{Pointer}
-use Rattle.change_pointers.specs.Master.{MakesDocuments, ObjectMaster, kind_of, message_name, object_master, object_segment}
+use Rattle.change_pointers.specs.Master.{MakesDocuments, ObjectMaster, kind_of, object_master, object_segment}
 use Rattle.change_pointers.specs.Master.{master_control, master_segment, master_text, master_with}
-use Rattle.change_pointers.specs.Master.{type_name as master_type}
 use Rattle.change_pointers.specs.Pointers.{pending_of}
 use Rattle.change_pointers.proofs.MasterLemmas.{blank-room}
-use Rattle.change_pointers.proofs.ReadLemmas.{master-of_message}
+use Rattle.change_pointers.proofs.ReadLemmas.{master-of_entries}
 use Rattle.unit_core.specs.SameUnit.{is_same_doc, is_same_segment}
 use Rattle.application_rules.specs.declared.commits.TheConstants.{MOST_SEGMENTS}
 use Rattle.application_rules.specs.declared.fault.MasterFault.TheVariants.{Unknown}
-use Rattle.application_rules.specs.Masters.{fault_as, master_fault, syntax_fault}
+use Rattle.application_rules.specs.Masters.{master_fault, reading_fault, syntax_fault}
 use Rattle.application_rules.specs.Gathered.{carried_master, gathered}
 use Rattle.application_rules.specs.Commits.{are_gathered, are_of, may_be_committed, may_commit, own_named}
 
@@ -92,22 +92,17 @@ module _ (model : Lists) (message : ℕ) (kept : IsModel model) (makes : MakesDo
   named : message_name model message ≡ makes.type.name
   named = ap (λ (found : Option Message). option_map_or (λ m. m.name) found []) makes.here
 
-  -- the name of its IDoc type, as a master has it and as it is asked for
-  typed : master_type model message ≡ is.type.name
+  -- the name of its IDoc type
+  typed : idoc_type_name_of model message ≡ is.type.name
   typed =
       ap (λ (found : Option Message). option_map_or (λ m. option_map_or (λ (t : IdocType). t.name) (slice_get model.types m.idoctype) []) found []) makes.here
       ∙ ap (λ (found : Option IdocType). option_map_or (λ t. t.name) found []) is.typed
 
-  asked : type_name model message ≡ is.type.name
-  asked =
-      ap (λ (found : Option Message). option_map_or (λ (t : IdocType). t.name) (option_and_then (λ m. slice_get model.types m.idoctype) found) []) makes.here
-      ∙ ap (λ (found : Option IdocType). option_map_or (λ t. t.name) found []) is.typed
-
   room : HasRoom (master_text model message)
   room =
-      HasRoom-written Mestyp (message_name model message) (written_at Idoctyp (master_type model message) blank_text)
+      HasRoom-written Mestyp (message_name model message) (written_at Idoctyp (idoc_type_name_of model message) blank_text)
       (omega (arith, is.named.most, ap length named))
-      (HasRoom-written Idoctyp (master_type model message) blank_text (omega (arith, is_type.named.most, ap length typed)) (λ f. blank-room f))
+      (HasRoom-written Idoctyp (idoc_type_name_of model message) blank_text (omega (arith, is_type.named.most, ap length typed)) (λ f. blank-room f))
 
   mestyp : field_of (master_control model message) Mestyp ≡ makes.type.name
   mestyp = field_of-control_with (master_text model message) Mestyp room ∙ ap trimmed named ∙ name-trimmed makes.type.name is.named.bytes
@@ -123,36 +118,32 @@ module _ (model : Lists) (message : ℕ) (kept : IsModel model) (makes : MakesDo
       let name = field_of (master_control model message) Mestyp in
       (message-named model kept name (message_named name model) refl message).1 (inl (name-at ∙ ap Some (sym mestyp)))
 
-  may_be : may_be_of (master_control model message) (type_name model message) ≡ true
+  may_be : may_be_of (master_control model message) (idoc_type_name_of model message) ≡ true
   may_be =
       let control = master_control model message in
-      or-right (is_text (field_of control Idoctyp) []) (is_text (field_of control Idoctyp) (type_name model message))
-      (text-same (field_of control Idoctyp) (type_name model message) (idoctyp ∙ sym asked))
+      or-right (is_text (field_of control Idoctyp) []) (is_text (field_of control Idoctyp) (idoc_type_name_of model message))
+      (text-same (field_of control Idoctyp) (idoc_type_name_of model message) (idoctyp ∙ sym typed))
 
-  entries : message_entries model.types model.messages message ≡ is.type.segments
-  entries =
-      ap (λ (found : Option Message). option_map_or (λ m. entries_at model.types m.idoctype) found []) makes.here
-      ∙ ap (λ (found : Option IdocType). option_map_or (λ t. t.segments) found []) is.typed
+  -- the entries by which a master of an object is read
+  abbrev listed : List TypePlace
+  listed = entries_for model message (master_control model message)
 
-  -- the data records of a document of the message type make it again
-  read : (forest : Forest) → IsOfMessage model message forest
-      → built model.definitions (message_entries model.types model.messages message) (lines_of model.definitions forest) ≡ Ok forest
+  -- the data records of a document by these entries make it again
+  read : (forest : Forest) → IsOfEntries model.definitions listed forest
+      → built model.definitions listed (lines_of model.definitions forest) ≡ Ok forest
   read forest of =
-      let listed = message_entries model.types model.messages message in
-      Builds-built model.definitions listed (subst (IsPreorder 0 []) (sym entries) is_type.preorder) (lines_of model.definitions forest) (Ok forest)
-      (lines_of-spell model.definitions listed forest kept.definitions of.nodes of.fitted of.hangs, of.valid)
+      built-again model.definitions listed (entries-are model message (master_control model message) kept) forest kept.definitions of
 
   -- the master of an object has no fault
-  no_fault : (segment : Segment) → IsOfMessage model message (leaf segment)
+  no_fault : (segment : Segment) → IsOfEntries model.definitions listed (leaf segment)
       → master_fault model (carried_master model.definitions (master_with model message segment)) ≡ None
   no_fault segment of =
       let doc = carried_master model.definitions (master_with model message segment) in
-      let listed = message_entries model.types model.messages message in
-      ap (λ (o : Option ℕ). option_map_or (fault_as model doc) o (Some Unknown)) found
+      ap (λ (o : Option ℕ). reading_fault model doc.control (option_map (read_as model doc.control doc.segments) o)) found
       ∙ ap (λ (b : Bool). if b then syntax_fault (built model.definitions listed doc.segments) else Some Unknown) may_be
       ∙ ap syntax_fault (read (leaf segment) of)
 
-  may_be-with : (segment : Segment) → IsOfMessage model message (leaf segment)
+  may_be-with : (segment : Segment) → IsOfEntries model.definitions listed (leaf segment)
       → may_be_committed model (carried_master model.definitions (master_with model message segment)) ≡ true
   may_be-with segment of =
       let doc = carried_master model.definitions (master_with model message segment) in
@@ -172,10 +163,10 @@ module _ (model : Lists) (message : ℕ) (kept : IsModel model) (makes : MakesDo
       of_segment values (Some segment) same is_made =
           let made_of : Kind → Segment = object_segment model.definitions object.key values in
           let segment_is : segment ≡ made_of is.kind = same_Some segment (made_of is.kind) (same ∙ ap (option_map made_of) of_kind) in
-          let of = master-of_message model message makes.type is.kind object.key values kept makes.here makes.listed is.of_kind in
+          let of = master-of_entries model message makes.type is.kind object.key values kept makes.here makes.listed is.of_kind in
           subst (λ (m : ObjectMaster). may_be_committed model (carried_master model.definitions m) ≡ true)
           (same_Some (master_with model message segment) master is_made)
-          (may_be-with segment (subst (λ (s : Segment). IsOfMessage model message (leaf s)) (sym segment_is) of))
+          (may_be-with segment (subst (λ (s : Segment). IsOfEntries model.definitions listed (leaf s)) (sym segment_is) of))
 
       of_values : (o : Option Fields)
           → option_and_then (λ (values : Fields). option_map (master_with model message) (master_segment model message object.key values)) o ≡ Some master

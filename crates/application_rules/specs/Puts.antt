@@ -2,7 +2,6 @@
 use Rattle.std.specs.Prelude.{ℕ, ◌&&◌, Bool, false, not, List, length, map, nat_le, nat_lt, Option}
 use Rattle.std.specs.List.{find, list_all}
 use Rattle.std.specs.Option.{option_map_or}
-use Rattle.ale_base.specs.Blanks.{trimmed}
 use Rattle.ale_base.specs.Text.{is_text}
 use Rattle.ale_base.specs.declared.change.FieldValue.{FieldValue}
 use Rattle.segment_defs.specs.declared.definitions.Definitions.{Definitions}
@@ -22,11 +21,9 @@ kind_named name model = find (λ kind. is_text name kind.name) model.kinds
 abbrev pub field_of_name : List ℕ → List Field → Option Field
 field_of_name name fields = find (λ field. is_text name field.name) fields
 
--- whether a key is one of objects whose key field is at this place: it is not empty, no longer than that field, and has no blank at
--- its end, as a field has none
+-- whether a key is one of objects whose key field is at this place: it is not empty, and no longer than that field
 abbrev pub is_key : List Field → ℕ → List ℕ → Bool
-is_key fields key_place key =
-    nat_lt 0 (length key) && nat_le (length key) (length_at fields key_place) && is_text (trimmed key) key
+is_key fields key_place key = nat_lt 0 (length key) && nat_le (length key) (length_at fields key_place)
 
 -- whether a field may get its value: it is a field of the kind, not the key field, and no shorter than the value
 abbrev pub may_get : List Field → ℕ → FieldValue → Bool

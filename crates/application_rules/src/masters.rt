@@ -1,16 +1,18 @@
 //! Whether a document may be a master.
 
-ghost use Rattle.std.specs.Prelude.{◌≡◌, ◌≢◌, ◌<◌, ◌⊎◌, Err, None, Some, OnOk, is_some, length, true};
-ghost use Rattle.dist_model.specs.Model.{IsModel};
-ghost use Rattle.outbound_build.specs.Added.{master_of};
-ghost use Rattle.application_rules.specs.Masters.{fault_as, master_fault};
+ghost use Rattle.std.specs.Prelude.{◌≡◌, ◌≢◌, ◌⊎◌, Err, None, Some, OnOk, is_some, true};
+ghost use Rattle.dist_model.specs.Named.{idoc_type_name_of};
+ghost use Rattle.idoc_tree.specs.declared.fault.SyntaxFault.{SyntaxFault};
+ghost use Rattle.idoc_reading.specs.Reading.{IsReadingOf, reading_in};
+ghost use Rattle.outbound_build.specs.Added.{master_of, may_be_of};
+ghost use Rattle.application_rules.specs.Masters.{master_fault, reading_fault};
 ghost use Rattle.application_rules.specs.declared.fault.MasterFault.{MasterFault};
 
 use crate::MasterFault;
-use dist_model::{Lists, MessageNo, Model};
-use idoc_record::{Control, ControlField};
-use idoc_tree::{SyntaxFault, build};
-use outbound_build::{may_be_of, type_of};
+use ale_base::OutOfMemory;
+use dist_model::{Lists, MessageNo, Model, idoc_type_name_of};
+use idoc_reading::{Reading, read_by_type};
+use outbound_build::may_be_of;
 use std::alloc::Global;
 use unit_core::RawUnitDoc;
 
@@ -29,34 +31,42 @@ pub fn check_master(alloc: Global, model: &Model, doc: &RawUnitDoc) -> Result<()
     // It is read as a master.
     ensures read { OnOk result (is_some (master_of model.now doc.now) ≡ true) }
 {
-    match model.message(doc.text(ControlField::Mestyp)) {
-        None => Err(MasterFault::Unknown),
-        Some(message) => check_as(alloc, model.as_lists(), doc, message),
+    match read_by_type(alloc, model, &doc.control, doc.segments.as_slice()) {
+        Err(OutOfMemory) => Err(MasterFault::OutOfMemory),
+        Ok(reading) => check_reading(model.as_lists(), doc, reading),
     }
 }
 
-/// Says whether a document may be a master of a message type.
-fn check_as(
-    alloc: Global,
-    lists: &Lists,
-    doc: &RawUnitDoc,
-    message: MessageNo,
-) -> Result<(), MasterFault>
-    requires kept { IsModel lists.now }
-    requires known { message < length lists.now.messages }
-    ensures good { OnOk result (fault_as lists.now doc.now message ≡ None) }
+/// Says whether a document may be a master, of which this was read.
+fn check_reading(lists: &Lists, doc: &RawUnitDoc, reading: Reading) -> Result<(), MasterFault>
+    requires { IsReadingOf lists.now doc.now.control doc.now.segments reading }
+    ensures good { OnOk result (reading_fault lists.now doc.now.control (reading_in reading) ≡ None) }
     ensures fault { (fault : MasterFault) → result ≡ Err fault
-        → (fault ≡ MasterFault.OutOfMemory) ⊎ (fault_as lists.now doc.now message ≡ Some fault) }
+        → reading_fault lists.now doc.now.control (reading_in reading) ≡ Some fault }
     ensures memory { result ≢ Err (MasterFault.Syntax SyntaxFault.OutOfMemory) }
 {
-    let ty = type_of(lists, message);
-    if !may_be_of(&doc.control, ty.name.as_slice()) {
-        return Err(MasterFault::Unknown);
+    match reading {
+        Reading::Unknown => Err(MasterFault::Unknown),
+        Reading::Faulty(message, fault) => {
+            if may_be_as(lists, doc, message) {
+                Err(MasterFault::Syntax(fault))
+            } else {
+                Err(MasterFault::Unknown)
+            }
+        }
+        Reading::Read(message, _) => {
+            if may_be_as(lists, doc, message) {
+                Ok(())
+            } else {
+                Err(MasterFault::Unknown)
+            }
+        }
     }
-    let records = doc.segments.as_slice();
-    match build(alloc, &lists.definitions, ty, Control::blank(), records) {
-        Ok(_) => Ok(()),
-        Err(SyntaxFault::OutOfMemory) => Err(MasterFault::OutOfMemory),
-        Err(fault) => Err(MasterFault::Syntax(fault)),
-    }
+}
+
+/// Whether IDOCTYP of a document is blank or names the IDoc type of a message type.
+fn may_be_as(lists: &Lists, doc: &RawUnitDoc, message: MessageNo) -> bool
+    ensures { result ≡ may_be_of doc.now.control (idoc_type_name_of lists.now message) }
+{
+    may_be_of(&doc.control, idoc_type_name_of(lists, message))
 }

@@ -9,14 +9,14 @@ ghost use Rattle.unit_core.specs.Queues.{are_different, has_name};
 ghost use Rattle.change_pointers.specs.Master.{length_at};
 ghost use Rattle.application_rules.specs.Puts.{are_settable, field_names, field_of_name, is_key, kind_named, may_change, may_get, may_put};
 
-use ale_base::{FieldValue, trimmed};
+use ale_base::FieldValue;
 use change_pointers::name_at;
 use dist_model::{Kind, Lists, Model, all_fields};
 use segment_defs::{Definitions, Field};
 
-/// Whether a Put may follow a log whose model this is: its kind is one of the model, and its key is not empty, has room in the
-/// key field of the kind, and has no blank at its end. There is at least one field, and each is one of the kind, not the key
-/// field, given once, and has room for its value. It takes no memory.
+/// Whether a Put may follow a log whose model this is: its kind is one of the model, and its key is not empty and has room in the
+/// key field of the kind. There is at least one field, and each is one of the kind, not the key field, given once, and has room for
+/// its value. It takes no memory.
 pub fn may_put(model: &Model, kind: &[u8], key: &[u8], fields: &[FieldValue]) -> bool
     ensures { result ≡ may_put model.now kind.now key.now fields.now }
 {
@@ -51,7 +51,7 @@ fn may_change(definitions: &Definitions, kind: &Kind, key: &[u8], fields: &[Fiel
 fn is_key(own: &[Field], key_place: u16, key: &[u8]) -> bool
     ensures { result ≡ is_key own.now key_place key.now }
 {
-    !key.is_empty() && key.len() <= length_at(own, key_place) && trimmed(key) == key
+    !key.is_empty() && key.len() <= length_at(own, key_place)
 }
 
 /// The length of the field at a place; 0 where there is none.

@@ -23,7 +23,7 @@ use Rattle.dist_model.specs.Message.{IsMessage, message_names}
 use Rattle.dist_model.specs.Model.{IsModel}
 use Rattle.change_pointers.specs.declared.pointer.ObjectKey.{ObjectKey}
 use Rattle.change_pointers.specs.declared.pointer.Pointer.{Pointer}
-use Rattle.change_pointers.specs.Master.{message_name}
+use Rattle.dist_model.specs.Named.{message_name}
 use Rattle.change_pointers.specs.Laws.{AreNamesakes, AreWaiting, ClearsAlone, FollowNames, IsAwaited}
 use Rattle.change_pointers.specs.Pointers.{cleared, is_of, object_cmp, object_of, pending_of, with_object}
 use Rattle.change_pointers.specs.Renumbered.{number_in, renumbered}

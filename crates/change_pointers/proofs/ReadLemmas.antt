@@ -33,11 +33,11 @@ use Rattle.dist_model.specs.declared.lists.Lists.{Lists}
 use Rattle.dist_model.specs.declared.message.Message.{Message}
 use Rattle.dist_model.specs.Field.{all_fields}
 use Rattle.dist_model.specs.Kind.{IsKind}
-use Rattle.dist_model.specs.Message.{IsMessage, entries_at, is_near_root, is_root_enough, message_entries, root_segment}
-use Rattle.dist_model.specs.Model.{IsModel}
+use Rattle.dist_model.specs.Message.{IsMessage, entries_at, is_near_root, is_root_enough, root_segment}
+use Rattle.dist_model.specs.Model.{IsModel, entries_for}
 use Rattle.object_store.specs.Objects.{Fields, value_in}
-use Rattle.version_reduce.specs.Document.{IsOfMessage}
-use Rattle.change_pointers.specs.Master.{MakesDocuments, kind_of, length_at, master_segment, object_segment, object_text}
+use Rattle.idoc_reading.specs.Document.{IsOfEntries}
+use Rattle.change_pointers.specs.Master.{MakesDocuments, kind_of, length_at, master_control, master_segment, object_segment, object_text}
 use Rattle.change_pointers.specs.Noted.{name_at}
 
 is_eqb : (a b : ℕ) → a ≡ b → a == b ≡ true
@@ -204,11 +204,11 @@ root_is : (type : IdocType) (entries : List TypePlace) → IsRootEntry (slice_ge
 root_is type [] is = absurd is
 root_is type (root ∷ rest) is = (root, rest, refl, is.0, is.2)
 
--- the segment of an object of a message type whose objects make documents is a document of it
-pub master-of_message : (model : Lists) (message : ℕ) (m : Message) (kind : Kind) (key : List ℕ) (values : Fields) → IsModel model
+-- the segment of an object of a message type whose objects make documents is a document by the entries for it
+pub master-of_entries : (model : Lists) (message : ℕ) (m : Message) (kind : Kind) (key : List ℕ) (values : Fields) → IsModel model
     → slice_get model.messages message ≡ Some m → 1 ≤ length m.pointers → slice_get model.kinds m.kind ≡ Some kind
-    → IsOfMessage model message (leaf (object_segment model.definitions key values kind))
-master-of_message model message m kind key values kept at listed of_kind =
+    → IsOfEntries model.definitions (entries_for model message (master_control model message)) (leaf (object_segment model.definitions key values kind))
+master-of_entries model message m kind key values kept at listed of_kind =
     let is = AllByRecursion-at (IsMessage model.definitions model.types model.kinds) model.messages message m kept.messages.each at in
     let its : is.kind ≡ kind = same_Some is.kind kind (sym is.of_kind ∙ of_kind) in
     let is_kind = AllByRecursion-at (IsKind model.definitions) model.kinds m.kind kind kept.kinds.each of_kind in
@@ -216,7 +216,7 @@ master-of_message model message m kind key values kept at listed of_kind =
     let is_type = AllByRecursion-at (IsIdocType model.definitions) model.types m.idoctype type kept.types.each is.typed in
     let segment = object_segment model.definitions key values kind in
     let (root, rest, whole, first, once) = root_is type type.segments is_type.root in
-    let entries : message_entries model.types model.messages message ≡ root ∷ rest =
+    let entries : entries_for model message (master_control model message) ≡ root ∷ rest =
     ap (λ (found : Option Message). option_map_or (λ m. entries_at model.types m.idoctype) found []) at
     ∙ ap (λ (found : Option IdocType). option_map_or (λ t. t.segments) found []) is.typed ∙ whole in
     let each = subst (AllByRecursion (IsEntry model.definitions)) whole is_type.each in
@@ -237,7 +237,8 @@ master-of_message model message m kind key values kept at listed of_kind =
 
 -- so is the master of an object
 pub master-is : (model : Lists) (message : ℕ) (key : List ℕ) (values : Fields) (forest : Forest) → IsModel model → MakesDocuments model message
-    → Some forest ≡ option_map leaf (master_segment model message key values) → IsOfMessage model message forest
+    → Some forest ≡ option_map leaf (master_segment model message key values)
+    → IsOfEntries model.definitions (entries_for model message (master_control model message)) forest
 master-is model message key values forest kept makes made =
     let m = makes.type in
     let is = AllByRecursion-at (IsMessage model.definitions model.types model.kinds) model.messages message m kept.messages.each makes.here in
@@ -246,4 +247,5 @@ master-is model message key values forest kept makes made =
     let forest_is : forest ≡ leaf (object_segment model.definitions key values is.kind) =
     same_Some forest (leaf (object_segment model.definitions key values is.kind))
     (made ∙ ap (λ (k : Option Kind). option_map leaf (option_map (object_segment model.definitions key values) k)) of_kind) in
-    subst (IsOfMessage model message) (sym forest_is) (master-of_message model message m is.kind key values kept makes.here makes.listed is.of_kind)
+    subst (IsOfEntries model.definitions (entries_for model message (master_control model message))) (sym forest_is)
+    (master-of_entries model message m is.kind key values kept makes.here makes.listed is.of_kind)

@@ -1,5 +1,5 @@
 -- The master document that is made of an object. This project's own.
-use Rattle.std.specs.Prelude.{◌≡◌, ℕ, ◌-◌, ◌≤◌, ◌==◌, List, [], length, take, Option, Some, slice_get, if◌then◌else◌}
+use Rattle.std.specs.Prelude.{◌≡◌, ℕ, ◌-◌, ◌≤◌, ◌==◌, List, length, take, Option, Some, slice_get, if◌then◌else◌}
 use Rattle.std.specs.Option.{option_and_then, option_map, option_map_or}
 use Rattle.idoc_record.specs.declared.control_field.ControlField.{ControlField}
 use Rattle.idoc_record.specs.declared.control_field.ControlField.TheVariants.{Idoctyp, Mestyp}
@@ -15,26 +15,18 @@ use Rattle.dist_model.specs.declared.kind.Kind.{Kind}
 use Rattle.dist_model.specs.declared.lists.Lists.{Lists}
 use Rattle.dist_model.specs.declared.message.Message.{Message}
 use Rattle.dist_model.specs.Field.{all_fields}
+use Rattle.dist_model.specs.Named.{idoc_type_name_of, message_name}
 use Rattle.object_store.specs.Objects.{Fields, ObjectsOf, object_at, value_in}
 use Rattle.change_pointers.specs.declared.pointer.ObjectKey.{ObjectKey}
 use Rattle.change_pointers.specs.Noted.{name_at}
 
--- the name of a message type, given its number
-abbrev pub message_name : Lists → ℕ → List ℕ
-message_name model message = option_map_or (λ m. m.name) (slice_get model.messages message) []
-
--- the name of its IDoc type
-abbrev pub type_name : Lists → ℕ → List ℕ
-type_name model message =
-    option_map_or (λ m. option_map_or (λ type. type.name) (slice_get model.types m.idoctype) []) (slice_get model.messages message) []
-
--- the kind of its objects
+-- the kind of the objects of a message type
 abbrev pub kind_of : Lists → ℕ → Option Kind
 kind_of model message = option_and_then (λ m. slice_get model.kinds m.kind) (slice_get model.messages message)
 
 -- the fields of a master's control record: it names its table, its IDoc type and its message type, and all else is blank
 abbrev pub master_text : Lists → ℕ → ControlField → List ℕ
-master_text model message = written_at Mestyp (message_name model message) (written_at Idoctyp (type_name model message) blank_text)
+master_text model message = written_at Mestyp (message_name model message) (written_at Idoctyp (idoc_type_name_of model message) blank_text)
 
 -- the control record of a master
 abbrev pub master_control : Lists → ℕ → List ℕ

@@ -6,7 +6,7 @@ use Rattle.ale_base.specs.Text.{is_text}
 use Rattle.dist_model.specs.declared.lists.Lists.{Lists}
 use Rattle.dist_model.specs.Message.{message_names}
 use Rattle.change_pointers.specs.declared.pointer.Pointer.{Pointer}
-use Rattle.change_pointers.specs.Master.{message_name}
+use Rattle.dist_model.specs.Named.{message_name}
 
 -- the number that a message type of one model has in another, if it is there
 abbrev pub number_in : Lists → Lists → ℕ → Option ℕ

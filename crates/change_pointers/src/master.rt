@@ -9,8 +9,8 @@ ghost use Rattle.segment_defs.specs.Definitions.{AreDefinitions};
 ghost use Rattle.segment_defs.specs.Version.{data_of};
 ghost use Rattle.idoc_tree.specs.Forest.{leaf};
 ghost use Rattle.idoc_tree.specs.Nodes.{forest_of};
-ghost use Rattle.dist_model.specs.Model.{IsModel};
-ghost use Rattle.version_reduce.specs.Document.{IsOfMessage};
+ghost use Rattle.dist_model.specs.Model.{IsModel, entries_for};
+ghost use Rattle.idoc_reading.specs.Document.{IsOfEntries};
 ghost use Rattle.object_store.specs.Objects.{object_at, value_in};
 ghost use Rattle.object_store.specs.Posting.{fields_of};
 ghost use Rattle.change_pointers.specs.Master.{MakesDocuments, kind_of, master_control, master_in, master_segment, object_master, object_segment, object_text};
@@ -44,9 +44,9 @@ pub fn master_of(
         ≡ option_map leaf (master_segment model.now message key.now.key (fields_of key.now.kind key.now.key objects.now)))) }
     // As one value, of which `gathered` makes the masters of a gathering.
     ensures made { IfOk result (λ master. option_map master_in master ≡ object_master model.now message objects.now key.now) }
-    // It is a document of its message type, if that is one whose objects make documents.
-    ensures of_message { MakesDocuments model.now message → IfOk result (λ master. IfSome master (λ doc.
-        IsOfMessage model.now message (forest_of doc.forest.items))) }
+    // It is a document by the entries for its message type, if that is one whose objects make documents.
+    ensures of_entries { MakesDocuments model.now message → IfOk result (λ master. IfSome master (λ doc.
+        IsOfEntries model.now.definitions (entries_for model.now message doc.control) (forest_of doc.forest.items))) }
 {
     if !objects.contains(key.kind.as_slice(), key.key.as_slice()) {
         return Ok(None);

@@ -4,12 +4,11 @@ ghost use Rattle.std.specs.Prelude.{◌≡◌, IfOk, position};
 ghost use Rattle.ale_base.specs.Text.{is_text};
 ghost use Rattle.dist_model.specs.Message.{message_names};
 ghost use Rattle.dist_model.specs.Model.{IsModel};
-ghost use Rattle.change_pointers.specs.Master.{message_name};
 ghost use Rattle.change_pointers.specs.Renumbered.{number_in};
 
 use crate::{Pointer, Pointers};
 use ale_base::{Items, OutOfMemory};
-use dist_model::{Lists, MessageNo, Model};
+use dist_model::{Lists, MessageNo, Model, message_name};
 use std::alloc::Global;
 
 impl Pointers {
@@ -69,15 +68,4 @@ fn number_in(before: &Lists, after: &Lists, message: MessageNo) -> Option<Messag
         }
     }
     None
-}
-
-/// The name of a message type; no bytes where there is none.
-fn message_name(lists: &Lists, message: MessageNo) -> &[u8]
-    ensures { result.now ≡ message_name lists.now message }
-{
-    let number = message.0;
-    match lists.messages.get(usize::from(number)) {
-        None => &[],
-        Some(message) => message.name.as_slice(),
-    }
 }

@@ -44,3 +44,14 @@ pub record IsValueOf (definitions : Definitions) (segment place : ℕ) (value : 
   pub field : Field
   pub here : slice_get (all_fields definitions segment) place ≡ Some field
   pub is : IsValue field value
+
+-- a value of a filter on a field is no longer than the field, and where it is blanks alone it is written with no bytes
+pub record IsFilterValue (field : Field) (value : List ℕ) : Type 0 where
+  pub fits : length value ≤ field.length
+  pub blank : trimmed value ≡ [] → value ≡ []
+
+-- the same of a field that is named by its place
+pub record IsFilterValueOf (definitions : Definitions) (segment place : ℕ) (value : List ℕ) : Type 0 where
+  pub field : Field
+  pub here : slice_get (all_fields definitions segment) place ≡ Some field
+  pub is : IsFilterValue field value

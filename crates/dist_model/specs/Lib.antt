@@ -14,6 +14,8 @@ pub mod Outbound
 pub mod Inbound
 -- the whole model, and what its names stand for
 pub mod Model
+-- what its numbers stand for, by name
+pub mod Named
 -- what the index of a model holds
 pub mod Index
 -- triples of numbers

@@ -6,6 +6,7 @@ use Rattle.std.specs.Option.{option_map}
 use Rattle.ale_base.specs.Text.{is_text}
 use Rattle.segment_defs.specs.declared.definitions.Definitions.{Definitions}
 use Rattle.segment_defs.specs.declared.idoc_type.IdocType.{IdocType}
+use Rattle.segment_defs.specs.declared.idoc_type.TypePlace.{TypePlace}
 use Rattle.segment_defs.specs.declared.segment_type.SegmentType.{SegmentType}
 use Rattle.segment_defs.specs.Name.{is_name_within}
 use Rattle.segment_defs.specs.Definitions.{AreDefinitions}
@@ -117,6 +118,10 @@ basic_at model place =
 -- the message type that a name stands for
 abbrev pub message_named : List ℕ → Lists → Option ℕ
 message_named name model = option_and_then (basic_at model) (position (is_text name) (all_names model))
+
+-- The entries by which a document of a message type is read that has this control record: those of the message type's IDoc type.
+abbrev pub entries_for : Lists → ℕ → List ℕ → List TypePlace
+entries_for model message control = message_entries model.types model.messages message
 
 -- the places of the elements that pass a test, where the first stands at this place
 abbrev pub places_from : {A : Type 0} → (A → Bool) → ℕ → List A → List ℕ

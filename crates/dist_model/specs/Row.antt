@@ -7,16 +7,16 @@ use Rattle.dist_model.specs.declared.filter.Filter.{Filter}
 use Rattle.dist_model.specs.declared.row.Choice.{Choice}
 use Rattle.dist_model.specs.declared.row.Group.{Group}
 use Rattle.dist_model.specs.declared.row.Row.{Row}
-use Rattle.dist_model.specs.Field.{IsValueOf}
+use Rattle.dist_model.specs.Field.{IsFilterValueOf}
 use Rattle.dist_model.specs.Way.{IsWay, row_way, same_way}
 
--- a condition is on a filter of a message type, and has values of the filter's field, not too many
+-- a condition is on a filter of a message type, and has values of the filter, not too many
 pub record IsChoice (definitions : Definitions) (filters : List Filter) (message : ℕ) (choice : Choice) : Type 0 where
   pub filter : Filter
   pub known : slice_get filters choice.filter ≡ Some filter
   pub own : filter.message ≡ message
   pub few : length choice.values ≤ MOST_VALUES
-  pub values : AllByRecursion (IsValueOf definitions filter.segment filter.field) choice.values
+  pub values : AllByRecursion (IsFilterValueOf definitions filter.segment filter.field) choice.values
 
 -- a group has such conditions
 abbrev pub IsGroup : Definitions → List Filter → ℕ → Group → Type 0

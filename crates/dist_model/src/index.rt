@@ -4,13 +4,15 @@ ghost use Rattle.std.specs.Prelude.{◌≡◌, ◌<◌, ◌≤◌, ◌++◌, [],
 ghost use Rattle.std.specs.List.{AllByRecursion, IsDistinct};
 ghost use Rattle.ale_base.specs.Text.{is_text};
 ghost use Rattle.dist_model.specs.declared.limits.TheConstants.{MOST_OUTBOUND, MOST_ROWS};
-ghost use Rattle.dist_model.specs.Way.{outbound_way, outbound_ways, row_way, same_way};
+ghost use Rattle.dist_model.specs.Way.{outbound_ways, same_way};
 ghost use Rattle.dist_model.specs.Message.{message_names, reduced_names};
 ghost use Rattle.dist_model.specs.Inbound.{same_inbound};
 ghost use Rattle.dist_model.specs.Model.{HasProfile, IsModel};
 ghost use Rattle.dist_model.specs.Index.{AreProfilesOf, AreRowsOf, inbound_triple, IsIndexOf};
 
-use crate::{Inbound, Lists, Message, Names, Outbound, Reduced, Row, Triples};
+use crate::{
+    Inbound, Lists, Message, Names, Outbound, Reduced, Row, Triples, outbound_way, row_way,
+};
 use ale_base::{Items, OutOfMemory};
 use std::alloc::Global;
 
@@ -104,35 +106,13 @@ fn rows_by_message(
     Ok(lists)
 }
 
-fn way_of_row(row: &Row) -> (usize, usize, usize)
-    ensures { result ≡ row_way row.now }
-{
-    let message = row.message.0;
-    (
-        usize::from(row.sender.get()),
-        usize::from(row.receiver.get()),
-        usize::from(message),
-    )
-}
-
-fn way_of_profile(profile: &Outbound) -> (usize, usize, usize)
-    ensures { result ≡ outbound_way profile.now }
-{
-    let message = profile.message.0;
-    (
-        usize::from(profile.sender.get()),
-        usize::from(profile.receiver.get()),
-        usize::from(message),
-    )
-}
-
 fn ways_of(alloc: Global, profiles: &[Outbound]) -> Result<Triples, OutOfMemory>
     requires { IsDistinct same_way (outbound_ways profiles.now) }
     ensures { IfOk result (λ ways. ways ≡ outbound_ways profiles.now) }
 {
     let mut ways = Triples::new(alloc);
     for profile in profiles {
-        ways.add(way_of_profile(profile))?;
+        ways.add(outbound_way(profile))?;
     }
     Ok(ways)
 }
@@ -150,7 +130,7 @@ fn profile_places(
     let ways = ways_of(alloc, profiles)?;
     let mut places = Items::new(alloc);
     for row in rows {
-        let place = ways.place(way_of_row(row)).unwrap();
+        let place = ways.place(row_way(row)).unwrap();
         places.push(place as u16)?;
     }
     Ok(places)

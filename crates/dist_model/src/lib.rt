@@ -16,12 +16,14 @@ mod limits;
 mod lists;
 mod message;
 mod model;
+mod named;
 mod names;
 mod numbers;
 mod outbound;
 mod row;
 mod system;
 mod triples;
+mod way;
 
 pub use fields::{all_fields, entries_at, field_named, has_entry, message_entries};
 pub use filter::{FieldPlace, Filter};
@@ -36,9 +38,14 @@ pub use limits::{
 pub use lists::Lists;
 pub use message::{Message, MessageNo, PostingMode, Reduced};
 pub use model::Model;
+pub use named::{
+    idoc_type_name, idoc_type_name_of, kind_name, message_name, reduced_name, segment_name,
+    system_name,
+};
 pub use names::Names;
 pub use numbers::Numbers;
 pub use outbound::{Convert, Outbound, QueueRule};
 pub use row::{Choice, Group, Row, RowNo};
 pub use system::System;
 pub use triples::Triples;
+pub use way::{outbound_way, row_way};

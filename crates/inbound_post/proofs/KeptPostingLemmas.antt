@@ -28,9 +28,10 @@ use Rattle.idoc_tree.specs.Forest.{Forest, Segment, no_trees, tree}
 use Rattle.idoc_tree.specs.FromRecords.{built}
 use Rattle.idoc_tree.specs.Spells.{Spells, segment_found, segment_of}
 use Rattle.idoc_tree.proofs.BuildsLemmas.{Builds-built, built-Builds}
+use Rattle.idoc_reading.specs.Reading.{read_as, read_by_type}
 use Rattle.unit_core.specs.declared.raw_unit_doc.RawUnitDoc.{RawUnitDoc}
 use Rattle.object_store.specs.declared.posting.Posting.{Posting}
-use Rattle.inbound_post.specs.Reading.{posting, posting_as, posting_by, posting_made, posting_of, posting_with, root_built, root_read}
+use Rattle.inbound_post.specs.Reading.{posting, posting_by, posting_made, posting_of, posting_read, posting_with, root_built}
 use Rattle.inbound_post.proofs.RenamedLemmas.{IsForestRenamed, IsRenamed, entry_renamed, spells-renamed, valid-renamed}
 
 and_then-Some : {A B : Type 0} (f : A → Option B) (o : Option A) (y : B) → option_and_then f o ≡ Some y → (x : A) × (o ≡ Some x) × (f x ≡ Some y)
@@ -102,6 +103,10 @@ message-within model kept name message found = of_stands ((message-named model k
             → Contains all one → IsReduced model.definitions model.types model.messages one
         member-keeps all each one among = let at = place_of all one among in AllByRecursion-at _ all at.0 one each at.1
 
+-- the root segment of a document that is read by a message type
+abbrev root_read : Lists → RawUnitDoc → ℕ → Option Segment
+root_read model doc message = root_built (read_as model doc.control doc.segments message).made
+
 -- what a document says that is read by a message type
 posting-made : (model : Lists) (doc : RawUnitDoc) (message : ℕ) (type : Message) (kind : Kind) (root : Segment) (definition : Version)
     → message_named (field_of doc.control Mestyp) model ≡ Some message → root_read model doc message ≡ Some root
@@ -109,7 +114,7 @@ posting-made : (model : Lists) (doc : RawUnitDoc) (message : ℕ) (type : Messag
     → version_of model.definitions root.type root.version ≡ Some definition
     → posting model doc ≡ Some (posting_with model type kind root.sdata definition)
 posting-made model doc message type kind root definition named read typed of_kind defined =
-    ap (option_and_then (posting_as model doc)) named
+    ap (λ (m : Option ℕ). option_and_then (posting_read model) (option_map (read_as model doc.control doc.segments) m)) named
     ∙ ap (option_and_then (posting_of model message)) read
     ∙ ap (option_and_then (λ t. posting_made model t root)) typed
     ∙ ap (option_and_then (posting_by model root type)) of_kind
@@ -174,8 +179,10 @@ module _ (old new : Lists) (old_kept : IsModel old) (new_kept : IsModel new) (re
   pub posting-renamed : (doc : RawUnitDoc) (made : Posting) → posting old doc ≡ Some made → (other : Posting) × (posting new doc ≡ Some other)
   posting-renamed doc made is =
       let name = field_of doc.control Mestyp in
-      let by_message = and_then-Some (posting_as old doc) (message_named name old) made is in
-      let by_root = and_then-Some (posting_of old by_message.0) (root_read old doc by_message.0) made by_message.2 in
+      let by_read = and_then-Some (posting_read old) (read_by_type old doc.control doc.segments) made is in
+      let by_message = map-Some (read_as old doc.control doc.segments) (message_named name old) by_read.0 by_read.1 in
+      let by_root = and_then-Some (posting_of old by_message.0) (root_read old doc by_message.0) made
+      (subst (λ r. posting_read old r ≡ Some made) (sym by_message.2) by_read.2) in
       let message = messages name by_message.0 by_message.1 in
       let read = read-renamed doc by_message.0 message.0 by_root.0 message.2 by_root.1 in
       let typed = slice_get-within new.messages message.0 (message-within new new_kept name message.0 message.1) in

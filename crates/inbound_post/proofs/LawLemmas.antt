@@ -16,8 +16,7 @@ use Rattle.segment_defs.specs.declared.version.Version.{Version}
 use Rattle.segment_defs.specs.Definitions.{version_of}
 use Rattle.segment_defs.specs.Version.{field_text, text_in}
 use Rattle.dist_model.specs.declared.lists.Lists.{Lists}
-use Rattle.dist_model.specs.Message.{message_entries}
-use Rattle.dist_model.specs.Model.{IsModel, StandsForMessage, message_named}
+use Rattle.dist_model.specs.Model.{IsModel, StandsForMessage, entries_for, message_named}
 use Rattle.dist_model.proofs.LookupLemmas.{message-named}
 use Rattle.idoc_tree.specs.declared.fault.SyntaxFault.{SyntaxFault}
 use Rattle.idoc_tree.specs.Forest.{Segment, Forest, no_trees, tree}
@@ -30,7 +29,8 @@ use Rattle.change_pointers.proofs.LawLemmas.{clears-alone}
 use Rattle.object_store.specs.declared.posting.Posting.{Posting}
 use Rattle.inbound_post.specs.Application.{left_by}
 use Rattle.inbound_post.specs.Laws.{IsFieldValue, IsKeyOf, IsSaidBy, TakesUp}
-use Rattle.inbound_post.specs.Reading.{is_no_data, key_text, posted_fields, posting, posting_as, posting_by, posting_made, posting_of, posting_with, root_built}
+use Rattle.idoc_reading.specs.Reading.{read_as, read_by_type}
+use Rattle.inbound_post.specs.Reading.{is_no_data, key_text, posted_fields, posting, posting_by, posting_made, posting_of, posting_read, posting_with, root_built}
 
 -- what is posted of the fields from a place on
 record IsPosted (fields : List Field) (key from : ℕ) (sdata : List ℕ) (posted : FieldValue) : Type 0 where
@@ -189,13 +189,15 @@ module _ (model : Lists) (kept : IsModel model) where
   posting-said : (doc : RawUnitDoc) (made : Posting) → posting model doc ≡ Some made → IsSaidBy model doc made
   posting-said doc made is =
       let name = field_of doc.control Mestyp in
-      let by_message = and_then-Some (posting_as model doc) (message_named name model) made is in
-      let by_root = and_then-Some (posting_of model by_message.0) _ made by_message.2 in
+      let by_read = and_then-Some (posting_read model) (read_by_type model doc.control doc.segments) made is in
+      let by_message = map-Some (read_as model doc.control doc.segments) (message_named name model) by_read.0 by_read.1 in
+      let posted : posting_read model (read_as model doc.control doc.segments by_message.0) ≡ Some made = ap (posting_read model) by_message.2 ∙ by_read.2 in
+      let by_root = and_then-Some (posting_of model by_message.0) _ made posted in
       let by_type = and_then-Some (λ type. posting_made model type by_root.0) (slice_get model.messages by_message.0) made by_root.2 in
       let by_kind = and_then-Some (posting_by model by_root.0 by_type.0) (slice_get model.kinds by_type.0.kind) made by_type.2 in
       let by_definition = map-Some (posting_with model by_type.0 by_kind.0 by_root.0.sdata) (version_of model.definitions by_root.0.type by_root.0.version) made
       by_kind.2 in
-      let first = first_tree (built model.definitions (message_entries model.types model.messages by_message.0) doc.segments) by_root.0 by_root.1 in
+      let first = first_tree (built model.definitions (entries_for model by_message.0 doc.control) doc.segments) by_root.0 by_root.1 in
       let definition = by_definition.0 in
       let made_is = by_definition.2 in
       record {

@@ -1,17 +1,13 @@
--- The fields that are posted, one more of them; and the types of a model's messages and kinds.
+-- The fields that are posted, one more of them; and the types of a model's kinds.
 use Rattle.std.specs.Prelude.{slice_get, ◌||◌}
 use Rattle.std.proofs.Common.{◌≡◌, ℕ, suc, ◌<◌, ◌==◌, Bool, true, false, Some, List, ◌∷◌, length, drop, drop-cons, get_or, sym, ap, ◌∙◌}
 use Rattle.std.proofs.lemmas.Bool.{cond-true, cond-false}
 use Rattle.ale_base.proofs.ListLemmas.{AllByRecursion-at}
 use Rattle.segment_defs.specs.declared.field.Field.{Field}
-use Rattle.segment_defs.specs.declared.idoc_type.IdocType.{IdocType}
-use Rattle.segment_defs.specs.IdocType.{IsIdocType}
 use Rattle.segment_defs.specs.Version.{field_text}
 use Rattle.dist_model.specs.declared.kind.Kind.{Kind}
 use Rattle.dist_model.specs.declared.lists.Lists.{Lists}
-use Rattle.dist_model.specs.declared.message.Message.{Message}
 use Rattle.dist_model.specs.Kind.{IsKind}
-use Rattle.dist_model.specs.Message.{IsMessage}
 use Rattle.dist_model.specs.Model.{IsModel}
 use Rattle.inbound_post.specs.Reading.{is_no_data, posted_fields}
 
@@ -43,10 +39,3 @@ module _ (key place : ℕ) (sdata : List ℕ) (fields : List Field) (field : Fie
 pub kind-known : (model : Lists) (place : ℕ) (kind : Kind) → IsModel model → slice_get model.kinds place ≡ Some kind →
     kind.segment < length model.definitions.types
 kind-known model place kind is here = (AllByRecursion-at (IsKind model.definitions) model.kinds place kind is.kinds.each here).known
-
--- the IDoc type of a message type of a model is there
-pub message-typed : (model : Lists) (place : ℕ) (message : Message) → IsModel model → slice_get model.messages place ≡ Some message
-    → (type : IdocType) × (slice_get model.types message.idoctype ≡ Some type) × IsIdocType model.definitions type
-message-typed model place message is here =
-    let kept = AllByRecursion-at (IsMessage model.definitions model.types model.kinds) model.messages place message is.messages.each here in
-    (kept.type, kept.typed, AllByRecursion-at (IsIdocType model.definitions) model.types message.idoctype kept.type is.types.each kept.typed)

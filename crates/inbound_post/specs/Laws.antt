@@ -9,8 +9,7 @@ use Rattle.segment_defs.specs.Version.{field_text}
 use Rattle.dist_model.specs.declared.kind.Kind.{Kind}
 use Rattle.dist_model.specs.declared.lists.Lists.{Lists}
 use Rattle.dist_model.specs.declared.message.Message.{Message}
-use Rattle.dist_model.specs.Message.{message_entries}
-use Rattle.dist_model.specs.Model.{StandsForMessage}
+use Rattle.dist_model.specs.Model.{StandsForMessage, entries_for}
 use Rattle.idoc_tree.specs.Forest.{Segment, Forest, tree}
 use Rattle.idoc_tree.specs.FromRecords.{built}
 use Rattle.unit_core.specs.declared.raw_unit_doc.RawUnitDoc.{RawUnitDoc}
@@ -36,8 +35,8 @@ pub record IsKeyOf (definition : Version) (key : ℕ) (sdata value : List ℕ) :
   pub no_data : (field : Field) → slice_get definition.fields key ≡ Some field → field_text sdata field ≡ codes "/" → value ≡ []
   pub no_field : slice_get definition.fields key ≡ None → value ≡ []
 
--- A posting is what the root segment of a document says of an object: MESTYP stands for a message type, by whose IDoc type the document
--- is read; the object is of the kind of that; its key and the values that its fields get are those that the root segment has by its own
+-- A posting is what the root segment of a document says of an object: MESTYP stands for a message type, by the entries for which the
+-- document is read; the object is of the kind of that; its key and the values that its fields get are those that the root segment has by its own
 -- definition.
 pub record IsSaidBy (model : Lists) (doc : RawUnitDoc) (posting : Posting) : Type 0 where
   pub message : ℕ
@@ -49,7 +48,7 @@ pub record IsSaidBy (model : Lists) (doc : RawUnitDoc) (posting : Posting) : Typ
   pub root : Segment
   pub below : Forest
   pub after : Forest
-  pub read : built model.definitions (message_entries model.types model.messages message) doc.segments ≡ Ok (tree root below after)
+  pub read : built model.definitions (entries_for model message doc.control) doc.segments ≡ Ok (tree root below after)
   pub definition : Version
   pub of_root : version_of model.definitions root.type root.version ≡ Some definition
   pub object : posting.kind ≡ kind.name

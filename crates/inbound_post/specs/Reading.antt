@@ -5,8 +5,6 @@ use Rattle.std.specs.Prelude.{if◌then◌else◌}
 use Rattle.std.specs.Option.{option_map}
 use Rattle.ale_base.specs.Text.{is_text}
 use Rattle.ale_base.specs.declared.change.FieldValue.{FieldValue}
-use Rattle.idoc_record.specs.declared.control_field.ControlField.TheVariants.{Mestyp}
-use Rattle.idoc_record.specs.Control.{field_of}
 use Rattle.segment_defs.specs.declared.field.Field.{Field}
 use Rattle.segment_defs.specs.declared.version.Version.{Version}
 use Rattle.segment_defs.specs.Definitions.{version_of}
@@ -17,11 +15,9 @@ use Rattle.dist_model.specs.declared.message.Message.{Message}
 use Rattle.dist_model.specs.declared.message.PostingMode.{PostingMode}
 use Rattle.dist_model.specs.declared.message.PostingMode.TheVariants.{Upsert, Insert}
 use Rattle.dist_model.specs.Field.{all_fields}
-use Rattle.dist_model.specs.Message.{message_entries}
-use Rattle.dist_model.specs.Model.{message_named}
 use Rattle.idoc_tree.specs.declared.fault.SyntaxFault.{SyntaxFault}
 use Rattle.idoc_tree.specs.Forest.{Segment, Forest, no_trees, tree}
-use Rattle.idoc_tree.specs.FromRecords.{built}
+use Rattle.idoc_reading.specs.Reading.{ReadDocument, read_by_type}
 use Rattle.unit_core.specs.declared.raw_unit_doc.RawUnitDoc.{RawUnitDoc}
 use Rattle.change_pointers.specs.Noted.{name_at}
 use Rattle.object_store.specs.declared.posting.Posting.{Posting}
@@ -82,15 +78,10 @@ abbrev pub root_built : Result Forest SyntaxFault → Option Segment
 root_built (Ok forest) = root_of forest
 root_built (Err fault) = None
 
--- the root segment of a document that is read by the IDoc type of a message type
-abbrev pub root_read : Lists → RawUnitDoc → ℕ → Option Segment
-root_read model doc message = root_built (built model.definitions (message_entries model.types model.messages message) doc.segments)
+-- the posting of what was read of a document
+abbrev pub posting_read : Lists → ReadDocument → Option Posting
+posting_read model read = option_and_then (posting_of model read.message) (root_built read.made)
 
--- the posting of a document of a message type
-abbrev pub posting_as : Lists → RawUnitDoc → ℕ → Option Posting
-posting_as model doc message = option_and_then (posting_of model message) (root_read model doc message)
-
--- the posting of a document, whatever profile there is for it. None where MESTYP stands for no message type, or the document is
--- not read by the IDoc type of that
+-- the posting of a document, whatever profile there is for it. None where it is not read by its message type
 abbrev pub posting : Lists → RawUnitDoc → Option Posting
-posting model doc = option_and_then (posting_as model doc) (message_named (field_of doc.control Mestyp) model)
+posting model doc = option_and_then (posting_read model) (read_by_type model doc.control doc.segments)

@@ -1,25 +1,24 @@
 //! What a received document is to make of an object.
 
-ghost use Rattle.std.specs.Prelude.{◌≡◌, ◌<◌, ◌==◌, ◌||◌, not, IfOk, IfSome, IsSome, OnOk, length, map, slice_get, option_and_then, Some};
+ghost use Rattle.std.specs.Prelude.{◌≡◌, ◌<◌, ◌==◌, ◌||◌, not, IfOk, IfSome, length, map, Ok, Some};
 ghost use Rattle.segment_defs.specs.Definitions.{AreDefinitions};
-ghost use Rattle.segment_defs.specs.IdocType.{IsIdocType};
 ghost use Rattle.segment_defs.specs.Version.{field_text, text_in};
 ghost use Rattle.dist_model.specs.Field.{all_fields};
 ghost use Rattle.dist_model.specs.Model.{IsModel};
-ghost use Rattle.idoc_tree.specs.FromRecords.{built};
+ghost use Rattle.idoc_tree.specs.Forest.{AllNodes};
 ghost use Rattle.idoc_tree.specs.Lines.{IsNode};
-ghost use Rattle.idoc_tree.specs.Nodes.{tree_of};
+ghost use Rattle.idoc_tree.specs.Nodes.{forest_of, tree_of};
 ghost use Rattle.change_pointers.specs.Noted.{name_at};
 ghost use Rattle.inbound_post.specs.Laws.{IsSaidBy};
-ghost use Rattle.inbound_post.specs.Reading.{is_no_data, key_text, posted_fields, posting, posting_as, posting_by, posting_made, posting_of, posting_with, root_built};
+ghost use Rattle.inbound_post.specs.Reading.{is_no_data, key_text, posted_fields, posting, posting_made, posting_of, posting_read, posting_with};
 
 use ale_base::{FieldValue, Items, OutOfMemory};
 use change_pointers::name_at;
 use dist_model::{Kind, Lists, Message, MessageNo, Model, PostingMode, all_fields};
-use idoc_record::{Control, ControlField};
-use idoc_tree::{Node, SyntaxFault, build};
+use idoc_reading::{Reading, read_by_type};
+use idoc_tree::{Doc, Node};
 use object_store::Posting;
-use segment_defs::{Field, IdocType, Version};
+use segment_defs::{Field, Version};
 use std::alloc::Global;
 use unit_core::RawUnitDoc;
 
@@ -34,64 +33,65 @@ pub fn posting(
     ensures made { IfOk result (λ made. made ≡ posting model.now doc.now) }
     ensures said { IfOk result (λ made. IfSome made (IsSaidBy model.now doc.now)) }
 {
-    match model.message(doc.text(ControlField::Mestyp)) {
-        None => Ok(None),
-        Some(message) => posting_as(alloc, model.as_lists(), doc, message),
+    // The rules of a model say which message type a name stands for.
+    let _rules = model.as_lists();
+    let made = read_posting(alloc, model, doc)?;
+    Ok(made)
+}
+
+/// The posting of a document, as it is read by its message type.
+fn read_posting(
+    alloc: Global,
+    model: &Model,
+    doc: &RawUnitDoc,
+) -> Result<Option<Posting>, OutOfMemory>
+    ensures { IfOk result (λ made. made ≡ posting model.now doc.now) }
+{
+    let reading = read_by_type(alloc, model, &doc.control, doc.segments.as_slice())?;
+    match reading {
+        Reading::Read(message, read) => root_posting(alloc, model.as_lists(), message, &read),
+        _ => Ok(None),
     }
 }
 
-/// The posting of a document of a message type.
-fn posting_as(
+/// The posting of a document that was read by a message type.
+fn root_posting(
     alloc: Global,
     model: &Lists,
-    doc: &RawUnitDoc,
     message: MessageNo,
+    read: &Doc,
 ) -> Result<Option<Posting>, OutOfMemory>
-    requires { IsModel model.now }
-    ensures { IfOk result (λ made. made ≡ posting_as model.now doc.now message) }
+    requires model { IsModel model.now }
+    requires nodes { AllNodes (IsNode model.now.definitions) (forest_of read.now.forest.items) }
+    ensures { IfOk result (λ made. made
+        ≡ posting_read model.now (record { message = message; made = Ok (forest_of read.now.forest.items) })) }
+{
+    match read.forest.first() {
+        None => Ok(None),
+        Some(root) => posting_of(alloc, model, message, root),
+    }
+}
+
+/// The posting of the root segment of a document of a message type, by the number of that.
+fn posting_of(
+    alloc: Global,
+    model: &Lists,
+    message: MessageNo,
+    root: &Node,
+) -> Result<Option<Posting>, OutOfMemory>
+    requires model { IsModel model.now }
+    requires node { IsNode model.now.definitions (tree_of root.now).root }
+    ensures { IfOk result (λ made. made ≡ posting_of model.now message (tree_of root.now).root) }
 {
     let number = message.0;
     match model.messages.get(usize::from(number)) {
         None => Ok(None),
-        Some(message) => {
-            let ty = &model.types[usize::from(message.idoctype)];
-            posting_made(alloc, model, message, ty, doc)
-        }
-    }
-}
-
-/// The posting of a document of a message type, by its IDoc type.
-fn posting_made(
-    alloc: Global,
-    model: &Lists,
-    message: &Message,
-    ty: &IdocType,
-    doc: &RawUnitDoc,
-) -> Result<Option<Posting>, OutOfMemory>
-    requires model { IsModel model.now }
-    requires kept { IsIdocType model.now.definitions ty.now }
-    ensures { IfOk result (λ made. made ≡ option_and_then (posting_made model.now message.now)
-        (root_built (built model.now.definitions ty.now.segments doc.now.segments))) }
-{
-    let control = Control::clone(&doc.control)?;
-    match build(
-        alloc,
-        &model.definitions,
-        ty,
-        control,
-        doc.segments.as_slice(),
-    ) {
-        Ok(built) => match built.forest.first() {
-            None => Ok(None),
-            Some(root) => posting_of(alloc, model, message, root),
-        },
-        Err(SyntaxFault::OutOfMemory) => Err(OutOfMemory),
-        Err(_) => Ok(None),
+        Some(message) => posting_made(alloc, model, message, root),
     }
 }
 
 /// The posting of the root segment of a document of a message type.
-fn posting_of(
+fn posting_made(
     alloc: Global,
     model: &Lists,
     message: &Message,

@@ -6,7 +6,6 @@ use Rattle.std.specs.Option.{option_map_or}
 use Rattle.std.proofs.Common.{◌≡◌, ℕ, ◌-◌, ◌≤◌, ◌<◌, ◌^◌, ◌&&◌, not, true, false, Option, Some, None, List, [], ◌∷◌, length, refl, sym, ap, subst, ◌∙◌, arith}
 use Rattle.std.proofs.lemmas.Bool.{and_parts}
 use Rattle.std.proofs.lemmas.Bool.Decides.{nat_tests}
-use Rattle.ale_base.specs.Blanks.{trimmed}
 use Rattle.ale_base.specs.Text.{is_text}
 use Rattle.ale_base.specs.declared.change.Change.{Change}
 use Rattle.ale_base.specs.declared.change.FieldValue.{FieldValue}
@@ -124,9 +123,8 @@ put-writable model kind key given kept may few = of (kind_named kind model) refl
         let first = and_parts (keyed && some && settable) (are_different (field_names given)) is in
         let second = and_parts (keyed && some) settable first.0 in
         let third = and_parts keyed some second.0 in
-        let long = and_parts (nat_lt 0 (length key) && nat_le (length key) (length_at fields one.key)) (is_text (trimmed key) key) third.0 in
         let fits = at_most (length key) (length_at fields one.key)
-        (and_parts (nat_lt 0 (length key)) (nat_le (length key) (length_at fields one.key)) long.0).1 in
+        (and_parts (nat_lt 0 (length key)) (nat_le (length key) (length_at fields one.key)) third.0).1 in
         let bytes = length-most fields are one.key one.key in
         let its = find-keeps (IsKind model.definitions) (λ (other : Kind). is_text kind other.name) model.kinds one kept.kinds.each here in
         let same = same_text kind one.name (find-Some (λ (other : Kind). is_text kind other.name) model.kinds one here).1 in

@@ -17,7 +17,7 @@ use std::alloc::Global;
 use unit_core::Record;
 
 /// The record by which an object gets values. `N12` comes exactly where the model in force allows no such Put: its kind is none of the
-/// model; its key is empty, is longer than the key field of the kind, or has a blank at its end; there is no field; or a field is none of
+/// model; its key is empty or is longer than the key field of the kind; there is no field; or a field is none of
 /// the kind, is the key field, is given twice, or is shorter than its value. It comes too where no model is in force. `OutOfMemory` comes
 /// where a request for memory was refused.
 pub(crate) fn put(tables: &DocumentTables, change: &Change) -> Result<Wanted, Refusal>

@@ -3,11 +3,11 @@ use Rattle.std.specs.Prelude.{nat_eq}
 use Rattle.std.specs.List.{IsDistinct}
 use Rattle.std.proofs.Common.{◌≡◌, ℕ, suc, Option, Some, None, List, [], map}
 use Rattle.segment_defs.specs.declared.definitions.Definitions.{Definitions}
-use Rattle.segment_defs.specs.declared.idoc_type.IdocType.{IdocType}
 use Rattle.segment_defs.specs.declared.idoc_type.TypePlace.{TypePlace}
-use Rattle.segment_defs.specs.IdocType.{IsIdocType, IsPreorder, parent_of, place_in}
+use Rattle.segment_defs.specs.IdocType.{IsPreorder, parent_of, place_in}
 use Rattle.idoc_tree.specs.Forest.{Forest, no_trees, tree}
 use Rattle.idoc_tree.specs.Spells.{Hangs}
+use Rattle.idoc_reading.specs.Document.{AreEntries}
 use Rattle.listings.specs.steps.Levels.{LevelsWithin}
 use Rattle.listings.proofs.PathLemmas.{TypeHasLevel, level-most, next-level, root-level}
 
@@ -23,8 +23,8 @@ module _ (entries : List TypePlace) (ordered : IsPreorder 0 [] entries) (apart :
         hanging-within above level after has hangs.2,
       )
 
--- a forest that hangs together by an IDoc type
-pub levels-within : (definitions : Definitions) (type : IdocType) (forest : Forest)
-    → IsIdocType definitions type → Hangs type.segments None forest → LevelsWithin 1 forest
-levels-within definitions type forest is hangs =
-    hanging-within type.segments is.preorder is.apart None 1 forest (root-level type.segments is.preorder is.apart) hangs
+-- a forest that hangs together by the entries of an IDoc type
+pub levels-within : (definitions : Definitions) (entries : List TypePlace) (forest : Forest)
+    → AreEntries definitions entries → Hangs entries None forest → LevelsWithin 1 forest
+levels-within definitions entries forest are hangs =
+    hanging-within entries are.preorder are.apart None 1 forest (root-level entries are.preorder are.apart) hangs

@@ -1,13 +1,11 @@
 -- The places of segments: how many there are, and that they fit their data records.
 use Rattle.std.specs.List.{AllByRecursion}
-use Rattle.std.proofs.Common.{◌≡◌, ℕ, zero, suc, ◌+◌, ◌≤◌, ◌<◌, List, [], ◌∷◌, ◌++◌, length, drop, map, Some, refl, ap, sym, ◌∙◌, append_assoc, arith}
-use Rattle.std.proofs.lemmas.List.{append-nil, length-append, length-map}
+use Rattle.std.proofs.Common.{◌≡◌, ℕ, zero, suc, ◌+◌, ◌≤◌, ◌<◌, List, [], ◌∷◌, ◌++◌, length, drop, refl, ap, sym, ◌∙◌, append_assoc, arith}
+use Rattle.std.proofs.lemmas.List.{append-nil, length-append}
 use Rattle.ale_base.proofs.ListLemmas.{AllByRecursion-append}
 use Rattle.idoc_record.specs.declared.place.Place.{Place}
 use Rattle.idoc_record.specs.Data.{DataRecord}
-use Rattle.segment_defs.specs.declared.definitions.Definitions.{Definitions}
 use Rattle.idoc_tree.specs.Forest.{Forest, Segment, no_trees, tree, preorder}
-use Rattle.idoc_tree.specs.Spells.{segment_of}
 use Rattle.idoc_tree.proofs.NodeLemmas.{drop-past}
 use Rattle.listings.specs.Places.{places_in, root_places}
 use Rattle.listings.specs.Places.{HasDigits}
@@ -102,9 +100,3 @@ pub root-end : (places : List Place) (at : ℕ) (lines : List DataRecord) → le
     → places ≡ root_places 1 lines
 root-end places at lines past so_far =
     sym (append-nil places) ∙ ap (λ (ls : List DataRecord). places ++ root_places (suc at) ls) (sym (drop-past lines at past)) ∙ so_far
-
--- records spell as many segments as they are
-pub spelled-length : (definitions : Definitions) (lines : List DataRecord) (forest : Forest) → map (segment_of definitions) lines ≡ map Some (preorder forest)
-    → length (preorder forest) ≡ length lines
-spelled-length definitions lines forest spelled =
-    sym (length-map (preorder forest) Some) ∙ ap length (sym spelled) ∙ length-map lines (segment_of definitions)

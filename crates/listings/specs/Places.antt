@@ -2,16 +2,12 @@
 -- interface, data record); their values are this project's own.
 use Rattle.std.specs.Prelude.{ℕ, suc, ◌+◌, ◌<◌, List, [], ◌∷◌, ◌++◌, length, Option, Result, Ok, Err}
 use Rattle.std.specs.Option.{option_map_or}
-use Rattle.idoc_record.specs.declared.control_field.ControlField.TheVariants.{Mestyp}
 use Rattle.idoc_record.specs.declared.place.Place.{Place}
-use Rattle.idoc_record.specs.Control.{field_of}
 use Rattle.idoc_record.specs.Data.{DataRecord}
 use Rattle.dist_model.specs.declared.lists.Lists.{Lists}
-use Rattle.dist_model.specs.Message.{message_entries}
-use Rattle.dist_model.specs.Model.{message_named}
 use Rattle.idoc_tree.specs.declared.fault.SyntaxFault.{SyntaxFault}
 use Rattle.idoc_tree.specs.Forest.{Forest, no_trees, tree, preorder}
-use Rattle.idoc_tree.specs.FromRecords.{built}
+use Rattle.idoc_reading.specs.Reading.{ReadDocument, read_by_type}
 use Rattle.unit_core.specs.declared.raw_unit_doc.RawUnitDoc.{RawUnitDoc}
 
 -- a place fits its data record: SEGNUM and PSGNUM have six digits, HLEVEL has two
@@ -36,15 +32,13 @@ abbrev pub places_made : List DataRecord → Result Forest SyntaxFault → List 
 places_made lines (Ok forest) = places_in 1 0 1 forest
 places_made lines (Err fault) = root_places 1 lines
 
--- the places of the segments of a document of a message type, by the IDoc type of that
-abbrev pub places_as : Lists → RawUnitDoc → ℕ → List Place
-places_as model document message =
-    places_made document.segments (built model.definitions (message_entries model.types model.messages message) document.segments)
+-- the places of the segments of a document, by what was read of it
+abbrev pub places_read : List DataRecord → Option ReadDocument → List Place
+places_read lines reading = option_map_or (λ read. places_made lines read.made) reading (root_places 1 lines)
 
--- the same, by the message type that MESTYP stands for
+-- the places of the segments of a document, by the model
 abbrev pub places_by : Lists → RawUnitDoc → List Place
-places_by model document =
-    option_map_or (places_as model document) (message_named (field_of document.control Mestyp) model) (root_places 1 document.segments)
+places_by model document = places_read document.segments (read_by_type model document.control document.segments)
 
 -- the same, by the model in force; what no model reads is at the root level
 abbrev pub places_under : Option Lists → RawUnitDoc → List Place

@@ -2,7 +2,7 @@
 use Rattle.std.specs.Prelude.{ℕ, List, [], Option}
 use Rattle.std.specs.Option.{option_map_or}
 use Rattle.dist_model.specs.declared.lists.Lists.{Lists}
-use Rattle.outbound_build.specs.ControlRecord.{system_name}
+use Rattle.dist_model.specs.Named.{system_name}
 
 -- the name of the system of a number by the model in force; no bytes where there is no model
 abbrev pub name_under : Option Lists → ℕ → List ℕ

@@ -5,18 +5,17 @@ ghost use Rattle.std.specs.List.{AllByRecursion};
 ghost use Rattle.unit_core.specs.declared.records.Record.{Record};
 ghost use Rattle.idoc_tree.specs.Forest.{preorder};
 ghost use Rattle.idoc_tree.specs.Nodes.{forest_of};
-ghost use Rattle.dist_model.specs.Model.{IsModel};
 ghost use Rattle.said_models.specs.OfLog.{model_of};
 ghost use Rattle.document_state.specs.Tables.{AreTablesOf};
-ghost use Rattle.listings.specs.Places.{HasDigits, places_as, places_by, places_in, places_under, root_places};
+ghost use Rattle.listings.specs.Places.{HasDigits, places_by, places_in, places_under, root_places};
 ghost use Rattle.listings.specs.steps.Levels.{LevelsWithin};
 
 use ale_base::{Items, OutOfMemory};
-use dist_model::{Lists, MessageNo, Model};
+use dist_model::Model;
 use document_state::DocumentTables;
-use idoc_record::{Control, ControlField, Data, Place};
-use idoc_tree::{Node, SyntaxFault, build};
-use outbound_build::type_of;
+use idoc_reading::{Reading, read_by_type};
+use idoc_record::{Data, Place};
+use idoc_tree::Node;
 use std::alloc::Global;
 use unit_core::RawUnitDoc;
 
@@ -40,7 +39,7 @@ pub(crate) fn places_under(
     }
 }
 
-/// The places of the segments of a document, in order, by the message type of a model that MESTYP stands for.
+/// The places of the segments of a document, in order, as it is read by its message type.
 fn places_by(
     alloc: Global,
     model: &Model,
@@ -51,32 +50,14 @@ fn places_by(
     ensures each { IfOk result (λ places. length places ≡ length document.now.segments) }
     ensures digits { IfOk result (λ places. AllByRecursion HasDigits places) }
 {
-    match model.message(document.text(ControlField::Mestyp)) {
-        None => root_places(alloc, document.segments.as_slice()),
-        Some(message) => places_as(alloc, model.as_lists(), document, message),
-    }
-}
-
-/// The places of the segments of a document, in order, by the IDoc type of a message type.
-fn places_as(
-    alloc: Global,
-    model: &Lists,
-    document: &RawUnitDoc,
-    message: MessageNo,
-) -> Result<Items<Place>, OutOfMemory>
-    requires few { length document.now.segments ≤ MOST_NUMBERED }
-    requires kept { IsModel model.now }
-    requires known { message < length model.now.messages }
-    ensures are { IfOk result (λ places. places ≡ places_as model.now document.now message) }
-    ensures each { IfOk result (λ places. length places ≡ length document.now.segments) }
-    ensures digits { IfOk result (λ places. AllByRecursion HasDigits places) }
-{
-    let ty = type_of(model, message);
     let records = document.segments.as_slice();
-    match build(alloc, &model.definitions, ty, Control::blank(), records) {
-        Ok(built) => places_in(alloc, &built.forest),
-        Err(SyntaxFault::OutOfMemory) => Err(OutOfMemory),
-        Err(_) => root_places(alloc, records),
+    let reading = read_by_type(alloc, model, &document.control, records)?;
+    match reading {
+        Reading::Read(_, read) => {
+            let nodes = read.forest.as_slice();
+            places_in(alloc, nodes)
+        }
+        _ => root_places(alloc, records),
     }
 }
 

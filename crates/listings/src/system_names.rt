@@ -2,7 +2,7 @@
 
 ghost use Rattle.std.specs.Prelude.{◌≡◌, List};
 ghost use Rattle.unit_core.specs.declared.records.Record.{Record};
-ghost use Rattle.outbound_build.specs.ControlRecord.{system_name};
+ghost use Rattle.dist_model.specs.Named.{system_name};
 ghost use Rattle.said_models.specs.OfLog.{model_of};
 ghost use Rattle.document_state.specs.Tables.{AreTablesOf};
 ghost use Rattle.listings.specs.SystemNames.{name_under};

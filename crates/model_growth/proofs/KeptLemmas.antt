@@ -15,7 +15,8 @@ use Rattle.dist_model.specs.declared.message.PostingMode.{PostingMode}
 use Rattle.dist_model.specs.declared.message.PostingMode.TheVariants.{Upsert, Insert}
 use Rattle.dist_model.specs.declared.message.Reduced.{Reduced}
 use Rattle.dist_model.specs.declared.system.System.{System}
-use Rattle.model_growth.specs.Named.{idoc_type_name, kind_name, message_name, named_entry, named_field, type_name}
+use Rattle.dist_model.specs.Named.{idoc_type_name, kind_name, message_name, segment_name}
+use Rattle.model_growth.specs.Named.{named_entry, named_field}
 use Rattle.model_growth.specs.Tests.{keeps_entry, keeps_field, keeps_idoc_type, keeps_kind, keeps_message, keeps_reduced, keeps_system, keeps_type, same_field}
 use Rattle.model_growth.specs.Tests.{same_posting, same_version}
 use Rattle.model_growth.specs.Kept.{IdocTypeKept, KindKept, MessageKept, ReducedKept, TypeKept}
@@ -55,7 +56,7 @@ entry_decided old new entry other =
     (λ same. λ i. (same.0.0.0.0 i, same.0.0.0.1 i, same.0.0.1 i, same.0.1 i, same.1 i))
     (λ same. ((((ap (λ e. e.0) same, ap (λ e. e.1) same), ap (λ e. e.2) same), ap (λ e. e.3) same), ap (λ e. e.4) same))
     (both_decided (both_decided (both_decided (both_decided
-    (text_decided (type_name old entry.segment) (type_name new other.segment))
+    (text_decided (segment_name old entry.segment) (segment_name new other.segment))
     (option_decided entry.parent other.parent))
     (bool_decided entry.mandatory other.mandatory))
     (number_decided entry.min other.min))
@@ -72,7 +73,7 @@ kind_decided old new kind other =
     decided_as
     (λ all. record { named = all.0.0; segment = all.0.1; key = all.1 }) (λ kept. ((kept.named, kept.segment), kept.key))
     (both_decided (both_decided (text_decided kind.name other.name)
-    (text_decided (type_name old kind.segment) (type_name new other.segment)))
+    (text_decided (segment_name old kind.segment) (segment_name new other.segment)))
     (number_decided kind.key other.key))
 
 posting_decided : (posting other : PostingMode) → IsDecided (same_posting posting other) (posting ≡ other)
@@ -104,7 +105,7 @@ message_decided old new message other =
 place_decided : (old new : Lists) (place other : FieldPlace) → IsDecided (keeps_field old new place other) (named_field old place ≡ named_field new other)
 place_decided old new place other =
     decided_as (λ same. λ i. (same.0 i, same.1 i)) (λ same. (ap (λ p. p.0) same, ap (λ p. p.1) same))
-    (both_decided (text_decided (type_name old place.segment) (type_name new other.segment)) (number_decided place.field other.field))
+    (both_decided (text_decided (segment_name old place.segment) (segment_name new other.segment)) (number_decided place.field other.field))
 
 pub reduced_decided : (old new : Lists) (reduced other : Reduced) → IsDecided (keeps_reduced old new reduced other) (ReducedKept old new reduced other)
 reduced_decided old new reduced other =

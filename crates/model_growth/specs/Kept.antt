@@ -9,7 +9,8 @@ use Rattle.dist_model.specs.declared.kind.Kind.{Kind}
 use Rattle.dist_model.specs.declared.lists.Lists.{Lists}
 use Rattle.dist_model.specs.declared.message.Message.{Message}
 use Rattle.dist_model.specs.declared.message.Reduced.{Reduced}
-use Rattle.model_growth.specs.Named.{idoc_type_name, kind_name, message_name, named_entry, named_field, type_name}
+use Rattle.dist_model.specs.Named.{idoc_type_name, kind_name, message_name, segment_name}
+use Rattle.model_growth.specs.Named.{named_entry, named_field}
 
 -- a segment type stands in another one: that has its name, and begins with all its definitions
 pub record TypeKept (type other : SegmentType) : Type 0 where
@@ -24,7 +25,7 @@ pub record IdocTypeKept (old new : Lists) (type other : IdocType) : Type 0 where
 -- a kind has the name of another one, its segment type and its key
 pub record KindKept (old new : Lists) (kind other : Kind) : Type 0 where
   pub named : kind.name ≡ other.name
-  pub segment : type_name old kind.segment ≡ type_name new other.segment
+  pub segment : segment_name old kind.segment ≡ segment_name new other.segment
   pub key : kind.key ≡ other.key
 
 -- a message type has the name of another one, its IDoc type and kind, and does and needs the same

@@ -1,4 +1,4 @@
--- what numbers of a model stand for
+-- parts of entries, their numbers as names
 pub mod Named
 -- whether an entry of another model keeps one of a model: the tests, and what they decide
 pub mod Tests

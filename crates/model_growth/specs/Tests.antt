@@ -18,7 +18,7 @@ use Rattle.dist_model.specs.declared.message.PostingMode.{PostingMode}
 use Rattle.dist_model.specs.declared.message.PostingMode.TheVariants.{Upsert, Insert}
 use Rattle.dist_model.specs.declared.message.Reduced.{Reduced}
 use Rattle.dist_model.specs.declared.system.System.{System}
-use Rattle.model_growth.specs.Named.{idoc_type_name, kind_name, message_name, type_name}
+use Rattle.dist_model.specs.Named.{idoc_type_name, kind_name, message_name, segment_name}
 
 -- whether two systems have one name and one client
 abbrev pub keeps_system : System → System → Bool
@@ -40,7 +40,7 @@ keeps_type type other = is_text type.name other.name && starts_with same_version
 -- whether two entries of IDoc types are the same
 abbrev pub keeps_entry : Lists → Lists → TypePlace → TypePlace → Bool
 keeps_entry old new entry other =
-    is_text (type_name old entry.segment) (type_name new other.segment) && option_eq nat_eq entry.parent other.parent
+    is_text (segment_name old entry.segment) (segment_name new other.segment) && option_eq nat_eq entry.parent other.parent
     && beq entry.mandatory other.mandatory && (entry.min == other.min) && (entry.max == other.max)
 
 -- whether two IDoc types are the same
@@ -50,7 +50,7 @@ keeps_idoc_type old new type other = is_text type.name other.name && pointwise (
 -- whether two kinds are the same
 abbrev pub keeps_kind : Lists → Lists → Kind → Kind → Bool
 keeps_kind old new kind other =
-    is_text kind.name other.name && is_text (type_name old kind.segment) (type_name new other.segment) && (kind.key == other.key)
+    is_text kind.name other.name && is_text (segment_name old kind.segment) (segment_name new other.segment) && (kind.key == other.key)
 
 -- whether two postings do the same
 abbrev pub same_posting : PostingMode → PostingMode → Bool
@@ -68,7 +68,7 @@ keeps_message old new message other =
 
 -- whether two fields of segment types are the same
 abbrev pub keeps_field : Lists → Lists → FieldPlace → FieldPlace → Bool
-keeps_field old new place other = is_text (type_name old place.segment) (type_name new other.segment) && (place.field == other.field)
+keeps_field old new place other = is_text (segment_name old place.segment) (segment_name new other.segment) && (place.field == other.field)
 
 -- whether two reduced message types are the same
 abbrev pub keeps_reduced : Lists → Lists → Reduced → Reduced → Bool

@@ -5,8 +5,10 @@ ghost use Rattle.std.specs.List.{starts_with};
 ghost use Rattle.model_growth.specs.Tests.{same_posting, same_version};
 
 use crate::entry::{Entry, keep_all};
-use crate::named::{idoc_type_name, kind_name, message_name, type_name};
-use dist_model::{FieldPlace, Kind, Lists, Message, PostingMode, Reduced, System};
+use dist_model::{
+    FieldPlace, Kind, Lists, Message, PostingMode, Reduced, System, idoc_type_name, kind_name,
+    message_name, segment_name,
+};
 use segment_defs::{IdocType, SegmentType, TypePlace, Version};
 
 impl Entry for System {
@@ -51,7 +53,7 @@ impl Entry for TypePlace {
     ghost keeps = { keeps_entry };
 
     fn is_kept(&self, old: &Lists, other: &TypePlace, new: &Lists) -> bool {
-        type_name(old, self.segment) == type_name(new, other.segment)
+        segment_name(old, self.segment) == segment_name(new, other.segment)
             && self.parent == other.parent
             && self.mandatory == other.mandatory
             && self.min == other.min
@@ -66,7 +68,7 @@ impl Entry for Kind {
 
     fn is_kept(&self, old: &Lists, other: &Kind, new: &Lists) -> bool {
         self.name == other.name
-            && type_name(old, self.segment) == type_name(new, other.segment)
+            && segment_name(old, self.segment) == segment_name(new, other.segment)
             && self.key == other.key
     }
 }
@@ -110,6 +112,7 @@ impl Entry for FieldPlace {
     ghost keeps = { keeps_field };
 
     fn is_kept(&self, old: &Lists, other: &FieldPlace, new: &Lists) -> bool {
-        type_name(old, self.segment) == type_name(new, other.segment) && self.field == other.field
+        segment_name(old, self.segment) == segment_name(new, other.segment)
+            && self.field == other.field
     }
 }

@@ -7,6 +7,5 @@
 mod entries;
 mod entry;
 mod growth;
-mod named;
 
 pub use growth::{Unkept, first_unkept};

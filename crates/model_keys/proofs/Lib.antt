@@ -6,3 +6,5 @@ pub mod EachLemmas
 pub mod KeepsLemmas
 -- what a text says of values that were read
 pub mod SaysLemmas
+-- fields by their names
+pub mod FieldLemmas

@@ -4,5 +4,7 @@ pub mod Finding
 pub mod Each
 -- the kinds of keys
 pub mod Keys
+-- fields by their names
+pub mod Fields
 -- what stands at a key, and no order of checks
 pub mod Says

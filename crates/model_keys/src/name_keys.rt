@@ -2,13 +2,14 @@
 
 ghost use Rattle.std.specs.Prelude.{◌≡◌, ◌<◌, ◌∷◌, ◌++◌, [], length, IfOk, IsTrue, OnErr};
 ghost use Rattle.toml.specs.View.{view, table_view};
+ghost use Rattle.segment_defs.specs.declared.limits.TheConstants.{LONGEST_NAME};
 ghost use Rattle.segment_defs.specs.Name.{is_name_within};
 ghost use Rattle.model_keys.specs.Finding.{Gives};
 ghost use Rattle.model_keys.specs.Keys.{name_at, name_of, new_name, new_name_at, new_name_of, new_segment_name_at, reference_at, segment_name_at, segment_name_of, segment_type_at};
 
 use crate::finding::{Cause, ReadError, at};
 use crate::tables::value_at;
-use ale_base::Items;
+use ale_base::{Fixed, Items};
 use dist_model::Names;
 use segment_defs::{is_name_within, is_segment_name};
 use std::alloc::Global;
@@ -29,6 +30,14 @@ pub fn name_of<'t>(
         Value::String(text) if is_name_within(longest, text.as_bytes()) => Ok(text.as_str()),
         _ => Err(ReadError::Found(at(alloc, Cause::Wrong, path)?)),
     }
+}
+
+/// A name in a field of its longest length.
+pub fn fixed_name(name: &[u8]) -> Fixed<30>
+    requires { IsTrue (is_name_within LONGEST_NAME name.now) }
+    ensures { result ≡ name.now }
+{
+    Fixed::of(name).unwrap()
 }
 
 /// The name at a key: Missing, Wrong.

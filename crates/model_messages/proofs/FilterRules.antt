@@ -21,20 +21,20 @@ use Rattle.dist_model.specs.Filter.{is_filter, same_filter, AreFilters, IsFilter
 use Rattle.dist_model.specs.Message.{entries_at, message_entries, message_names}
 use Rattle.dist_model.specs.Model.{type_names}
 use Rattle.dist_model.proofs.DistinctLemmas.{is_text-symmetric, nat_eq-symmetric, IsDistinct-push, Symmetric}
-use Rattle.model_keys.specs.declared.finding.Cause.TheVariants.{Twice, Unknown, Wrong}
-use Rattle.model_keys.specs.Finding.{at, required}
+use Rattle.model_keys.specs.declared.finding.Cause.TheVariants.{Twice, Wrong}
+use Rattle.model_keys.specs.Finding.{at}
 use Rattle.model_keys.specs.Each.{each}
 use Rattle.model_keys.specs.Keys.{entry_of, list_or_none_at, name_at, segment_type_at}
 use Rattle.model_keys.specs.Says.{HasText, SaysListOrNone, SaysPlace}
-use Rattle.model_keys.proofs.KeepsLemmas.{each-invariant, each-length, from_bind, list_or_none_at-keeps, name_at-keeps, required-ok, segment_type_at-keeps}
+use Rattle.model_keys.proofs.KeepsLemmas.{each-invariant, each-length, from_bind, list_or_none_at-keeps, name_at-keeps, segment_type_at-keeps}
 use Rattle.model_keys.proofs.KeepsLemmas.{tested, untested}
 use Rattle.model_keys.proofs.SaysLemmas.{all-says, entry_of-table, list_or_none-says}
 use Rattle.model_messages.specs.declared.keys.TheConstants.{FIELD, FILTER, FILTER_KEYS, MESSAGE, NAME, SEGMENT}
-use Rattle.model_messages.specs.Fields.{field_named, field_names}
-use Rattle.model_messages.specs.Filters.{field_at, filter_of, filters_at, head_at, type_among_at, filters_of}
+use Rattle.model_keys.specs.Fields.{field_at}
+use Rattle.model_messages.specs.Filters.{filter_of, filters_at, head_at, type_among_at, filters_of}
 use Rattle.model_messages.specs.Says.{SaysFilter}
 use Rattle.model_messages.specs.Things.{thing_at}
-use Rattle.model_messages.proofs.FieldLemmas.{field_named-keeps, field_there}
+use Rattle.model_keys.proofs.FieldLemmas.{field_at-keeps, field_there}
 use Rattle.model_messages.proofs.ThingLemmas.{read_same, thing_at-keeps}
 
 -- the name and the message type of a filter
@@ -68,18 +68,6 @@ type_among_at-keeps definitions entries table segment h =
     let (is, e) = tested (is_some (entry_of_type entries number)) number segment (at Wrong SEGMENT.now) g in
     subst (λ k. SaysPlace names SEGMENT.now table k × HasEntry entries k) e (segment_type_at-keeps SEGMENT.now names table number s, is)
 
-field_at-keeps : (definitions : Definitions) (segment : ℕ) (table : Members) (field : ℕ) → field_at definitions segment table ≡ Ok field
-    → SaysPlace (field_names (all_fields definitions segment)) FIELD.now table field
-unfolding field_at
-field_at-keeps definitions segment table field h =
-    let fields = all_fields definitions segment in
-    let (name, n, g) = from_bind (name_at LONGEST_NAME FIELD.now table) (λ name. required Unknown FIELD.now (field_named fields name)) field h in (
-      name,
-      (name_at-keeps LONGEST_NAME FIELD.now table name n).0,
-      field_named-keeps fields name field
-          (required-ok Unknown FIELD.now (field_named fields name) field g),
-    )
-
 -- one more filter behind others
 record IsNextFilter (definitions : Definitions) (types : List IdocType) (messages : List Message) (before : List Filter) (d : Data)
     (filter : Filter) : Type 0 where
@@ -94,11 +82,11 @@ filter_of-keeps definitions types messages before d filter h =
     let (table, t, h1) = from_bind (entry_of (map (λ key. key.now) FILTER_KEYS) d) _ filter h in
     let (head, a, h2) = from_bind (head_at messages before table) _ filter h1 in
     let (segment, s, h3) = from_bind (type_among_at definitions (entries_at types head.1.1.idoctype) table) _ filter h2 in
-    let (field, f, h4) = from_bind (field_at definitions segment table) _ filter h3 in
+    let (field, f, h4) = from_bind (field_at FIELD.now (all_fields definitions segment) table) _ filter h3 in
     let e : ◌≡◌ {A = Filter} (record { name = head.0; message = head.1.0; segment = segment; field = field }) filter = read_same _ filter h4 in
     let is = head_at-keeps messages before table head a in
     let typed = type_among_at-keeps definitions (entries_at types head.1.1.idoctype) table segment s in
-    let named = field_at-keeps definitions segment table field f in
+    let named = field_at-keeps FIELD.now (all_fields definitions segment) table field f in
     let entries : message_entries types messages head.1.0 ≡ entries_at types head.1.1.idoctype = rw is.here refl in
     subst (IsNextFilter definitions types messages before d) e (record {
       is = record {

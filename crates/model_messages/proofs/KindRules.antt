@@ -26,10 +26,10 @@ use Rattle.model_keys.proofs.KeepsLemmas.{each-invariant, each-length, from_bind
 use Rattle.model_keys.proofs.KeepsLemmas.{segment_type_at-keeps}
 use Rattle.model_keys.proofs.SaysLemmas.{all-says, entry_of-table, list_or_none-says}
 use Rattle.model_messages.specs.declared.keys.TheConstants.{KEY, KIND, KIND_KEYS, NAME, SEGMENT}
-use Rattle.model_messages.specs.Fields.{field_named, field_names}
+use Rattle.model_keys.specs.Fields.{field_named, field_names}
 use Rattle.model_messages.specs.Kinds.{key_at, kind_of, kinds_at, kinds_of}
 use Rattle.model_messages.specs.Says.{SaysKind}
-use Rattle.model_messages.proofs.FieldLemmas.{field_named-keeps, field_there}
+use Rattle.model_keys.proofs.FieldLemmas.{field_named-keeps, field_there}
 
 key_at-keeps : (definitions : Definitions) (segment : ℕ) (table : Members) (key : ℕ) → key_at definitions segment table ≡ Ok key
     → SaysPlace (field_names (first_fields (versions_of definitions segment))) KEY.now table key

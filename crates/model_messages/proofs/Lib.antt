@@ -1,5 +1,3 @@
--- fields of segment types by their names
-pub mod FieldLemmas
 -- what names refer to
 pub mod ThingLemmas
 -- names of message types and of reduced ones

@@ -34,12 +34,12 @@ use Rattle.model_keys.proofs.KeepsLemmas.{check-ok, each-invariant, each-length,
 use Rattle.model_keys.proofs.KeepsLemmas.{required-ok, tested}
 use Rattle.model_keys.proofs.SaysLemmas.{all-says, any_list_or_none_at-says, and_then-found, entry_of-table, list_or_none-says}
 use Rattle.model_messages.specs.declared.keys.TheConstants.{IDOCTYPE, INSERT, KIND, MESSAGE, MESSAGE_KEYS, NAME, POINTERS, POSTING, REQUIRED, UPSERT}
-use Rattle.model_messages.specs.Fields.{field_named, field_names}
+use Rattle.model_keys.specs.Fields.{field_named, field_names}
 use Rattle.model_messages.specs.Messages.{beside, has_root, kind_at, message_of, messages_at, own_field, own_field_of, own_fields_of, pointers_at, pointers_of}
 use Rattle.model_messages.specs.Messages.{posting_at, posting_named, posting_of, required_at, messages_of}
 use Rattle.model_messages.specs.Says.{word_of, SaysField, SaysMessage}
 use Rattle.model_messages.specs.Things.{thing_at}
-use Rattle.model_messages.proofs.FieldLemmas.{field_named-keeps, field_there}
+use Rattle.model_keys.proofs.FieldLemmas.{field_named-keeps, field_there}
 use Rattle.model_messages.proofs.ThingLemmas.{read_same, thing_at-keeps}
 
 -- the root is of the segment type

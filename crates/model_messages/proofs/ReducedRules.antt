@@ -33,12 +33,12 @@ use Rattle.model_keys.proofs.KeepsLemmas.{each-invariant, each-length, from_bind
 use Rattle.model_keys.proofs.KeepsLemmas.{value_at-keeps}
 use Rattle.model_keys.proofs.SaysLemmas.{all-says, and_then-found, entry_of-table, list_or_none-says}
 use Rattle.model_messages.specs.declared.keys.TheConstants.{KEEP, MESSAGE, NAME, REDUCED, REDUCED_KEYS}
-use Rattle.model_messages.specs.Fields.{field_named, field_names}
+use Rattle.model_keys.specs.Fields.{field_named, field_names}
 use Rattle.model_messages.specs.Reduced.{among, field_in, keep_at, keep_of, kept_of, names_with, place_in_text, place_named, place_split, reduced_at}
 use Rattle.model_messages.specs.Reduced.{reduced_of, type_among, all_reduced_of}
 use Rattle.model_messages.specs.Says.{SaysKept, SaysReduced}
 use Rattle.model_messages.specs.Things.{thing_at}
-use Rattle.model_messages.proofs.FieldLemmas.{field_named-keeps, field_there}
+use Rattle.model_keys.proofs.FieldLemmas.{field_named-keeps, field_there}
 use Rattle.model_messages.proofs.ReducedLemmas.{names_with-push}
 use Rattle.model_messages.proofs.ThingLemmas.{read_same, split_at, thing_at-keeps}
 

@@ -15,12 +15,12 @@ use Rattle.dist_model.specs.Filter.{is_filter}
 use Rattle.dist_model.specs.Message.{entries_at, message_names}
 use Rattle.dist_model.specs.Model.{type_names}
 use Rattle.model_keys.specs.declared.finding.Finding.{Finding}
-use Rattle.model_keys.specs.declared.finding.Cause.TheVariants.{Twice, Unknown, Wrong}
-use Rattle.model_keys.specs.Finding.{◌>>=◌, at, required}
+use Rattle.model_keys.specs.declared.finding.Cause.TheVariants.{Twice, Wrong}
+use Rattle.model_keys.specs.Finding.{◌>>=◌, at}
 use Rattle.model_keys.specs.Each.{each}
 use Rattle.model_keys.specs.Keys.{entry_of, list_or_none_at, name_at, segment_type_at}
 use Rattle.model_messages.specs.declared.keys.TheConstants.{FIELD, FILTER, FILTER_KEYS, MESSAGE, NAME, SEGMENT}
-use Rattle.model_messages.specs.Fields.{field_named}
+use Rattle.model_keys.specs.Fields.{field_at}
 use Rattle.model_messages.specs.Things.{thing_at}
 
 -- a name, and a message type with its place: no filter so far is that of the message type with the name
@@ -36,19 +36,13 @@ type_among_at definitions entries table = do
   segment ← segment_type_at SEGMENT.now (type_names definitions.types) table
   if is_some (entry_of_type entries segment) then Ok segment else Err (at Wrong SEGMENT.now)
 
--- a field of a segment type
-unfoldable pub field_at : Definitions → ℕ → Members → Result ℕ Finding
-field_at definitions segment table = do
-  name ← name_at LONGEST_NAME FIELD.now table
-  required Unknown FIELD.now (field_named (all_fields definitions segment) name)
-
 -- one more filter behind some
 unfoldable pub filter_of : Definitions → List IdocType → List Message → List Filter → Data → Result Filter Finding
 filter_of definitions types messages filters d = do
   table ← entry_of (map (λ key. key.now) FILTER_KEYS) d
   head ← head_at messages filters table
   segment ← type_among_at definitions (entries_at types head.1.1.idoctype) table
-  field ← field_at definitions segment table
+  field ← field_at FIELD.now (all_fields definitions segment) table
   Ok (record { name = head.0; message = head.1.0; segment = segment; field = field })
 
 -- the filters of a list, each behind those before it

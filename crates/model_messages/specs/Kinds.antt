@@ -15,7 +15,7 @@ use Rattle.model_keys.specs.Finding.{◌>>=◌, required}
 use Rattle.model_keys.specs.Each.{each}
 use Rattle.model_keys.specs.Keys.{entry_of, list_or_none_at, name_at, new_name_at, segment_type_at}
 use Rattle.model_messages.specs.declared.keys.TheConstants.{KEY, KIND, KIND_KEYS, NAME, SEGMENT}
-use Rattle.model_messages.specs.Fields.{field_named}
+use Rattle.model_keys.specs.Fields.{field_named}
 
 -- the key of the objects of a kind: a field of the first definition of the segment type, so that each definition has it
 unfoldable pub key_at : Definitions → ℕ → Members → Result ℕ Finding

@@ -1,6 +1,5 @@
--- what a name refers to, and fields by their names
+-- what a name refers to
 pub mod Things
-pub mod Fields
 -- the sections, in the order of the text
 pub mod Kinds
 pub mod Messages

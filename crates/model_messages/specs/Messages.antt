@@ -23,7 +23,7 @@ use Rattle.model_keys.specs.Each.{each}
 use Rattle.model_keys.specs.Keys.{any_list_or_none_at, entry_of, list_or_none_at, name_of, new_name_at, or_else}
 use Rattle.model_messages.specs.declared.keys.TheConstants.{IDOCTYPE, INSERT, KIND, MESSAGE, MESSAGE_KEYS, NAME, POINTERS, POSTING, REQUIRED, UPSERT}
 use Rattle.model_messages.specs.declared.messages.Unnamed.{Unnamed}
-use Rattle.model_messages.specs.Fields.{field_named}
+use Rattle.model_keys.specs.Fields.{field_named}
 use Rattle.model_messages.specs.Things.{thing_at}
 
 -- whether the root of some entries is of a segment type

@@ -21,7 +21,7 @@ use Rattle.model_keys.specs.Finding.{◌>>=◌, required}
 use Rattle.model_keys.specs.Each.{each}
 use Rattle.model_keys.specs.Keys.{entry_of, list_at, list_or_none_at, new_name_at}
 use Rattle.model_messages.specs.declared.keys.TheConstants.{KEEP, MESSAGE, NAME, REDUCED, REDUCED_KEYS}
-use Rattle.model_messages.specs.Fields.{field_named}
+use Rattle.model_keys.specs.Fields.{field_named}
 use Rattle.model_messages.specs.Things.{thing_at}
 
 -- a segment type that is one of some

@@ -19,7 +19,7 @@ use Rattle.dist_model.specs.Model.{idoc_type_names, type_names}
 use Rattle.model_keys.specs.Says.{HasText, IsPlaceNamed, SaysList, SaysListOrNone, SaysPlace}
 use Rattle.model_messages.specs.declared.keys.TheConstants.{FIELD, IDOCTYPE, INSERT, KEEP, KEY, KIND, MESSAGE, NAME, POINTERS, POSTING, REQUIRED, SEGMENT}
 use Rattle.model_messages.specs.declared.keys.TheConstants.{UPSERT}
-use Rattle.model_messages.specs.Fields.{field_names}
+use Rattle.model_keys.specs.Fields.{field_names}
 
 -- a kind: its key is named among the fields of the first definition of its segment type
 pub record SaysKind (definitions : Definitions) (before : List Kind) (d : Data) (kind : Kind) : Type 0 where

@@ -4,7 +4,7 @@ ghost use Rattle.std.specs.Prelude.{◌≡◌, ◌<◌, ◌≤◌, length};
 ghost use Rattle.segment_defs.specs.declared.limits.TheConstants.{MOST_FIELDS};
 ghost use Rattle.segment_defs.specs.Definitions.{versions_of, AreDefinitions};
 ghost use Rattle.dist_model.specs.Field.{all_fields, first_fields};
-ghost use Rattle.model_messages.specs.Fields.{field_named};
+ghost use Rattle.model_keys.specs.Fields.{field_named};
 
 use dist_model::{all_fields, field_named};
 use segment_defs::{Definitions, Field, TypeNo};

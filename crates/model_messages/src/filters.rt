@@ -12,15 +12,16 @@ ghost use Rattle.model_keys.specs.Finding.{Gives};
 ghost use Rattle.model_keys.specs.Says.{SaysListOrNone};
 ghost use Rattle.model_messages.specs.declared.keys.TheConstants.{FILTER};
 ghost use Rattle.model_messages.specs.Says.{SaysFilter};
-ghost use Rattle.model_messages.specs.Filters.{field_at, filter_of, filters_at, filters_of, head_at, type_among_at};
+ghost use Rattle.model_messages.specs.Filters.{filter_of, filters_at, filters_of, head_at, type_among_at};
 
-use crate::fields::known_field;
 use crate::keys::{FIELD, FILTER, FILTER_KEYS, MESSAGE, NAME, SEGMENT};
 use crate::things::{Named, thing_at};
 use ale_base::Items;
-use dist_model::{Filter, MOST_FILTERS, Message, MessageNo, Names, entries_at, has_entry};
+use dist_model::{
+    Filter, MOST_FILTERS, Message, MessageNo, Names, all_fields, entries_at, has_entry,
+};
 use model_keys::{
-    Cause, ReadError, at, entry_of, list_or_none_at, name_at, segment_type_at, within,
+    Cause, ReadError, at, entry_of, field_at, list_or_none_at, name_at, segment_type_at, within,
 };
 use segment_defs::{Definitions, IdocType, LONGEST_NAME, TypeNo, TypePlace};
 use std::alloc::Global;
@@ -116,7 +117,7 @@ fn filter_of(
     let (name, (message, basic)) = head_at(alloc, messages, filters, table)?;
     let entries = entries_at(types, basic.idoctype);
     let segment = type_among_at(alloc, definitions, segments, entries, table)?;
-    let field = field_at(alloc, definitions, segment, table)?;
+    let field = field_at(alloc, FIELD, all_fields(definitions, segment), table)?;
     Ok(Filter {
         name: Items::from_slice(alloc, name.as_bytes())?,
         message: MessageNo(message as u16),
@@ -175,24 +176,4 @@ fn type_among_at(
         return Err(ReadError::Found(at(alloc, Cause::Wrong, SEGMENT)?));
     }
     Ok(segment)
-}
-
-/// The field at its key, which is one of a segment type.
-#[tactic(auto, unfolding(crate::specs::Filters::field_at))]
-fn field_at(
-    alloc: Global,
-    definitions: &Definitions,
-    segment: TypeNo,
-    table: &Table,
-) -> Result<u16, ReadError>
-    requires definitions { AreDefinitions definitions.now }
-    requires known { segment < length definitions.now.types }
-    ensures { Gives (λ field. field) result
-        (field_at definitions.now segment (table_view table.now)) }
-{
-    let name = name_at(alloc, LONGEST_NAME, FIELD, table)?;
-    match known_field(definitions, segment, name.as_bytes()) {
-        None => Err(ReadError::Found(at(alloc, Cause::Unknown, FIELD)?)),
-        Some(field) => Ok(field),
-    }
 }

@@ -9,20 +9,22 @@ use Rattle.segment_defs.specs.declared.definitions.Definitions.{Definitions}
 use Rattle.segment_defs.proofs.NameLemmas.{position-name}
 use Rattle.dist_model.specs.declared.limits.TheConstants.{MOST_CONVERSIONS}
 use Rattle.dist_model.specs.declared.outbound.Convert.{Convert}
+use Rattle.dist_model.specs.Field.{all_fields}
 use Rattle.dist_model.specs.Outbound.{IsConvert}
 use Rattle.model_keys.specs.declared.finding.Cause.TheVariants.{Unknown}
 use Rattle.model_keys.specs.Finding.{required}
 use Rattle.model_keys.specs.Each.{each}
+use Rattle.model_keys.specs.Fields.{field_at}
 use Rattle.model_keys.specs.Keys.{any_list_or_none_at, entry_of, list_of, list_or_none_at, or_else, segment_name_of, segment_type_at}
 use Rattle.model_keys.specs.Says.{IsPlaceNamed, SaysListOrNone}
 use Rattle.model_keys.proofs.KeepsLemmas.{each-invariant, each-length, from_bind, list_or_none_at-keeps, required-ok, segment_name_of-keeps}
 use Rattle.model_keys.proofs.KeepsLemmas.{segment_type_at-keeps}
 use Rattle.model_keys.proofs.SaysLemmas.{all-says, any_list_or_none_at-says, entry_of-table, list_or_none-says}
-use Rattle.model_profiles.specs.declared.keys.TheConstants.{CONVERT, CONVERT_KEYS, FROM, REMOVE, SEGMENT, TO}
+use Rattle.model_profiles.specs.declared.keys.TheConstants.{CONVERT, CONVERT_KEYS, FIELD, FROM, REMOVE, SEGMENT, TO}
 use Rattle.model_profiles.specs.Changes.{convert_of, converts_at, removed_of, removes_at}
 use Rattle.model_profiles.specs.Says.{SaysConvert, SaysType}
-use Rattle.model_profiles.specs.Values.{field_at, field_length, field_value_at}
-use Rattle.model_profiles.proofs.ValueRules.{field_at-keeps, field_value_at-keeps, IsValueOf-read}
+use Rattle.model_profiles.specs.Values.{field_length, field_value_at}
+use Rattle.model_profiles.proofs.ValueRules.{field-says, field_value_at-keeps, IsValueOf-read}
 
 removed_of-says : (types : List (List ℕ)) (d : Data) (segment : ℕ) → removed_of types d ≡ Ok segment → IsPlaceNamed types d segment
 unfolding removed_of
@@ -55,11 +57,11 @@ unfolding convert_of
 convert_of-keeps types definitions before d convert h =
     let (table, t, h1) = from_bind (entry_of (map (λ key. key.now) CONVERT_KEYS) d) _ convert h in
     let (segment, s, h2) = from_bind (segment_type_at SEGMENT.now types table) _ convert h1 in
-    let (field, f, h3) = from_bind (field_at definitions segment table) _ convert h2 in
+    let (field, f, h3) = from_bind (field_at FIELD.now (all_fields definitions segment) table) _ convert h2 in
     let (from, v, h4) = from_bind (field_value_at (field_length definitions segment field) FROM.now table) _ convert h3 in
     let (to, w, h5) = from_bind (field_value_at (field_length definitions segment field) TO.now table) _ convert h4 in
     let e : ◌≡◌ {A = Convert} (record { segment = segment; field = field; from = from; to = to }) convert = cc in
-    let (has, says_field) = field_at-keeps definitions segment table field f in
+    let (has, says_field) = field-says definitions segment table field f in
     let (says_from, fits_from, bare_from) = field_value_at-keeps (field_length definitions segment field) FROM.now table from v in
     let (says_to, fits_to, bare_to) = field_value_at-keeps (field_length definitions segment field) TO.now table to w in
     subst (λ (c : Convert). IsConvert definitions c × SaysConvert types definitions before d c) e (

@@ -22,7 +22,7 @@ use Rattle.dist_model.specs.declared.row.Choice.{Choice}
 use Rattle.dist_model.specs.declared.row.Group.{Group}
 use Rattle.dist_model.specs.declared.row.Row.{Row}
 use Rattle.dist_model.specs.declared.system.System.{System}
-use Rattle.dist_model.specs.Field.{IsValueOf}
+use Rattle.dist_model.specs.Field.{IsFilterValueOf}
 use Rattle.dist_model.specs.Filter.{is_filter, AreFilters, IsFilter}
 use Rattle.dist_model.specs.Message.{message_names}
 use Rattle.dist_model.specs.Model.{system_names}
@@ -37,10 +37,10 @@ use Rattle.model_keys.proofs.KeepsLemmas.{each-invariant, each-length, from_bind
 use Rattle.model_keys.proofs.SaysLemmas.{all-says, entry_of-table, list_or_none-says}
 use Rattle.model_profiles.specs.declared.keys.TheConstants.{GROUP, ROW, ROW_KEYS}
 use Rattle.model_profiles.specs.Rows.{choice_of, choices_of, filter_named, filter_width, group_of, groups_at, row_of, row_ways, rows_at, values_of}
-use Rattle.model_profiles.specs.Says.{SaysChoice, SaysChoices, SaysGroup, SaysRow, SaysValue}
-use Rattle.model_profiles.specs.Values.{field_length, field_value_of}
+use Rattle.model_profiles.specs.Says.{SaysChoice, SaysChoices, SaysFilterValue, SaysGroup, SaysRow}
+use Rattle.model_profiles.specs.Values.{field_length, filter_value_of}
 use Rattle.model_profiles.specs.Ways.{new_way_at}
-use Rattle.model_profiles.proofs.ValueRules.{field_value_of-keeps, IsValueOf-read, position-found}
+use Rattle.model_profiles.proofs.ValueRules.{filter_value_of-keeps, IsFilterValueOf-read, position-found}
 use Rattle.model_profiles.proofs.WayRules.{new_way_at-keeps}
 
 -- the filter that a key of a group names
@@ -63,10 +63,10 @@ filter_named-keeps filters message key place h =
     same a b is = grind (arith, nat_tests)
 
 -- values that were read, of a field
-values_of-says : (width : ℕ) (key : List ℕ) (ds : Items) (values : List (List ℕ)) → values_of width key ds ≡ Ok values → OneForOne SaysValue [] ds values
+values_of-says : (width : ℕ) (key : List ℕ) (ds : Items) (values : List (List ℕ)) → values_of width key ds ≡ Ok values → OneForOne SaysFilterValue [] ds values
 values_of-says width key ds values h =
-    all-says key (λ (done : List (List ℕ)) (d : Data). field_value_of width [] d) SaysValue (λ done d value is. (field_value_of-keeps width [] d value is).0) ds
-    values h
+    all-says key (λ (done : List (List ℕ)) (d : Data). filter_value_of width d) SaysFilterValue
+    (λ done d value is. (filter_value_of-keeps done width d value is).0) ds values h
 
 module _ (definitions : Definitions) (types : List IdocType) (messages : List Message) (filters : List Filter)
     (are : AllByRecursion (IsFilter definitions types messages) filters) (message : ℕ) where
@@ -86,7 +86,7 @@ module _ (definitions : Definitions) (types : List IdocType) (messages : List Me
       let list = list_of-keeps MOST_VALUES key d ds l in
       let filter = named.filter in
       let place_is = (AllByRecursion-at (IsFilter definitions types messages) filters place filter are named.here).place in
-      let read = λ (done : List (List ℕ)) (d : Data). field_value_of (filter_width definitions filters place) [] d in
+      let read = λ (done : List (List ℕ)) (d : Data). filter_value_of (filter_width definitions filters place) d in
       let width : filter_width definitions filters place ≡ filter_length filter = ap (λ (o : Option Filter). option_map_or filter_length o 0) named.here in
       let long = each-length key read 0 [] ds values v in
       subst (IsReadChoice key d) e (record {
@@ -95,10 +95,10 @@ module _ (definitions : Definitions) (types : List IdocType) (messages : List Me
           known = named.here;
           own = named.own;
           few = omega (arith, long, list.1);
-          values = each-invariant key read (AllByRecursion (IsValueOf definitions filter.segment filter.field))
-              (λ done d value so_far is. let (says, fits, bare) = field_value_of-keeps (filter_width definitions filters place) [] d value is in
-              AllByRecursion-snoc (IsValueOf definitions filter.segment filter.field) done value so_far
-              (IsValueOf-read definitions filter.segment filter.field value place_is.field (subst (λ n. length value ≤ n) width fits) bare))
+          values = each-invariant key read (AllByRecursion (IsFilterValueOf definitions filter.segment filter.field))
+              (λ done d value so_far is. let (says, fits, blank) = filter_value_of-keeps done (filter_width definitions filters place) d value is in
+              AllByRecursion-snoc (IsFilterValueOf definitions filter.segment filter.field) done value so_far
+              (IsFilterValueOf-read definitions filter.segment filter.field value place_is.field (subst (λ n. length value ≤ n) width fits) blank))
               0 [] ds values tt v;
         };
         says = record {

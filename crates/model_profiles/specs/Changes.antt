@@ -5,13 +5,15 @@ use Rattle.ale_base.specs.Text.{is_text}
 use Rattle.segment_defs.specs.declared.definitions.Definitions.{Definitions}
 use Rattle.dist_model.specs.declared.limits.TheConstants.{MOST_CONVERSIONS}
 use Rattle.dist_model.specs.declared.outbound.Convert.{Convert}
+use Rattle.dist_model.specs.Field.{all_fields}
 use Rattle.model_keys.specs.declared.finding.Finding.{Finding}
 use Rattle.model_keys.specs.declared.finding.Cause.TheVariants.{Unknown}
 use Rattle.model_keys.specs.Finding.{◌>>=◌, required}
 use Rattle.model_keys.specs.Each.{each}
+use Rattle.model_keys.specs.Fields.{field_at}
 use Rattle.model_keys.specs.Keys.{any_list_or_none_at, entry_of, list_or_none_at, segment_name_of, segment_type_at}
-use Rattle.model_profiles.specs.declared.keys.TheConstants.{CONVERT, CONVERT_KEYS, FROM, REMOVE, SEGMENT, TO}
-use Rattle.model_profiles.specs.Values.{field_at, field_length, field_value_at}
+use Rattle.model_profiles.specs.declared.keys.TheConstants.{CONVERT, CONVERT_KEYS, FIELD, FROM, REMOVE, SEGMENT, TO}
+use Rattle.model_profiles.specs.Values.{field_length, field_value_at}
 
 -- the segment type that an element of a list names
 unfoldable pub removed_of : List (List ℕ) → Data → Result ℕ Finding
@@ -34,7 +36,7 @@ unfoldable pub convert_of : List (List ℕ) → Definitions → Data → Result 
 convert_of types definitions d = do
   table ← entry_of (map (λ key. key.now) CONVERT_KEYS) d
   segment ← segment_type_at SEGMENT.now types table
-  field ← field_at definitions segment table
+  field ← field_at FIELD.now (all_fields definitions segment) table
   from ← field_value_at (field_length definitions segment field) FROM.now table
   to ← field_value_at (field_length definitions segment field) TO.now table
   Ok (record { segment = segment; field = field; from = from; to = to })

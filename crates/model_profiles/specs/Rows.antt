@@ -16,12 +16,12 @@ use Rattle.model_keys.specs.Finding.{◌>>=◌, required}
 use Rattle.model_keys.specs.Each.{each}
 use Rattle.model_keys.specs.Keys.{entry_of, list_of, list_or_none_at, table_of}
 use Rattle.model_profiles.specs.declared.keys.TheConstants.{GROUP, ROW, ROW_KEYS}
-use Rattle.model_profiles.specs.Values.{field_length, field_value_of}
+use Rattle.model_profiles.specs.Values.{field_length, filter_value_of}
 use Rattle.model_profiles.specs.Ways.{new_way_at}
 
--- the values of a list, of a field of so many bytes
+-- the values of a list, of a filter on a field of so many bytes
 abbrev pub values_of : ℕ → List ℕ → Items → Result (List (List ℕ)) Finding
-values_of width key ds = each key (λ done d. field_value_of width [] d) 0 [] ds
+values_of width key ds = each key (λ done d. filter_value_of width d) 0 [] ds
 
 -- how many bytes the field of a filter has
 abbrev pub filter_width : Definitions → List Filter → ℕ → ℕ

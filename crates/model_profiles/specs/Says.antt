@@ -2,6 +2,7 @@
 -- what it names is what stands there.
 use Rattle.std.specs.Prelude.{◌≡◌, ℕ, pos, suc, ◌-◌, List, [], ◌∷◌, length, Option, Some, None, slice_get, MatchOption}
 use Rattle.toml.specs.Data.{Data, Items, Members, no_members, member, get_member, as_str, as_integer, as_array, as_table}
+use Rattle.ale_base.specs.Blanks.{trimmed}
 use Rattle.segment_defs.specs.declared.definitions.Definitions.{Definitions}
 use Rattle.segment_defs.specs.declared.field.Field.{Field}
 use Rattle.dist_model.specs.declared.filter.FieldPlace.{FieldPlace}
@@ -34,9 +35,12 @@ pub record SaysWay (systems messages : List (List ℕ)) (table : Members) (way :
   pub receiver : SaysSystem systems RECEIVER.now table way.1
   pub message : SaysPlace messages MESSAGE.now table way.2
 
--- a value of a field
-abbrev pub SaysValue : List (List ℕ) → Data → List ℕ → Type 0
-SaysValue before d value = IsValueText d value
+-- a value of a filter is the text that stands there, blanks at its end included; blanks alone are no bytes
+pub record SaysFilterValue (before : List (List ℕ)) (d : Data) (value : List ℕ) : Type 0 where
+  pub text : List ℕ
+  pub is : as_str d ≡ Some text
+  pub blank : trimmed text ≡ [] → value ≡ []
+  pub whole : (trimmed text ≡ [] → ⊥) → value ≡ text
 
 -- the condition at a key of a group: the key is the name of the filter
 pub record SaysChoice (filters : List Filter) (message : ℕ) (key : List ℕ) (d : Data) (choice : Choice) : Type 0 where
@@ -46,7 +50,7 @@ pub record SaysChoice (filters : List Filter) (message : ℕ) (key : List ℕ) (
   pub named : filter.name ≡ key
   pub list : Items
   pub is : as_array d ≡ Some list
-  pub values : OneForOne SaysValue [] list choice.values
+  pub values : OneForOne SaysFilterValue [] list choice.values
 
 -- the keys of a group say its conditions one for one
 abbrev pub SaysChoices : List Filter → ℕ → Members → List Choice → Type 0

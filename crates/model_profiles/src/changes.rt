@@ -6,14 +6,14 @@ ghost use Rattle.model_keys.specs.Finding.{Gives};
 ghost use Rattle.model_keys.specs.Keys.{segment_type_at};
 ghost use Rattle.model_profiles.specs.Changes.{convert_of, converts_at, converts_of, removed_of, removes_at, removes_of};
 
-use crate::keys::{CONVERT, CONVERT_KEYS, FROM, REMOVE, SEGMENT, TO};
+use crate::keys::{CONVERT, CONVERT_KEYS, FIELD, FROM, REMOVE, SEGMENT, TO};
 use crate::segments::NamedSegments;
-use crate::values::{field_at, field_length, field_value_at};
+use crate::values::{field_length, field_value_at};
 use ale_base::Items;
-use dist_model::{Convert, FieldPlace, MOST_CONVERSIONS};
+use dist_model::{Convert, FieldPlace, MOST_CONVERSIONS, all_fields};
 use model_keys::{
-    Cause, ReadError, any_list_or_none_at, at, entry_of, list_or_none_at, segment_name_of,
-    segment_type_at, within,
+    Cause, ReadError, any_list_or_none_at, at, entry_of, field_at, list_or_none_at,
+    segment_name_of, segment_type_at, within,
 };
 use segment_defs::TypeNo;
 use std::alloc::Global;
@@ -100,7 +100,7 @@ fn convert_of(alloc: Global, on: &NamedSegments<'_>, value: &Value) -> Result<Co
 {
     let table = entry_of(alloc, value, &CONVERT_KEYS)?;
     let segment = known_type_at(alloc, on, table)?;
-    let field = field_at(alloc, on, segment, table)?;
+    let field = field_at(alloc, FIELD, all_fields(on.definitions, segment), table)?;
     let width = field_length(on.definitions, FieldPlace { segment, field });
     let from = field_value_at(alloc, width, FROM, table)?;
     let to = field_value_at(alloc, width, TO, table)?;

@@ -11,7 +11,7 @@ ghost use Rattle.model_profiles.specs.Rows.{choice_of, choices_of, filter_named,
 
 use crate::keys::{GROUP, ROW, ROW_KEYS};
 use crate::row_basis::RowBasis;
-use crate::values::{field_length, field_value_of};
+use crate::values::{field_length, filter_value_of};
 use crate::ways::new_way_at;
 use ale_base::Items;
 use dist_model::{
@@ -232,7 +232,7 @@ fn filter_width(on: &RowBasis<'_>, place: u16) -> usize
     }
 }
 
-/// The values of a condition, of a field of so many bytes.
+/// The values of a condition, on a field of so many bytes.
 fn values_of(
     alloc: Global,
     width: usize,
@@ -243,7 +243,7 @@ fn values_of(
 {
     let mut texts = Items::new(alloc);
     for (place, value) in values.iter().enumerate() {
-        match field_value_of(alloc, width, "", value) {
+        match filter_value_of(alloc, width, value) {
             Err(error) => return Err(within(alloc, key, place, error)),
             Ok(text) => texts.push(text)?,
         }

@@ -1,9 +1,7 @@
 //! The port and the function of a receiver.
 
-ghost use Rattle.std.specs.Prelude.{◌≡◌, [], IfOk, IsTrue};
 ghost use Rattle.toml.specs.View.{view, table_view};
 ghost use Rattle.segment_defs.specs.declared.limits.TheConstants.{LONGEST_NAME};
-ghost use Rattle.segment_defs.specs.Name.{is_name_within};
 ghost use Rattle.model_keys.specs.Finding.{Gives};
 ghost use Rattle.model_keys.specs.Keys.{name_of};
 ghost use Rattle.model_profiles.specs.declared.keys.TheConstants.{FUNCTION};
@@ -12,7 +10,7 @@ ghost use Rattle.model_profiles.specs.Outbound.{function_at, port_at, target_at}
 use crate::keys::{FUNCTION, PORT, STANDARD_FUNCTION};
 use ale_base::{Fixed, Items};
 use dist_model::LONGEST_PORT;
-use model_keys::{ReadError, get, name_of};
+use model_keys::{ReadError, fixed_name, get, name_of};
 use segment_defs::LONGEST_NAME;
 use std::alloc::Global;
 use toml::{Table, Value};
@@ -38,14 +36,6 @@ fn port_at(alloc: Global, table: &Table) -> Result<Items<u8>, ReadError>
             Ok(Items::from_slice(alloc, name.as_bytes())?)
         }
     }
-}
-
-/// The name of a function in its field.
-fn fixed_name(name: &[u8]) -> Fixed<30>
-    requires { IsTrue (is_name_within LONGEST_NAME name.now) }
-    ensures { result ≡ name.now }
-{
-    Fixed::of(name).unwrap()
 }
 
 fn function_of(alloc: Global, value: &Value) -> Result<Fixed<30>, ReadError>

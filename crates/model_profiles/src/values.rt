@@ -4,14 +4,13 @@ ghost use Rattle.std.specs.Prelude.{◌≡◌, ◌<◌, length, IfOk};
 ghost use Rattle.toml.specs.View.{view, table_view};
 ghost use Rattle.segment_defs.specs.Definitions.{AreDefinitions};
 ghost use Rattle.model_keys.specs.Finding.{Gives};
-ghost use Rattle.model_profiles.specs.Values.{field_at, field_length, field_place, field_value_at, field_value_of};
+ghost use Rattle.model_profiles.specs.Values.{field_length, field_place, field_value_at, field_value_of, filter_text, filter_value_of};
 
-use crate::keys::FIELD;
 use crate::segments::NamedSegments;
 use ale_base::{Items, trimmed};
 use dist_model::{FieldPlace, all_fields, field_named};
-use model_keys::{Cause, ReadError, at, get, name_at};
-use segment_defs::{Definitions, LONGEST_NAME, TypeNo};
+use model_keys::{Cause, ReadError, at, get};
+use segment_defs::{Definitions, TypeNo};
 use std::alloc::Global;
 use toml::{Table, Value};
 
@@ -57,6 +56,35 @@ pub(crate) fn field_value_of(
     }
 }
 
+/// A value of a filter on a field of so many bytes, as it stands there; blanks alone are the value of a blank field. Wrong, where there
+/// is no text or one that is longer.
+#[tactic(auto, unfolding(crate::specs::Values::filter_value_of))]
+pub(crate) fn filter_value_of(
+    alloc: Global,
+    width: usize,
+    value: &Value,
+) -> Result<Items<u8>, ReadError>
+    ensures { Gives (λ text. text) result (filter_value_of width (view value.now)) }
+{
+    match value {
+        Value::String(text) if text.len() <= width => {
+            Ok(Items::from_slice(alloc, filter_text(text.as_bytes()))?)
+        }
+        _ => Err(ReadError::Found(at(alloc, Cause::Wrong, "")?)),
+    }
+}
+
+/// A text as a value of a filter.
+fn filter_text(text: &[u8]) -> &[u8]
+    ensures { result.now ≡ filter_text text.now }
+{
+    if trimmed(text) == b"".as_slice() {
+        &[]
+    } else {
+        text
+    }
+}
+
 /// The text at a key that a field of this width takes, without blanks at its end: Missing, Wrong.
 #[tactic(auto, unfolding(crate::specs::Values::field_value_at))]
 pub(crate) fn field_value_at(
@@ -70,23 +98,5 @@ pub(crate) fn field_value_at(
     match get(table, key) {
         None => Err(ReadError::Found(at(alloc, Cause::Missing, key)?)),
         Some(value) => field_value_of(alloc, width, key, value),
-    }
-}
-
-/// The field of a segment type that is named at the key of fields: Missing, Wrong, Unknown.
-#[tactic(auto, unfolding(crate::specs::Values::field_at))]
-pub(crate) fn field_at(
-    alloc: Global,
-    on: &NamedSegments<'_>,
-    segment: TypeNo,
-    table: &Table,
-) -> Result<u16, ReadError>
-    requires { segment < length on.now.definitions.types }
-    ensures { Gives (λ place. place) result (field_at on.now.definitions segment (table_view table.now)) }
-{
-    let name = name_at(alloc, LONGEST_NAME, FIELD, table)?;
-    match field_place(on, segment, name.as_bytes()) {
-        None => Err(ReadError::Found(at(alloc, Cause::Unknown, FIELD)?)),
-        Some(place) => Ok(place),
     }
 }

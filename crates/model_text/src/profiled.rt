@@ -3,13 +3,13 @@
 ghost use Rattle.std.specs.Prelude.{◌≡◌, ℕ, IfOk, List, true};
 ghost use Rattle.std.specs.List.{list_any};
 ghost use Rattle.dist_model.specs.Triple.{same_triple};
-ghost use Rattle.dist_model.specs.Way.{outbound_way, outbound_ways, row_way};
+ghost use Rattle.dist_model.specs.Way.{outbound_ways};
 ghost use Rattle.model_keys.specs.Finding.{Gives};
 ghost use Rattle.model_text.specs.Profiled.{all_profiled, profiled};
 
 use crate::keys::ROW;
 use ale_base::OutOfMemory;
-use dist_model::{Outbound, Row, Triples};
+use dist_model::{Outbound, Row, Triples, outbound_way, row_way};
 use model_keys::{Cause, ReadError, at, within};
 use std::alloc::Global;
 
@@ -38,7 +38,7 @@ fn ways_of(alloc: Global, profiles: &[Outbound]) -> Result<Triples, OutOfMemory>
 {
     let mut ways = Triples::new(alloc);
     for profile in profiles {
-        ways.add(way_of_profile(profile))?;
+        ways.add(outbound_way(profile))?;
     }
     Ok(ways)
 }
@@ -48,7 +48,7 @@ fn ways_of(alloc: Global, profiles: &[Outbound]) -> Result<Triples, OutOfMemory>
 fn profiled(alloc: Global, ways: &Triples, row: &Row) -> Result<(), ReadError>
     ensures { Gives (λ _. true) result (profiled ways.now row.now) }
 {
-    if !has_way(ways, way_of_row(row)) {
+    if !has_way(ways, row_way(row)) {
         return Err(ReadError::Found(at(alloc, Cause::Missing, "")?));
     }
     Ok(())
@@ -58,26 +58,4 @@ fn has_way(ways: &Triples, way: (usize, usize, usize)) -> bool
     ensures { result ≡ list_any (same_triple way) ways.now }
 {
     ways.place(way).is_some()
-}
-
-fn way_of_row(row: &Row) -> (usize, usize, usize)
-    ensures { result ≡ row_way row.now }
-{
-    let message = row.message.0;
-    (
-        usize::from(row.sender.get()),
-        usize::from(row.receiver.get()),
-        usize::from(message),
-    )
-}
-
-fn way_of_profile(profile: &Outbound) -> (usize, usize, usize)
-    ensures { result ≡ outbound_way profile.now }
-{
-    let message = profile.message.0;
-    (
-        usize::from(profile.sender.get()),
-        usize::from(profile.receiver.get()),
-        usize::from(message),
-    )
 }

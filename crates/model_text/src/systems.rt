@@ -1,9 +1,7 @@
 //! The section of the systems.
 
-ghost use Rattle.std.specs.Prelude.{◌≡◌, ◌∷◌, ◌++◌, [], IfOk, IsTrue};
+ghost use Rattle.std.specs.Prelude.{◌≡◌, ◌∷◌, ◌++◌, [], IfOk};
 ghost use Rattle.toml.specs.View.{view, table_view, items_view};
-ghost use Rattle.segment_defs.specs.Name.{is_name_within};
-ghost use Rattle.segment_defs.specs.declared.limits.TheConstants.{LONGEST_NAME};
 ghost use Rattle.dist_model.specs.Model.{system_names};
 ghost use Rattle.model_keys.specs.Finding.{Gives};
 ghost use Rattle.model_text.specs.Systems.{client_at, client_in, client_of, function_of, functions_at, functions_of, system_of, systems_at, systems_of};
@@ -14,7 +12,8 @@ use crate::keys::{
 use ale_base::{Fixed, Items};
 use dist_model::{LONGEST_SYSTEM, MOST_FUNCTIONS, MOST_SYSTEMS, Names, System};
 use model_keys::{
-    Cause, ReadError, at, entry_of, get, list_of, name_of, new_name_at, some_list_at, within,
+    Cause, ReadError, at, entry_of, fixed_name, get, list_of, name_of, new_name_at, some_list_at,
+    within,
 };
 use segment_defs::LONGEST_NAME;
 use std::alloc::Global;
@@ -103,14 +102,6 @@ fn client_at(alloc: Global, table: &Table) -> Result<[u8; 3], ReadError>
         None => Ok(STANDARD_CLIENT),
         Some(value) => client_of(alloc, value),
     }
-}
-
-/// The name of a function in its field.
-fn fixed_name(name: &[u8]) -> Fixed<30>
-    requires { IsTrue (is_name_within LONGEST_NAME name.now) }
-    ensures { result ≡ name.now }
-{
-    Fixed::of(name).unwrap()
 }
 
 fn function_of(alloc: Global, value: &Value) -> Result<Fixed<30>, ReadError>

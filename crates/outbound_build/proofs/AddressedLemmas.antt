@@ -21,6 +21,7 @@ use Rattle.dist_model.specs.declared.outbound.Outbound.{Outbound}
 use Rattle.dist_model.specs.declared.row.Row.{Row}
 use Rattle.dist_model.specs.declared.system.System.{System}
 use Rattle.dist_model.specs.Model.{HasSystem, IsModel, goes_from, outbound_of, receivers_of}
+use Rattle.dist_model.specs.Named.{system_name}
 use Rattle.dist_model.specs.System.{IsSystem}
 use Rattle.idoc_tree.specs.Forest.{Forest, no_trees, tree}
 use Rattle.unit_core.specs.declared.raw_unit_doc.RawUnitDoc.{RawUnitDoc}
@@ -39,7 +40,7 @@ use Rattle.outbound_build.specs.Added.{Master, batch_of, dispatched, master_of, 
 use Rattle.outbound_build.specs.Added.{packet_count, still_waiting, waiting_for, waits_as, waits_of, with_document, with_master, with_row, with_rows}
 use Rattle.outbound_build.specs.Added.{with_sent, with_unit}
 use Rattle.outbound_build.specs.Addressed.{AreAddressed, AreMadeFor, AreUnitsAddressed, IsAddressed, IsForRow}
-use Rattle.outbound_build.specs.ControlRecord.{control_text, system_name}
+use Rattle.outbound_build.specs.ControlRecord.{control_text}
 use Rattle.outbound_build.specs.Document.{Document, carried}
 use Rattle.outbound_build.specs.QueueNames.{queues_by}
 use Rattle.outbound_build.specs.Sent.{kept_by, made_of, sent}
@@ -147,7 +148,7 @@ module _ (model : Lists) (kept : IsModel model) (system : ℕ) where
       → IsForRow model system row (carried model.definitions document)
   sent-for row number of profile master document here own found made =
       let document_made = carried model.definitions document in
-      let control = made-control model profile number master.control (kept_by model row profile.message master.forest) document
+      let control = made-control model profile number master.control (kept_by model row master) document
       (sym (sent-by model row number master profile found) ∙ made) in
       record {
         of = of;

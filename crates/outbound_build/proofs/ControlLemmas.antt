@@ -1,5 +1,5 @@
 -- The texts of the control record have room in their fields, and are allowed there.
-use Rattle.std.specs.Prelude.{slice_get, option_and_then, IsTrue, nat_le, ◌&&◌, ◌==◌, ◌/◌, ◌%◌, ◌+◌, ◌<◌, Contains, All, fold}
+use Rattle.std.specs.Prelude.{slice_get, IsTrue, nat_le, ◌&&◌, ◌==◌, ◌/◌, ◌%◌, ◌+◌, ◌<◌, Contains, fold}
 use Rattle.std.specs.Char.{is_ascii_digit}
 use Rattle.std.specs.List.{AllByRecursion, list_all}
 use Rattle.std.specs.Option.{option_map_or}
@@ -30,7 +30,8 @@ use Rattle.dist_model.specs.declared.outbound.Outbound.{Outbound}
 use Rattle.dist_model.specs.Model.{IsModel}
 use Rattle.segment_defs.specs.Name.{is_name_within}
 use Rattle.version_reduce.proofs.ProfileLemmas.{is_outbound}
-use Rattle.outbound_build.specs.ControlRecord.{HasBlanks, blank_fields, control_text, message_name, reduced_name}
+use Rattle.dist_model.specs.Named.{idoc_type_name, message_name, reduced_name}
+use Rattle.outbound_build.specs.ControlRecord.{HasBlanks, blank_fields, control_text}
 
 -- a text of the element at a place is no longer than those of all
 option-fits : {A : Type 0} (P : A → Type 0) (f : A → List ℕ) (most : ℕ) (xs : List A) → AllByRecursion P xs → ((x : A) → P x → length (f x) ≤ most) → (k : ℕ)
@@ -43,7 +44,7 @@ within-fits : (most : ℕ) (name : List ℕ) → IsTrue (is_name_within most nam
 within-fits most name is = leb-true (length name) most (and_parts _ _ (and_parts (nat_le 1 (length name)) _ is).1).0
 
 type-fits : (model : Lists) (o : Option Message) → IsModel model
-    → length (option_map_or (λ type. type.name) (option_and_then (λ is. slice_get model.types is.idoctype) o) []) ≤ 30
+    → length (option_map_or (λ is. idoc_type_name model is.idoctype) o []) ≤ 30
 type-fits model None kept = omega arith
 type-fits model (Some is) kept = option-fits _ (λ type. type.name) 30 model.types kept.types.each (λ type keeps. keeps.named.most) is.idoctype
 

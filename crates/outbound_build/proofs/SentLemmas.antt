@@ -3,10 +3,10 @@ use Rattle.std.specs.Prelude.{◌↔◌, IfSome, option_and_then}
 use Rattle.std.specs.Option.{option_map}
 use Rattle.std.proofs.Common.{◌≡◌, ◌⊎◌, inl, inr, ℕ, Option, Some, None, List, [], ◌∷◌, length, refl, ap, sym, ◌∙◌, subst, ◌≢◌, arith}
 use Rattle.idoc_record.specs.Control.{control_with}
+use Rattle.segment_defs.specs.declared.definitions.Definitions.{Definitions}
 use Rattle.segment_defs.specs.declared.idoc_type.TypePlace.{TypePlace}
 use Rattle.dist_model.specs.declared.lists.Lists.{Lists}
 use Rattle.dist_model.specs.declared.outbound.Outbound.{Outbound}
-use Rattle.dist_model.specs.Message.{message_entries}
 use Rattle.dist_model.specs.Model.{outbound_of}
 use Rattle.idoc_tree.specs.declared.node.Doc.{Doc}
 use Rattle.idoc_tree.specs.declared.node.Node.{Node}
@@ -14,17 +14,15 @@ use Rattle.idoc_tree.specs.Forest.{Forest, no_trees, tree}
 use Rattle.idoc_tree.specs.Nodes.{forest_of}
 use Rattle.idoc_tree.specs.Lines.{IsNode, IsFitted}
 use Rattle.idoc_tree.specs.Valid.{IsValid}
-use Rattle.version_reduce.specs.Document.{IsOfMessage}
+use Rattle.idoc_reading.specs.Document.{IsOfEntries}
 use Rattle.dist_model.specs.declared.row.Group.{Group}
 use Rattle.filter_objects.specs.Passing.{groups_of}
 use Rattle.filter_objects.specs.Kept.{IsKeptPart}
-use Rattle.filter_objects.specs.FromLeaves.{kept_part}
 use Rattle.filter_objects.proofs.KeptLemmas.{law-kept, law-valid, law-hangs, law-nodes}
 use Rattle.filter_objects.proofs.OneLemmas.{one_part}
 use Rattle.outbound_build.specs.ControlRecord.{control_text}
 use Rattle.outbound_build.specs.Document.{Document, document_of}
-use Rattle.outbound_build.specs.Sent.{IsAdaptedPart, adapted, kept_by, made_of, message_of, sent, sent_by}
-use Rattle.outbound_build.proofs.RowLemmas.{profile-message}
+use Rattle.outbound_build.specs.Sent.{IsAdaptedPart, adapted, entries_of, kept_by, made_of, sent, sent_by}
 
 -- what is sent by a row is sent by its profile
 pub sent-by : (model : Lists) (row number : ℕ) (master : Document) (profile : Outbound) → outbound_of model row ≡ Some profile
@@ -34,7 +32,7 @@ sent-by model row number master profile found = ap (option_and_then (sent_by mod
 -- what is made of what is kept is what is sent
 pub sent-kept : (model : Lists) (row number : ℕ) (master : Document) (profile : Outbound) (made : Option Doc) (kept : Forest)
     → outbound_of model row ≡ Some profile
-    → kept ≡ kept_by model row profile.message master.forest → option_map document_of made ≡ made_of model profile number master.control kept
+    → kept ≡ kept_by model row master → option_map document_of made ≡ made_of model profile number master.control kept
     → option_map document_of made ≡ sent model row number master
 sent-kept model row number master profile made kept found part is =
     is ∙ ap (made_of model profile number master.control) part ∙ sym (sent-by model row number master profile found)
@@ -61,33 +59,26 @@ one-written model profile number master nodes some control left written adapts =
     ∙ ap (λ (c : List ℕ). Some (record { control = c; forest = adapted model profile (forest_of nodes) })) (sym written)
     ∙ ap (λ (f : Forest). Some (record { control = control; forest = f })) (sym adapts))
 
--- what is kept of a document of a message type is one, or nothing
-pub kept-of_message : (model : Lists) (message : ℕ) (groups : List Group) (entries : List TypePlace) (forest kept : Forest)
-    → entries ≡ message_entries model.types model.messages message → IsKeptPart model entries groups forest kept
-    → IsOfMessage model message forest → (kept ≡ no_trees) ⊎ IsOfMessage model message kept
-kept-of_message model message groups entries forest kept known part is = whole (law-valid model own groups forest kept own_part is.valid)
+-- what is kept of a document by some entries is one by them, or nothing
+pub kept-of_entries : (model : Lists) (entries : List TypePlace) (groups : List Group) (forest kept : Forest) → IsKeptPart model entries groups forest kept
+    → IsOfEntries model.definitions entries forest → (kept ≡ no_trees) ⊎ IsOfEntries model.definitions entries kept
+kept-of_entries model entries groups forest kept part is = whole (law-valid model entries groups forest kept part is.valid)
   where
-    own : List TypePlace
-    own = message_entries model.types model.messages message
-
-    own_part : IsKeptPart model own groups forest kept
-    own_part = subst (λ (es : List TypePlace). IsKeptPart model es groups forest kept) known part
-
-    whole : (kept ≡ no_trees) ⊎ IsValid own kept → (kept ≡ no_trees) ⊎ IsOfMessage model message kept
+    whole : (kept ≡ no_trees) ⊎ IsValid entries kept → (kept ≡ no_trees) ⊎ IsOfEntries model.definitions entries kept
     whole (inl bare) = inl bare
     whole (inr valid) = inr (record {
-      nodes = law-nodes (IsNode model.definitions) model own groups forest kept own_part is.nodes;
-      fitted = law-nodes (IsFitted model.definitions) model own groups forest kept own_part is.fitted;
-      hangs = law-hangs model own None groups forest kept own_part is.hangs;
+      nodes = law-nodes (IsNode model.definitions) model entries groups forest kept part is.nodes;
+      fitted = law-nodes (IsFitted model.definitions) model entries groups forest kept part is.fitted;
+      hangs = law-hangs model entries None groups forest kept part is.hangs;
       valid = valid;
     })
 
 -- nodes are no trees only where there are none
-pub some-kept : (model : Lists) (message : ℕ) (nodes : List Node) → length nodes ≢ 0
-    → (forest_of nodes ≡ no_trees) ⊎ IsOfMessage model message (forest_of nodes) → IsOfMessage model message (forest_of nodes)
-some-kept model message [] some either = absurd (some refl)
-some-kept model message (node ∷ nodes) some (inl bare) = cc
-some-kept model message (node ∷ nodes) some (inr is) = is
+pub some-kept : (definitions : Definitions) (entries : List TypePlace) (nodes : List Node) → length nodes ≢ 0
+    → (forest_of nodes ≡ no_trees) ⊎ IsOfEntries definitions entries (forest_of nodes) → IsOfEntries definitions entries (forest_of nodes)
+some-kept definitions entries [] some either = absurd (some refl)
+some-kept definitions entries (node ∷ nodes) some (inl bare) = cc
+some-kept definitions entries (node ∷ nodes) some (inr is) = is
 
 made-bare : (model : Lists) (profile : Outbound) (number : ℕ) (control : List ℕ) (kept : Forest) → made_of model profile number control kept ≡ None
     → kept ≡ no_trees
@@ -101,31 +92,27 @@ map-none f (Some x) none = cc
 -- nothing is sent exactly where the largest kept part is nothing
 pub none-kept : (model : Lists) (row number : ℕ) (master : Document) (profile : Outbound) (made : Option Doc) → outbound_of model row ≡ Some profile
     → option_map document_of made ≡ sent model row number master
-    → (made ≡ None) ↔ IsKeptPart model (message_entries model.types model.messages (message_of model row)) (groups_of model row) master.forest no_trees
+    → (made ≡ None) ↔ IsKeptPart model (entries_of model row master.control) (groups_of model row) master.forest no_trees
 none-kept model row number master profile made found is = (forth, back)
   where
-    part : ℕ → Forest
-    part message = kept_part model (message_entries model.types model.messages message) (groups_of model row) master.forest
+    entries : List TypePlace
+    entries = entries_of model row master.control
 
-    same : part profile.message ≡ part (message_of model row)
-    same = ap part (profile-message model row profile found)
-
-    made_is : option_map document_of made ≡ made_of model profile number master.control (part profile.message)
+    made_is : option_map document_of made ≡ made_of model profile number master.control (kept_by model row master)
     made_is = is ∙ sent-by model row number master profile found
 
-    law : IsKeptPart model (message_entries model.types model.messages (message_of model row)) (groups_of model row) master.forest (part (message_of model row))
-    law = law-kept model (message_entries model.types model.messages (message_of model row)) (groups_of model row) master.forest
+    law : IsKeptPart model entries (groups_of model row) master.forest (kept_by model row master)
+    law = law-kept model entries (groups_of model row) master.forest
 
-    forth : made ≡ None → IsKeptPart model (message_entries model.types model.messages (message_of model row)) (groups_of model row) master.forest no_trees
+    forth : made ≡ None → IsKeptPart model entries (groups_of model row) master.forest no_trees
     forth none =
-        let bare = made-bare model profile number master.control (part profile.message) (sym made_is ∙ ap (option_map document_of) none) in
-        subst (IsKeptPart model (message_entries model.types model.messages (message_of model row)) (groups_of model row) master.forest) (sym same ∙ bare) law
+        let bare = made-bare model profile number master.control (kept_by model row master) (sym made_is ∙ ap (option_map document_of) none) in
+        subst (IsKeptPart model entries (groups_of model row) master.forest) bare law
 
-    back : IsKeptPart model (message_entries model.types model.messages (message_of model row)) (groups_of model row) master.forest no_trees → made ≡ None
+    back : IsKeptPart model entries (groups_of model row) master.forest no_trees → made ≡ None
     back nothing =
-        let entries = message_entries model.types model.messages (message_of model row) in
-        let one = one_part model entries (groups_of model row) master.forest (part (message_of model row)) no_trees law nothing in
-        map-none document_of made (made_is ∙ ap (made_of model profile number master.control) (same ∙ one))
+        let one = one_part model entries (groups_of model row) master.forest (kept_by model row master) no_trees law nothing in
+        map-none document_of made (made_is ∙ ap (made_of model profile number master.control) one)
 
 some-same : (one other : Document) → Some one ≡ Some other → (other.control ≡ one.control) × (other.forest ≡ one.forest)
 some-same one other same =
@@ -142,22 +129,13 @@ made-forest model profile number control (tree root below after) document made =
 -- what is sent is what the row's profile makes of a part that the row's groups keep
 pub adapted-part : (model : Lists) (row number : ℕ) (master : Document) (profile : Outbound) (made : Option Doc) → outbound_of model row ≡ Some profile
     → option_map document_of made ≡ sent model row number master
-    → IfSome made (λ doc. IsAdaptedPart model row master.forest (forest_of doc.forest.items))
+    → IfSome made (λ doc. IsAdaptedPart model row master (forest_of doc.forest.items))
 adapted-part model row number master profile None found is = tt
 adapted-part model row number master profile (Some doc) found is = record {
-  kept = part profile.message;
+  kept = kept_by model row master;
   profile = profile;
-  part = subst (IsKeptPart model (message_entries model.types model.messages (message_of model row)) (groups_of model row) master.forest) (sym same) law;
+  part = law-kept model (entries_of model row master.control) (groups_of model row) master.forest;
   of_row = found;
-  makes = made-forest model profile number master.control (part profile.message) (document_of doc)
+  makes = made-forest model profile number master.control (kept_by model row master) (document_of doc)
       (is ∙ sent-by model row number master profile found);
 }
-  where
-    part : ℕ → Forest
-    part message = kept_part model (message_entries model.types model.messages message) (groups_of model row) master.forest
-
-    same : part profile.message ≡ part (message_of model row)
-    same = ap part (profile-message model row profile found)
-
-    law : IsKeptPart model (message_entries model.types model.messages (message_of model row)) (groups_of model row) master.forest (part (message_of model row))
-    law = law-kept model (message_entries model.types model.messages (message_of model row)) (groups_of model row) master.forest

@@ -9,14 +9,13 @@ use Rattle.ale_base.proofs.ListLemmas.{AllByRecursion-append, AllByRecursion-at,
 use Rattle.ale_base.specs.declared.queue_name.NameFault.{NameFault}
 use Rattle.dist_model.specs.declared.lists.Lists.{Lists}
 use Rattle.dist_model.specs.declared.outbound.Outbound.{Outbound}
-use Rattle.dist_model.specs.Message.{message_entries}
-use Rattle.dist_model.specs.Model.{IsModel, message_named, outbound_of, receivers_of}
-use Rattle.idoc_record.specs.declared.control_field.ControlField.TheVariants.{Mestyp}
-use Rattle.idoc_record.specs.Control.{field_of}
+use Rattle.dist_model.specs.Model.{IsModel, outbound_of, receivers_of}
+use Rattle.dist_model.specs.Named.{idoc_type_name_of}
 use Rattle.idoc_tree.specs.declared.fault.SyntaxFault.{SyntaxFault}
 use Rattle.idoc_tree.specs.Forest.{Forest, preorder}
-use Rattle.idoc_tree.specs.FromRecords.{built}
 use Rattle.idoc_tree.specs.Lines.{line_of}
+use Rattle.idoc_reading.specs.Reading.{ReadDocument, read_by_type}
+use Rattle.idoc_reading.proofs.ReadingLemmas.{read-each}
 use Rattle.unit_core.specs.declared.raw_unit_doc.RawUnitDoc.{RawUnitDoc}
 use Rattle.unit_core.specs.declared.records.Record.{Record}
 use Rattle.unit_core.specs.declared.records.Record.TheVariants.{Commit, Dispatch}
@@ -31,16 +30,15 @@ use Rattle.outbound_build.specs.declared.batch.Batch.{Batch}
 use Rattle.outbound_build.specs.declared.outbox.Outbox.{Outbox}
 use Rattle.outbound_build.specs.declared.parcel.Parcel.{Parcel}
 use Rattle.outbound_build.specs.declared.queue_lists.QueueLists.{QueueLists}
-use Rattle.outbound_build.specs.ControlRecord.{type_name}
 use Rattle.outbound_build.specs.Document.{Document, carried}
 use Rattle.outbound_build.specs.QueueNames.{queues_by}
 use Rattle.outbound_build.specs.Sent.{sent}
 use Rattle.outbound_build.specs.Added.{Master, added_by, batch_of, built_master, dispatched, may_be_of, no_batch, numbered, packed, packed_for, packet_count}
-use Rattle.outbound_build.specs.Added.{packets, read_as, rows_of, still_waiting, waiting_for, waits_as, waits_of, with_document, with_master, with_row}
+use Rattle.outbound_build.specs.Added.{master_read, packets, rows_of, still_waiting, waiting_for, waits_as, waits_of, with_document, with_master, with_row}
 use Rattle.outbound_build.specs.Added.{with_rows, with_sent, with_unit}
 use Rattle.outbound_build.specs.Committed.{Past, adds, no_more, no_past, past_after, past_of, units_of}
 use Rattle.outbound_build.specs.Units.{HasShort, IsShort}
-use Rattle.outbound_build.proofs.SizeLemmas.{size, size-built, size-sent}
+use Rattle.outbound_build.proofs.SizeLemmas.{size, size-sent}
 
 -- a fold keeps what each of its steps keeps
 fold-step : {A B : Type 0} (P : B → Type 0) (f : B → A → B) (b : B) (xs : List A) → ((c : B) (x : A) → P c → P (f c x)) → P b → P (fold f b xs)
@@ -120,35 +118,37 @@ module _ (most : ℕ) (model : Lists) (kept : IsModel model) where
       fold-step (IsShortBatch most) (with_row model before master.document) batch (receivers_of system master.message model)
       (λ b row so_far. with_row-short before master.document b row short so_far) is
 
-  read-short : (doc : RawUnitDoc) (message : ℕ) (master : Master) → read_as model doc message ≡ Some master → size master.document.forest ≤ length doc.segments
-  read-short doc message master read = by_type (may_be_of doc.control (type_name model message)) read
+  read-short : (doc : RawUnitDoc) (read : ReadDocument) (master : Master) → read_by_type model doc.control doc.segments ≡ Some read
+      → master_read model doc.control read ≡ Some master → size master.document.forest ≤ length doc.segments
+  read-short doc read master found is = by_type (may_be_of doc.control (idoc_type_name_of model read.message)) is
     where
-      by_built : (r : Result Forest SyntaxFault) → built model.definitions (message_entries model.types model.messages message) doc.segments ≡ r
-          → built_master message doc.control r ≡ Some master → size master.document.forest ≤ length doc.segments
-      by_built (Err fault) made read = absurd (cc)
-      by_built (Ok forest) made read =
-          let same : forest ≡ master.document.forest = ap (λ (o : Option Master). option_map_or (λ (m : Master). m.document.forest) o forest) read in
-          subst (λ (f : Forest). size f ≤ length doc.segments) same (omega (arith, size-built model message doc.segments forest kept made))
-
-      by_type : (b : Bool)
-          → (if b then built_master message doc.control
-          (built model.definitions (message_entries model.types model.messages message) doc.segments) else None) ≡ Some master
+      by_built : (r : Result Forest SyntaxFault) → read.made ≡ r → built_master read.message doc.control r ≡ Some master
           → size master.document.forest ≤ length doc.segments
-      by_type true read = by_built (built model.definitions (message_entries model.types model.messages message) doc.segments) refl read
-      by_type false read = absurd (cc)
+      by_built (Err fault) made is = absurd (cc)
+      by_built (Ok forest) made is =
+          let same : forest ≡ master.document.forest = ap (λ (o : Option Master). option_map_or (λ (m : Master). m.document.forest) o forest) is in
+          subst (λ (f : Forest). size f ≤ length doc.segments) same
+          (omega (arith, read-each model doc.control doc.segments read forest kept found made))
+
+      by_type : (b : Bool) → (if b then built_master read.message doc.control read.made else None) ≡ Some master
+          → size master.document.forest ≤ length doc.segments
+      by_type true is = by_built read.made refl is
+      by_type false is = absurd (cc)
 
   with_master-short : (system before : ℕ) (batch : Batch) (doc : RawUnitDoc) → IsShort most doc → IsShortBatch most batch
       → IsShortBatch most (with_master model system before batch doc)
-  with_master-short system before batch doc short is = of_message (message_named (field_of doc.control Mestyp) model)
+  with_master-short system before batch doc short is = of_reading (read_by_type model doc.control doc.segments) refl
     where
-      of_read : (message : ℕ) (o : Option Master) → read_as model doc message ≡ o
-          → IsShortBatch most (option_map_or (with_rows model system before batch) o batch)
-      of_read message None read = is
-      of_read message (Some master) read = with_rows-short system before batch master (omega (arith, read-short doc message master read, short)) is
+      of_master : (read : ReadDocument) → read_by_type model doc.control doc.segments ≡ Some read
+          → (o : Option Master) → master_read model doc.control read ≡ o → IsShortBatch most (option_map_or (with_rows model system before batch) o batch)
+      of_master read found None made = is
+      of_master read found (Some master) made =
+          with_rows-short system before batch master (omega (arith, read-short doc read master found made, short)) is
 
-      of_message : (o : Option ℕ) → IsShortBatch most (option_map_or (with_rows model system before batch) (option_and_then (read_as model doc) o) batch)
-      of_message None = is
-      of_message (Some message) = of_read message (read_as model doc message) refl
+      of_reading : (o : Option ReadDocument) → read_by_type model doc.control doc.segments ≡ o
+          → IsShortBatch most (option_map_or (with_rows model system before batch) (option_and_then (master_read model doc.control) o) batch)
+      of_reading None found = is
+      of_reading (Some read) found = of_master read found (master_read model doc.control read) refl
 
   masters-short : (system before : ℕ) (batch : Batch) (docs : List RawUnitDoc) → AllByRecursion (IsShort most) docs → IsShortBatch most batch
       → IsShortBatch most (fold (with_master model system before) batch docs)

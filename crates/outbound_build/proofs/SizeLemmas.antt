@@ -1,29 +1,16 @@
 -- What is sent of a master has no more segments than it.
-use Rattle.std.specs.Prelude.{nat_eq, slice_get, map, option_and_then, if◌then◌else◌}
-use Rattle.std.specs.List.{AllByRecursion, IsDistinct}
-use Rattle.std.specs.Option.{option_map_or}
-use Rattle.std.proofs.Common.{◌≡◌, ℕ, ◌<◌, ◌≤◌, Bool, true, false, Option, Some, None, Ok, List, [], ◌∷◌, length, refl, ap, sym, ◌∙◌, subst, arith}
+use Rattle.std.specs.Prelude.{option_and_then, if◌then◌else◌}
+use Rattle.std.proofs.Common.{◌≡◌, ℕ, ◌≤◌, Bool, true, false, Option, Some, None, List, [], ◌∷◌, length, map, ap, ◌∙◌, subst, arith}
 use Rattle.std.proofs.Common.{length-append}
 use Rattle.std.proofs.lemmas.List.{length-map}
-use Rattle.ale_base.proofs.ListLemmas.{AllByRecursion-at, AllByRecursion-weaker}
-use Rattle.idoc_record.specs.Data.{DataRecord}
-use Rattle.segment_defs.specs.declared.definitions.Definitions.{Definitions}
-use Rattle.segment_defs.specs.declared.idoc_type.IdocType.{IdocType}
 use Rattle.segment_defs.specs.declared.idoc_type.TypePlace.{TypePlace}
-use Rattle.segment_defs.specs.IdocType.{IsEntry, IsIdocType}
 use Rattle.dist_model.specs.declared.lists.Lists.{Lists}
-use Rattle.dist_model.specs.declared.message.Message.{Message}
 use Rattle.dist_model.specs.declared.outbound.Outbound.{Outbound}
 use Rattle.dist_model.specs.declared.row.Group.{Group}
-use Rattle.dist_model.specs.Message.{entries_at, message_entries}
-use Rattle.dist_model.specs.Model.{IsModel, outbound_of}
+use Rattle.dist_model.specs.Model.{outbound_of}
 use Rattle.dist_model.specs.Outbound.{drops, removes}
-use Rattle.idoc_tree.specs.Builds.{Builds}
-use Rattle.idoc_tree.specs.Spells.{segment_of}
 use Rattle.idoc_tree.specs.Forest.{Segment, Forest, no_trees, tree, map_nodes, preorder, without}
-use Rattle.idoc_tree.specs.FromRecords.{built}
 use Rattle.idoc_tree.specs.Parts.{SegmentSet, none, takes, leaves, part}
-use Rattle.idoc_tree.proofs.BuildsLemmas.{built-Builds}
 use Rattle.idoc_tree.proofs.ForestLemmas.{preorder-map_nodes}
 use Rattle.filter_objects.specs.FromLeaves.{kept_part, needs, passes, united}
 use Rattle.version_reduce.specs.Removed.{removed}
@@ -32,7 +19,7 @@ use Rattle.version_reduce.specs.Converted.{converted, converted_segment}
 use Rattle.version_reduce.specs.Released.{released_segment}
 use Rattle.filter_objects.specs.Passing.{groups_of}
 use Rattle.outbound_build.specs.Document.{Document}
-use Rattle.outbound_build.specs.Sent.{adapted, kept_by, made_of, sent, sent_by}
+use Rattle.outbound_build.specs.Sent.{adapted, entries_of, kept_by, made_of, sent, sent_by}
 
 -- how many segments a forest has
 abbrev pub size : Forest → ℕ
@@ -98,44 +85,8 @@ size-sent model row number master document is = by_profile (outbound_of model ro
     by_profile : (o : Option Outbound) → option_and_then (sent_by model row number master) o ≡ Some document → size document.forest ≤ size master.forest
     by_profile None is = absurd (cc)
     by_profile (Some profile) is =
-        let entries = message_entries model.types model.messages profile.message in
-        omega (arith, made profile (kept_by model row profile.message master.forest) is, size-kept model entries (groups_of model row) master.forest)
-
--- the entries of the IDoc type of a message are of segment types of the model, each of another
-record AreEntries (definitions : Definitions) (entries : List TypePlace) : Type 0 where
-  pub apart : IsDistinct nat_eq (map (λ entry. entry.segment) entries)
-  pub known : AllByRecursion (λ entry. entry.segment < length definitions.types) entries
-
-no-entries : (definitions : Definitions) → AreEntries definitions []
-unfolding IsDistinct
-no-entries definitions = record { apart = tt; known = tt }
-
-entries-are : (model : Lists) (message : ℕ) → IsModel model → AreEntries model.definitions (message_entries model.types model.messages message)
-entries-are model message is = of_message (slice_get model.messages message)
-  where
-    of_type : (place : ℕ) (o : Option IdocType) → slice_get model.types place ≡ o
-        → AreEntries model.definitions (option_map_or (λ (type : IdocType). type.segments) o [])
-    of_type place None here = no-entries model.definitions
-    of_type place (Some type) here =
-        let kept = AllByRecursion-at (IsIdocType model.definitions) model.types place type is.types.each here in
-        record {
-          apart = kept.apart;
-          known =
-              AllByRecursion-weaker (IsEntry model.definitions) (λ entry. entry.segment < length model.definitions.types) type.segments
-              (λ entry e. e.known) kept.each;
-        }
-
-    of_message : (o : Option Message) → AreEntries model.definitions (option_map_or (λ (m : Message). entries_at model.types m.idoctype) o [])
-    of_message None = no-entries model.definitions
-    of_message (Some m) = of_type m.idoctype (slice_get model.types m.idoctype) refl
-
--- what records build has as many segments as there are records
-pub size-built : (model : Lists) (message : ℕ) (lines : List DataRecord) (forest : Forest) → IsModel model
-    → built model.definitions (message_entries model.types model.messages message) lines ≡ Ok forest → size forest ≡ length lines
-size-built model message lines forest is made =
-    let entries = message_entries model.types model.messages message in
-    let are = entries-are model message is in
-    let builds : Builds model.definitions entries lines (Ok forest)
-    = subst (Builds model.definitions entries lines) made (built-Builds model.definitions entries are.apart are.known lines) in
-    sym (length-map (preorder forest) Some) ∙ ap (λ (os : List (Option Segment)). length os) (sym builds.0.segments)
-    ∙ length-map lines (segment_of model.definitions)
+        omega (
+          arith,
+          made profile (kept_by model row master) is,
+          size-kept model (entries_of model row master.control) (groups_of model row) master.forest,
+        )

@@ -7,15 +7,15 @@ use Rattle.std.specs.Option.{option_map_or}
 use Rattle.ale_base.specs.Text.{is_text}
 use Rattle.ale_base.specs.declared.doc_num.DocNum.{DocNum}
 use Rattle.ale_base.specs.declared.queue_name.NameFault.{NameFault}
-use Rattle.idoc_record.specs.declared.control_field.ControlField.TheVariants.{Idoctyp, Mestyp}
+use Rattle.idoc_record.specs.declared.control_field.ControlField.TheVariants.{Idoctyp}
 use Rattle.idoc_record.specs.Control.{field_of}
 use Rattle.dist_model.specs.declared.lists.Lists.{Lists}
 use Rattle.dist_model.specs.declared.outbound.Outbound.{Outbound}
-use Rattle.dist_model.specs.Message.{message_entries}
-use Rattle.dist_model.specs.Model.{message_named, outbound_of, places_from, receivers_of}
+use Rattle.dist_model.specs.Model.{outbound_of, places_from, receivers_of}
+use Rattle.dist_model.specs.Named.{idoc_type_name_of}
 use Rattle.idoc_tree.specs.declared.fault.SyntaxFault.{SyntaxFault}
 use Rattle.idoc_tree.specs.Forest.{Forest}
-use Rattle.idoc_tree.specs.FromRecords.{built}
+use Rattle.idoc_reading.specs.Reading.{ReadDocument, read_by_type}
 use Rattle.unit_core.specs.declared.raw_unit_doc.RawUnitDoc.{RawUnitDoc}
 use Rattle.unit_core.specs.declared.records.Record.{Record}
 use Rattle.unit_core.specs.declared.records.Record.TheVariants.{Commit, Dispatch}
@@ -30,7 +30,6 @@ use Rattle.outbound_build.specs.declared.batch.Batch.{Batch}
 use Rattle.outbound_build.specs.declared.parcel.Parcel.{Parcel}
 use Rattle.outbound_build.specs.declared.queue_lists.QueueLists.{QueueLists}
 use Rattle.outbound_build.specs.Document.{Document, carried}
-use Rattle.outbound_build.specs.ControlRecord.{type_name}
 use Rattle.outbound_build.specs.QueueNames.{named_once, queues_by}
 use Rattle.outbound_build.specs.Sent.{sent}
 
@@ -48,17 +47,14 @@ built_master message control (Err fault) = None
 abbrev pub may_be_of : List ℕ → List ℕ → Bool
 may_be_of control name = is_text (field_of control Idoctyp) [] || is_text (field_of control Idoctyp) name
 
--- a document as a master of a message type, by the IDoc type of that
-abbrev pub read_as : Lists → RawUnitDoc → ℕ → Option Master
-read_as model doc message =
-    if may_be_of doc.control (type_name model message)
-    then built_master message doc.control (built model.definitions (message_entries model.types model.messages message) doc.segments)
-    else None
+-- what was read of a document with this control record, as a master: IDOCTYP does not contradict the IDoc type of the message type
+abbrev pub master_read : Lists → List ℕ → ReadDocument → Option Master
+master_read model control read =
+    if may_be_of control (idoc_type_name_of model read.message) then built_master read.message control read.made else None
 
--- A document as a master: MESTYP stands for its message type, whose IDoc type IDOCTYP does not contradict, and by which
--- its data records make a forest. None where it is not read so.
+-- A document as a master: it is read by its message type, and IDOCTYP does not contradict that. None where it is not read so.
 abbrev pub master_of : Lists → RawUnitDoc → Option Master
-master_of model doc = option_and_then (read_as model doc) (message_named (field_of doc.control Mestyp) model)
+master_of model doc = option_and_then (master_read model doc.control) (read_by_type model doc.control doc.segments)
 
 -- a parcel of one profile: a unit that has no number yet
 abbrev pub parcel_of : Outbound → QueueLists → List DocNum → List RawUnitDoc → Parcel

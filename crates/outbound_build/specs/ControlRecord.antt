@@ -1,6 +1,6 @@
 -- The control record of what is sent. The layout is SAP's (SAP Library, IDoc interface, control record); which fields are
 -- set, and to what, is this project's own.
-use Rattle.std.specs.Prelude.{◌≡◌, ℕ, ◌+◌, ◌-◌, List, [], ◌∷◌, All, Option, option_and_then, slice_get, codes}
+use Rattle.std.specs.Prelude.{◌≡◌, ℕ, ◌+◌, List, [], ◌∷◌, All, codes}
 use Rattle.std.specs.Option.{option_map_or}
 use Rattle.idoc_record.specs.declared.control_field.ControlField.{ControlField}
 use Rattle.idoc_record.specs.declared.control_field.ControlField.TheVariants.{Tabnam, Mandt, Docnum, Status, Direct, Outmod, Idoctyp, Mestyp, Mescod, Mesfct}
@@ -11,32 +11,11 @@ use Rattle.idoc_record.specs.Control.{field_of}
 use Rattle.idoc_record.specs.Digits.{decimal_digits}
 use Rattle.dist_model.specs.declared.lists.Lists.{Lists}
 use Rattle.dist_model.specs.declared.outbound.Outbound.{Outbound}
-use Rattle.dist_model.specs.declared.system.System.{System}
-
--- the system of a number, counted from 1
-abbrev pub system_at : Lists → ℕ → Option System
-system_at model number = slice_get model.systems (number - 1)
+use Rattle.dist_model.specs.Named.{idoc_type_name_of, message_name, reduced_name, system_at, system_name}
 
 -- the client of a system
 abbrev pub client_of : Lists → ℕ → List ℕ
 client_of model number = option_map_or (λ system. system.client) (system_at model number) []
-
--- the name of a system
-abbrev pub system_name : Lists → ℕ → List ℕ
-system_name model number = option_map_or (λ system. system.name) (system_at model number) []
-
--- the name of the IDoc type of a message type
-abbrev pub type_name : Lists → ℕ → List ℕ
-type_name model message =
-    option_map_or (λ type. type.name) (option_and_then (λ is. slice_get model.types is.idoctype) (slice_get model.messages message)) []
-
--- the name of a message type
-abbrev pub message_name : Lists → ℕ → List ℕ
-message_name model message = option_map_or (λ is. is.name) (slice_get model.messages message) []
-
--- the name of a reduced message type
-abbrev pub reduced_name : Lists → ℕ → List ℕ
-reduced_name model reduced = option_map_or (λ one. one.name) (slice_get model.reduced reduced) []
 
 -- the name of what a profile sends: that of its reduced message type where it has one, and else that of its message type
 abbrev pub sent_name : Lists → Outbound → List ℕ
@@ -50,7 +29,7 @@ control_text model profile number master Docnum = decimal_digits 16 number
 control_text model profile number master Status = codes "30"
 control_text model profile number master Direct = codes "1"
 control_text model profile number master Outmod = (48 + profile.outmod) ∷ []
-control_text model profile number master Idoctyp = type_name model profile.message
+control_text model profile number master Idoctyp = idoc_type_name_of model profile.message
 control_text model profile number master Mestyp = sent_name model profile
 control_text model profile number master Mescod = field_of master Mescod
 control_text model profile number master Mesfct = field_of master Mesfct

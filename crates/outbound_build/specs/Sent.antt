@@ -3,10 +3,10 @@
 use Rattle.std.specs.Prelude.{◌≡◌, ℕ, List, Option, Some, None, option_and_then, slice_get}
 use Rattle.std.specs.Option.{option_map_or}
 use Rattle.idoc_record.specs.Control.{control_with}
+use Rattle.segment_defs.specs.declared.idoc_type.TypePlace.{TypePlace}
 use Rattle.dist_model.specs.declared.lists.Lists.{Lists}
 use Rattle.dist_model.specs.declared.outbound.Outbound.{Outbound}
-use Rattle.dist_model.specs.Message.{message_entries}
-use Rattle.dist_model.specs.Model.{outbound_of}
+use Rattle.dist_model.specs.Model.{entries_for, outbound_of}
 use Rattle.idoc_tree.specs.Forest.{Forest, no_trees, tree}
 use Rattle.filter_objects.specs.Passing.{groups_of}
 use Rattle.filter_objects.specs.Kept.{IsKeptPart}
@@ -32,27 +32,30 @@ made_of model profile number control (tree root below after) =
       forest = adapted model profile (tree root below after);
     })
 
--- what the groups of a row keep of a forest, by the IDoc type of a message type
-abbrev pub kept_by : Lists → ℕ → ℕ → Forest → Forest
-kept_by model row message forest = kept_part model (message_entries model.types model.messages message) (groups_of model row) forest
+-- the message type of a row of the model
+abbrev pub message_of : Lists → ℕ → ℕ
+message_of model row = option_map_or (λ is. is.message) (slice_get model.rows row) 0
+
+-- the entries by which a master with this control record is read that a row sends
+abbrev pub entries_of : Lists → ℕ → List ℕ → List TypePlace
+entries_of model row control = entries_for model (message_of model row) control
+
+-- what the groups of a row keep of a master
+abbrev pub kept_by : Lists → ℕ → Document → Forest
+kept_by model row master = kept_part model (entries_of model row master.control) (groups_of model row) master.forest
 
 -- what is sent by a row and its profile
 abbrev pub sent_by : Lists → ℕ → ℕ → Document → Outbound → Option Document
-sent_by model row number master profile =
-    made_of model profile number master.control (kept_by model row profile.message master.forest)
+sent_by model row number master profile = made_of model profile number master.control (kept_by model row master)
 
 -- what is sent of a master by a row of the model, as the document of this number; none where nothing of it is kept
 abbrev pub sent : Lists → ℕ → ℕ → Document → Option Document
 sent model row number master = option_and_then (sent_by model row number master) (outbound_of model row)
 
--- the message type of a row of the model
-abbrev pub message_of : Lists → ℕ → ℕ
-message_of model row = option_map_or (λ is. is.message) (slice_get model.rows row) 0
-
 -- a forest is what the profile of a row makes of a part of a master that the groups of the row keep
-pub record IsAdaptedPart (model : Lists) (row : ℕ) (master forest : Forest) : Type 0 where
+pub record IsAdaptedPart (model : Lists) (row : ℕ) (master : Document) (forest : Forest) : Type 0 where
   pub kept : Forest
   pub profile : Outbound
-  pub part : IsKeptPart model (message_entries model.types model.messages (message_of model row)) (groups_of model row) master kept
+  pub part : IsKeptPart model (entries_of model row master.control) (groups_of model row) master.forest kept
   pub of_row : outbound_of model row ≡ Some profile
   pub makes : forest ≡ adapted model profile kept

@@ -6,8 +6,8 @@ ghost use Rattle.idoc_tree.specs.Forest.{AllNodes};
 ghost use Rattle.idoc_tree.specs.Lines.{IsNode};
 ghost use Rattle.idoc_tree.specs.Nodes.{forest_of};
 ghost use Rattle.segment_defs.specs.Definitions.{AreDefinitions};
-ghost use Rattle.version_reduce.specs.Document.{IsOfMessage};
-ghost use Rattle.outbound_build.specs.Sent.{message_of};
+ghost use Rattle.idoc_reading.specs.Document.{IsOfEntries};
+ghost use Rattle.outbound_build.specs.Sent.{entries_of};
 ghost use Rattle.outbound_build.specs.Document.{carried, document_of};
 ghost use Rattle.outbound_build.specs.Added.{parcel_of, sent_of, with_document, with_master, with_row, with_rows, with_sent, with_unit};
 ghost use Rattle.outbound_build.specs.declared.added.Fate.TheVariants.{Sent};
@@ -101,7 +101,7 @@ fn add_row(
     batch: &mut Batch,
 ) -> Result<(), OutOfMemory>
     requires row { row < length model.now.rows }
-    requires of_message { IsOfMessage model.now (message_of model.now row) (forest_of master.now.forest.items) }
+    requires of_entries { IsOfEntries model.now.definitions (entries_of model.now row master.now.control) (forest_of master.now.forest.items) }
     ensures { OnOk result (batch.new ≡ with_row model.now before (document_of master.now) batch.old row) }
 {
     let number = next_number(before, batch.documents.len())?;

@@ -5,11 +5,11 @@ ghost use Rattle.idoc_record.specs.Control.{control_with};
 ghost use Rattle.idoc_record.specs.Digits.{decimal_digits};
 ghost use Rattle.dist_model.specs.Model.{IsModel};
 ghost use Rattle.outbound_build.specs.steps.Texts.{written_all};
-ghost use Rattle.outbound_build.specs.ControlRecord.{HasBlanks, control_text, reduced_name, message_name, sent_name, system_at};
+ghost use Rattle.dist_model.specs.Named.{system_at};
+ghost use Rattle.outbound_build.specs.ControlRecord.{HasBlanks, control_text, sent_name};
 
-use crate::types::type_of;
 use ale_base::{DocNum, SystemNo};
-use dist_model::{Lists, MessageNo, Outbound, System};
+use dist_model::{Lists, Outbound, System, idoc_type_name_of, message_name, reduced_name};
 use idoc_record::{Control, ControlField};
 
 /// The control record of a document of this number that a profile of a model makes of a master with this control record.
@@ -77,7 +77,7 @@ fn text_of<'a>(
         ControlField::Status => b"30",
         ControlField::Direct => b"1",
         ControlField::Outmod => mode,
-        ControlField::Idoctyp => type_of(lists, profile.message).name.as_slice(),
+        ControlField::Idoctyp => idoc_type_name_of(lists, profile.message),
         ControlField::Mestyp => sent_name(lists, profile),
         ControlField::Sndprt | ControlField::Rcvprt => b"LS",
         ControlField::Sndprn => system_at(lists, profile.sender).name.as_slice(),
@@ -111,27 +111,6 @@ fn sent_name<'a>(lists: &'a Lists, profile: &Outbound) -> &'a [u8]
     match profile.reduced {
         Some(place) => reduced_name(lists, place),
         None => message_name(lists, profile.message),
-    }
-}
-
-/// The name of a reduced message type.
-fn reduced_name(lists: &Lists, place: u16) -> &[u8]
-    ensures { result.now ≡ reduced_name lists.now place }
-{
-    match lists.reduced.get(usize::from(place)) {
-        Some(one) => one.name.as_slice(),
-        None => b"",
-    }
-}
-
-/// The name of a message type.
-fn message_name(lists: &Lists, message: MessageNo) -> &[u8]
-    ensures { result.now ≡ message_name lists.now message }
-{
-    let number = message.0;
-    match lists.messages.get(usize::from(number)) {
-        Some(is) => is.name.as_slice(),
-        None => b"",
     }
 }
 

@@ -27,7 +27,6 @@ mod packets;
 mod parcel;
 mod queue_lists;
 mod sending;
-mod types;
 
 pub use added::{Added, Fate, OutDocument, OutUnit, Waiting};
 pub use committing::committed;
@@ -37,4 +36,3 @@ pub use outbound_tables::OutboundTables;
 pub use outbox::Outbox;
 pub use queue_lists::{QueueLists, queues};
 pub use sending::sent;
-pub use types::type_of;

@@ -1,19 +1,16 @@
 //! Masters of a Commit: documents that are read by the IDoc types of their message types.
 
-ghost use Rattle.std.specs.Prelude.{◌≡◌, ◌<◌, IfOk, IfSome, length};
+ghost use Rattle.std.specs.Prelude.{◌≡◌, IfOk, IfSome, Ok};
 ghost use Rattle.std.specs.Option.{option_map};
-ghost use Rattle.dist_model.specs.Model.{IsModel};
-ghost use Rattle.idoc_tree.specs.Forest.{AllNodes};
-ghost use Rattle.idoc_tree.specs.Lines.{IsNode};
 ghost use Rattle.idoc_tree.specs.Nodes.{forest_of};
-ghost use Rattle.outbound_build.specs.Added.{master_of, may_be_of, read_as};
+ghost use Rattle.outbound_build.specs.Added.{master_of, master_read, may_be_of};
 ghost use Rattle.outbound_build.specs.steps.Reading.{IsRead, master_in};
 
-use crate::types::type_of;
 use ale_base::OutOfMemory;
-use dist_model::{Lists, MessageNo, Model};
+use dist_model::{Lists, MessageNo, Model, idoc_type_name_of};
+use idoc_reading::{Reading, read_by_type};
 use idoc_record::{Control, ControlField};
-use idoc_tree::{Doc, SyntaxFault, build};
+use idoc_tree::Doc;
 use std::alloc::Global;
 use unit_core::RawUnitDoc;
 
@@ -26,7 +23,7 @@ pub(crate) struct MasterDoc {
     pub(crate) doc: Doc,
 }
 
-/// A document as a master. None where it is not read by the IDoc type of its message type.
+/// A document as a master. None where it is not read by its message type, or IDOCTYP names another IDoc type.
 pub(crate) fn master_of(
     alloc: Global,
     model: &Model,
@@ -35,40 +32,23 @@ pub(crate) fn master_of(
     ensures read { IfOk result (λ found. option_map master_in found ≡ master_of model.now doc.now) }
     ensures kept { IfOk result (λ found. IfSome found (IsRead model.now)) }
 {
-    match model.message(doc.text(ControlField::Mestyp)) {
-        None => Ok(None),
-        Some(message) => read_as(alloc, model.as_lists(), doc, message),
+    let reading = read_by_type(alloc, model, &doc.control, doc.segments.as_slice())?;
+    match reading {
+        Reading::Read(message, doc) => Ok(master_read(model.as_lists(), message, doc)),
+        _ => Ok(None),
     }
 }
 
-/// A document as a master of a message type.
-fn read_as(
-    alloc: Global,
-    lists: &Lists,
-    doc: &RawUnitDoc,
-    message: MessageNo,
-) -> Result<Option<MasterDoc>, OutOfMemory>
-    requires kept { IsModel lists.now }
-    requires known { message < length lists.now.messages }
-    ensures read { IfOk result (λ found. option_map master_in found ≡ read_as lists.now doc.now message) }
-    ensures kept { IfOk result (λ found. IfSome found (IsRead lists.now)) }
+/// A document that was read by a message type, as a master.
+fn master_read(lists: &Lists, message: MessageNo, doc: Doc) -> Option<MasterDoc>
+    ensures read { option_map master_in result
+        ≡ master_read lists.now doc.control (record { message = message; made = Ok (forest_of doc.forest.items) }) }
+    ensures same { IfSome result (λ master. (master.message ≡ message) × (master.doc ≡ doc)) }
 {
-    let ty = type_of(lists, message);
-    if !may_be_of(&doc.control, ty.name.as_slice()) {
-        return Ok(None);
+    if may_be_of(&doc.control, idoc_type_name_of(lists, message)) {
+        return Some(MasterDoc { message, doc });
     }
-    let control = Control::clone(&doc.control)?;
-    match build(
-        alloc,
-        &lists.definitions,
-        ty,
-        control,
-        doc.segments.as_slice(),
-    ) {
-        Ok(doc) => Ok(Some(MasterDoc { message, doc })),
-        Err(SyntaxFault::OutOfMemory) => Err(OutOfMemory),
-        Err(_) => Ok(None),
-    }
+    None
 }
 
 /// Whether a document with this control record may be one of the IDoc type of a name: IDOCTYP is blank or names it. It takes no

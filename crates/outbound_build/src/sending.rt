@@ -1,24 +1,25 @@
 //! What is sent of a master to one receiver.
 
-ghost use Rattle.std.specs.Prelude.{◌≡◌, ◌<◌, ◌↔◌, ◌⊎◌, None, Some, Contains, IfOk, IfSome, length};
+ghost use Rattle.std.specs.Prelude.{◌≡◌, ◌<◌, ◌↔◌, ◌⊎◌, List, None, Some, Contains, IfOk, IfSome, length};
+ghost use Rattle.segment_defs.specs.declared.idoc_type.TypePlace.{TypePlace};
 ghost use Rattle.std.specs.Option.{option_map};
-ghost use Rattle.dist_model.specs.Message.{message_entries};
 ghost use Rattle.dist_model.specs.Model.{outbound_of};
+ghost use Rattle.dist_model.specs.Outbound.{LeavesWhole};
 ghost use Rattle.idoc_tree.specs.Forest.{AllNodes, no_trees};
 ghost use Rattle.idoc_tree.specs.Lines.{IsNode, IsFitted};
 ghost use Rattle.idoc_tree.specs.Nodes.{forest_of};
 ghost use Rattle.filter_objects.specs.Kept.{IsKeptPart};
 ghost use Rattle.filter_objects.specs.Passing.{groups_of};
-ghost use Rattle.version_reduce.specs.Document.{IsOfMessage};
+ghost use Rattle.idoc_reading.specs.Document.{AreEntries, IsOfEntries};
 ghost use Rattle.outbound_build.specs.ControlRecord.{HasBlanks};
 ghost use Rattle.outbound_build.specs.Document.{document_of};
-ghost use Rattle.outbound_build.specs.Sent.{IsAdaptedPart, adapted, kept_by, made_of, message_of, sent};
+ghost use Rattle.outbound_build.specs.Sent.{IsAdaptedPart, adapted, entries_of, kept_by, made_of, sent};
 
 use crate::control_record::control_of;
-use crate::types::type_of;
 use ale_base::{DocNum, OutOfMemory};
 use dist_model::{Model, Outbound, RowNo};
 use filter_objects::keep;
+use idoc_reading::type_for;
 use idoc_record::Control;
 use idoc_tree::{Doc, Node};
 use std::alloc::Global;
@@ -40,38 +41,42 @@ pub fn sent(
     requires row { row < length model.now.rows }
     requires nodes { AllNodes (IsNode model.now.definitions) (forest_of master.now.forest.items) }
     ensures document { IfOk result (λ made. option_map document_of made ≡ sent model.now row number.0 (document_of master.now)) }
-    // A document of the row's message type makes one of it.
-    ensures of_message { IsOfMessage model.now (message_of model.now row) (forest_of master.now.forest.items)
-        → IfOk result (λ made. IfSome made (λ doc. IsOfMessage model.now (message_of model.now row) (forest_of doc.forest.items))) }
+    // A master that is read by the row's message type makes a document by the same entries.
+    ensures of_entries { IsOfEntries model.now.definitions (entries_of model.now row master.now.control) (forest_of master.now.forest.items)
+        → IfOk result (λ made. IfSome made (λ doc.
+        IsOfEntries model.now.definitions (entries_of model.now row master.now.control) (forest_of doc.forest.items))) }
     ensures kept { IfOk result (λ made. (made ≡ None)
-        ↔ IsKeptPart model.now (message_entries model.now.types model.now.messages (message_of model.now row))
+        ↔ IsKeptPart model.now (entries_of model.now row master.now.control)
         (groups_of model.now row) (forest_of master.now.forest.items) no_trees) }
-    ensures part { IfOk result (λ made. IfSome made (λ doc. IsAdaptedPart model.now row (forest_of master.now.forest.items) (forest_of doc.forest.items))) }
+    ensures part { IfOk result (λ made. IfSome made (λ doc. IsAdaptedPart model.now row (document_of master.now) (forest_of doc.forest.items))) }
     ensures blank { IfOk result (λ made. IfSome made (λ doc. HasBlanks doc.control)) }
 {
+    // The rules of a model say that nothing mandatory goes below what stays.
+    let _rules = model.as_lists();
     let profile = model.outbound(row);
-    let kept = kept_by(alloc, model, row, profile, master.forest.as_slice())?;
+    let kept = kept_by(alloc, model, row, profile, master)?;
     let made = made_of(alloc, model, profile, number, &master.control, kept)?;
     Ok(made)
 }
 
-/// What the groups of a row keep of the nodes of a document, by the IDoc type of the profile's message type.
+/// What the groups of a row keep of a master, by the IDoc type by which that is read.
 fn kept_by(
     alloc: Global,
     model: &Model,
     row: RowNo,
     profile: &Outbound,
-    forest: &[Node],
+    master: &Doc,
 ) -> Result<Vec<Node>, OutOfMemory>
     requires row { row < length model.now.rows }
     requires profile { outbound_of model.now row ≡ Some profile.now }
-    requires nodes { AllNodes (IsNode model.now.definitions) (forest_of forest.now) }
-    ensures part { IfOk result (λ kept. forest_of kept.items ≡ kept_by model.now row profile.now.message (forest_of forest.now)) }
-    ensures of_message { IsOfMessage model.now profile.now.message (forest_of forest.now)
-        → IfOk result (λ kept. (forest_of kept.items ≡ no_trees) ⊎ IsOfMessage model.now profile.now.message (forest_of kept.items)) }
+    requires nodes { AllNodes (IsNode model.now.definitions) (forest_of master.now.forest.items) }
+    ensures part { IfOk result (λ kept. forest_of kept.items ≡ kept_by model.now row (document_of master.now)) }
+    ensures of_entries { IsOfEntries model.now.definitions (entries_of model.now row master.now.control) (forest_of master.now.forest.items)
+        → IfOk result (λ kept. (forest_of kept.items ≡ no_trees)
+        ⊎ IsOfEntries model.now.definitions (entries_of model.now row master.now.control) (forest_of kept.items)) }
 {
-    let ty = type_of(model.as_lists(), profile.message);
-    let kept = keep(alloc, model, row, ty, forest)?;
+    let ty = type_for(model.as_lists(), profile.message, &master.control);
+    let kept = keep(alloc, model, row, ty, master.forest.as_slice())?;
     Ok(kept)
 }
 
@@ -87,8 +92,9 @@ fn made_of(
     requires { Contains model.now.outbound profile.now }
     ensures document { IfOk result (λ made. option_map document_of made
         ≡ made_of model.now profile.now number.0 control.now (forest_of kept.items)) }
-    ensures of_message { (forest_of kept.items ≡ no_trees) ⊎ IsOfMessage model.now profile.now.message (forest_of kept.items)
-        → IfOk result (λ made. IfSome made (λ doc. IsOfMessage model.now profile.now.message (forest_of doc.forest.items))) }
+    ensures of_entries { (entries : List TypePlace) → AreEntries model.now.definitions entries → LeavesWhole model.now.definitions profile.now entries
+        → (forest_of kept.items ≡ no_trees) ⊎ IsOfEntries model.now.definitions entries (forest_of kept.items)
+        → IfOk result (λ made. IfSome made (λ doc. IsOfEntries model.now.definitions entries (forest_of doc.forest.items))) }
     ensures blank { IfOk result (λ made. IfSome made (λ doc. HasBlanks doc.control)) }
 {
     if kept.is_empty() {
@@ -108,8 +114,9 @@ fn adapted(
 ) -> Result<Vec<Node>, OutOfMemory>
     requires { Contains model.now.outbound profile.now }
     ensures map { IfOk result (λ left. forest_of left.items ≡ adapted model.now profile.now (forest_of forest.items)) }
-    ensures of_message { IsOfMessage model.now profile.now.message (forest_of forest.items)
-        → IfOk result (λ left. IsOfMessage model.now profile.now.message (forest_of left.items)) }
+    ensures of_entries { (entries : List TypePlace) → AreEntries model.now.definitions entries → LeavesWhole model.now.definitions profile.now entries
+        → IsOfEntries model.now.definitions entries (forest_of forest.items)
+        → IfOk result (λ left. IsOfEntries model.now.definitions entries (forest_of left.items)) }
 {
     let left = remove_segments(alloc, model, profile, forest)?;
     let left = reduce_message(alloc, model, profile, left)?;

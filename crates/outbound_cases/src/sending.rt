@@ -13,9 +13,10 @@ use ale_base::DocNum;
 use case_form::{LineEnd, Text, number_of};
 use dist_model::{Lists, Model, RowNo};
 use filter_objects::keep;
+use idoc_reading::type_for;
 use idoc_record::{Control, Data};
 use idoc_tree::{Doc, SyntaxFault, build};
-use outbound_build::{BuildFault, sent, type_of};
+use outbound_build::{BuildFault, sent};
 use segment_defs::{Definitions, IdocType};
 use std::alloc::Global;
 
@@ -31,7 +32,7 @@ pub(crate) fn master_of(
     ensures { IfOk result (λ doc. AllNodes (IsNode model.now.definitions) (forest_of doc.forest.items)) }
 {
     let lists = model.as_lists();
-    let ty = type_of_row(lists, row)?;
+    let ty = type_of_row(lists, row, &control)?;
     match build(alloc, &lists.definitions, ty, control, records) {
         Ok(doc) => Ok(doc),
         Err(SyntaxFault::OutOfMemory) => Err(LineEnd::OutOfMemory),
@@ -51,7 +52,7 @@ pub(crate) fn keeps(
     requires nodes { AllNodes (IsNode model.now.definitions) (forest_of master.now.forest.items) }
 {
     let lists = model.as_lists();
-    let ty = type_of_row(lists, row)?;
+    let ty = type_of_row(lists, row, &master.control)?;
     let kept = keep(alloc, model, row, ty, master.forest.as_slice())?;
     nodes_text(alloc, &lists.definitions, kept.as_slice())
 }
@@ -117,8 +118,8 @@ pub(crate) fn queues(
     }
 }
 
-/// The IDoc type of the message type of a row.
-fn type_of_row(lists: &Lists, row: RowNo) -> Result<&IdocType, LineEnd>
+/// The IDoc type by which a master with this control record is read that a row sends.
+fn type_of_row<'l>(lists: &'l Lists, row: RowNo, control: &Control) -> Result<&'l IdocType, LineEnd>
     requires model { IsModel lists.now }
     requires row { row < length lists.now.rows }
     ensures { IfOk result (λ ty. IsIdocType lists.now.definitions ty.now) }
@@ -129,5 +130,5 @@ fn type_of_row(lists: &Lists, row: RowNo) -> Result<&IdocType, LineEnd>
     if usize::from(place) >= lists.messages.len() {
         return Err(NO_SUCH_NUMBER.into());
     }
-    Ok(type_of(lists, message))
+    Ok(type_for(lists, message, control))
 }

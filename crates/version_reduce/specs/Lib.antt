@@ -5,8 +5,6 @@ pub mod Removed
 pub mod Reduced
 pub mod Converted
 pub mod Released
--- what each of them keeps
-pub mod Document
 -- what they say of the fields of one segment
 pub mod Texts
 -- copies of steps

@@ -1,11 +1,12 @@
 //! Reduced messages.
 
-ghost use Rattle.std.specs.Prelude.{◌≡◌, false, IfOk, if◌then◌else◌};
+ghost use Rattle.std.specs.Prelude.{◌≡◌, false, IfOk, if◌then◌else◌, List};
+ghost use Rattle.segment_defs.specs.declared.idoc_type.TypePlace.{TypePlace};
 ghost use Rattle.segment_defs.specs.Version.{AreFields, data_of, field_text, text_in};
 ghost use Rattle.dist_model.specs.Outbound.{removes};
 ghost use Rattle.idoc_tree.specs.Forest.{AllNodes};
 ghost use Rattle.idoc_tree.specs.Nodes.{forest_of};
-ghost use Rattle.version_reduce.specs.Document.{IsOfMessage};
+ghost use Rattle.idoc_reading.specs.Document.{IsOfEntries};
 ghost use Rattle.version_reduce.specs.Reduced.{IsReducedFrom, are_of, is_kept, kept_fields, no_data, reduced};
 
 use crate::head::Head;
@@ -30,8 +31,9 @@ pub fn reduce_message(
     ensures each { IfOk result (λ sent. IsReducedFrom model.now profile.now (forest_of forest.items) (forest_of sent.items)) }
     ensures gone { AllNodes (λ segment. removes profile.now segment.type ≡ false) (forest_of forest.items)
         → IfOk result (λ sent. AllNodes (λ segment. removes profile.now segment.type ≡ false) (forest_of sent.items)) }
-    ensures of_message { IsOfMessage model.now profile.now.message (forest_of forest.items)
-        → IfOk result (λ sent. IsOfMessage model.now profile.now.message (forest_of sent.items)) }
+    // A document by the entries of an IDoc type stays one.
+    ensures of_entries { (entries : List TypePlace) → IsOfEntries model.now.definitions entries (forest_of forest.items)
+        → IfOk result (λ sent. IsOfEntries model.now.definitions entries (forest_of sent.items)) }
 {
     let lists = model.as_lists();
     let step = Reduction {

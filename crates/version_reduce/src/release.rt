@@ -1,13 +1,14 @@
 //! The definitions that a receiver has by its release.
 
-ghost use Rattle.std.specs.Prelude.{◌≡◌, false, Contains, IfOk, is_none};
+ghost use Rattle.std.specs.Prelude.{◌≡◌, false, Contains, IfOk, is_none, List};
+ghost use Rattle.segment_defs.specs.declared.idoc_type.TypePlace.{TypePlace};
 ghost use Rattle.segment_defs.specs.Definitions.{AreDefinitions, version_of, versions_of};
 ghost use Rattle.segment_defs.specs.SegmentType.{newest_by};
-ghost use Rattle.dist_model.specs.Outbound.{removes};
+ghost use Rattle.dist_model.specs.Outbound.{LeavesWhole, removes};
 ghost use Rattle.idoc_tree.specs.Forest.{AllNodes};
 ghost use Rattle.idoc_tree.specs.Nodes.{forest_of};
 ghost use Rattle.idoc_tree.specs.Spells.{fitted_by};
-ghost use Rattle.version_reduce.specs.Document.{IsOfMessage};
+ghost use Rattle.idoc_reading.specs.Document.{AreEntries, IsOfEntries};
 ghost use Rattle.version_reduce.specs.Released.{IsByRelease, IsReleasedFrom, given_version, own_release, released, with_version};
 
 use crate::head::Head;
@@ -32,9 +33,12 @@ pub fn to_release(
     ensures map { IfOk result (λ sent. forest_of sent.items ≡ released model.now profile.now (forest_of forest.items)) }
     ensures by_release { IfOk result (λ sent. AllNodes (IsByRelease model.now.definitions profile.now.release) (forest_of sent.items)) }
     ensures each { IfOk result (λ sent. IsReleasedFrom model.now profile.now (forest_of forest.items) (forest_of sent.items)) }
-    ensures of_message { AllNodes (λ segment. removes profile.now segment.type ≡ false) (forest_of forest.items)
-        → IsOfMessage model.now profile.now.message (forest_of forest.items)
-        → IfOk result (λ sent. IsOfMessage model.now profile.now.message (forest_of sent.items)) }
+    // A document by entries that the profile leaves whole stays one, where it has none of a type that is removed.
+    ensures of_entries { (entries : List TypePlace) → AreEntries model.now.definitions entries
+        → LeavesWhole model.now.definitions profile.now entries
+        → AllNodes (λ segment. removes profile.now segment.type ≡ false) (forest_of forest.items)
+        → IsOfEntries model.now.definitions entries (forest_of forest.items)
+        → IfOk result (λ sent. IsOfEntries model.now.definitions entries (forest_of sent.items)) }
 {
     let lists = model.as_lists();
     let step = Release {

@@ -1,10 +1,11 @@
 //! The segments that a profile removes.
 
-ghost use Rattle.std.specs.Prelude.{◌≡◌, false, Contains, IfOk};
+ghost use Rattle.std.specs.Prelude.{◌≡◌, false, Contains, IfOk, List};
+ghost use Rattle.segment_defs.specs.declared.idoc_type.TypePlace.{TypePlace};
 ghost use Rattle.idoc_tree.specs.Forest.{AllNodes};
 ghost use Rattle.idoc_tree.specs.Nodes.{forest_of};
-ghost use Rattle.dist_model.specs.Outbound.{removes};
-ghost use Rattle.version_reduce.specs.Document.{IsOfMessage};
+ghost use Rattle.dist_model.specs.Outbound.{LeavesWhole, removes};
+ghost use Rattle.idoc_reading.specs.Document.{AreEntries, IsOfEntries};
 ghost use Rattle.version_reduce.specs.Removed.{LosesRemoved, removed};
 
 use crate::head::Head;
@@ -15,8 +16,7 @@ use idoc_tree::Node;
 use segment_defs::TypeNo;
 use std::alloc::Global;
 
-/// What is left of a forest where the segments of the types that a profile removes go, each with all below it. A document
-/// of the profile's message type stays one.
+/// What is left of a forest where the segments of the types that a profile removes go, each with all below it.
 pub fn remove_segments(
     alloc: Global,
     model: &Model,
@@ -28,11 +28,12 @@ pub fn remove_segments(
     ensures gone { IfOk result (λ left.
         AllNodes (λ segment. removes profile.now segment.type ≡ false) (forest_of left.items)) }
     ensures left { IfOk result (λ left. LosesRemoved profile.now (forest_of forest.items) (forest_of left.items)) }
-    ensures of_message { IsOfMessage model.now profile.now.message (forest_of forest.items)
-        → IfOk result (λ left. IsOfMessage model.now profile.now.message (forest_of left.items)) }
+    // A document by entries that the profile leaves whole stays one.
+    ensures of_entries { (entries : List TypePlace) → AreEntries model.now.definitions entries
+        → LeavesWhole model.now.definitions profile.now entries
+        → IsOfEntries model.now.definitions entries (forest_of forest.items)
+        → IfOk result (λ left. IsOfEntries model.now.definitions entries (forest_of left.items)) }
 {
-    // The rules of a model say that nothing mandatory goes below what stays.
-    let _rules = model.as_lists();
     let left = walk(alloc, &Removal { profile }, forest)?;
     Ok(left)
 }
@@ -46,7 +47,7 @@ struct Removal<'p> {
 
 impl<'p> Step for Removal<'p> {
     ghost use Rattle.std.specs.Prelude.{⊤};
-    ghost use Rattle.dist_model.specs.Outbound.{removes};
+    ghost use Rattle.dist_model.specs.Outbound.{LeavesWhole, removes};
 
     ghost IsReady = { λ removal. ⊤ };
 

@@ -8,8 +8,8 @@ use Rattle.change_pointers.specs.Master.{master_segment}
 use Rattle.change_pointers.proofs.ReadLemmas.{master-is}
 use Rattle.change_pointers.proofs.master.master_of.Goals as goal
 
-pub returns-clause-of_message : goal.returns-clause-of_message
-returns-clause-of_message c makes =
+pub returns-clause-of_entries : goal.returns-clause-of_entries
+returns-clause-of_entries c makes =
     let model = c.args.model.now in
     let key = c.args.key.now.key in
     let values = fields_of c.args.key.now.kind key c.args.objects.now in

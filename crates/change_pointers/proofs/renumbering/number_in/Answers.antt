@@ -2,7 +2,7 @@ use Rattle.std.specs.Prelude.{position}
 use Rattle.std.proofs.Common.{◌≡◌, ◌+◌, ℕ, suc, true, false, List, ◌∷◌, drop, drop-cons, add-one, ap, sym, subst, ◌∙◌}
 use Rattle.ale_base.specs.Text.{is_text}
 use Rattle.dist_model.specs.declared.message.Message.{Message}
-use Rattle.change_pointers.specs.Master.{message_name}
+use Rattle.dist_model.specs.Named.{message_name}
 use Rattle.dist_model.specs.Message.{message_names}
 use Rattle.change_pointers.proofs.RenumberLemmas.{found-here, found-behind}
 use Rattle.change_pointers.proofs.renumbering.number_in.Goals as goal

@@ -15,16 +15,16 @@ unwrap-place-requires c =
     let here : slice_get c.args.rows.now place ≡ Some row = slice_get-get_or c.args.rows.now place row c.loop-row-test.true ∙ ap Some (sym c.row-item.is) in
     let there : HasProfile c.args.profiles.now row = AllByRecursion-at (HasProfile c.args.profiles.now) c.args.rows.now place row c.requires.there here in
     let found : position (same_way (row_way row)) (outbound_ways c.args.profiles.now) ≡ c.place.result =
-    ap (λ w. position (same_way w) (outbound_ways c.args.profiles.now)) (sym c.way_of_row.ensures)
-    ∙ ap (position (same_way c.way_of_row.result)) (sym c.in_ok-ways.ensures) ∙ sym c.place.ensures.place in
+    ap (λ w. position (same_way w) (outbound_ways c.args.profiles.now)) (sym c.row_way.ensures)
+    ∙ ap (position (same_way c.row_way.result)) (sym c.in_ok-ways.ensures) ∙ sym c.place.ensures.place in
     is_some c.place.result (λ none. position-found (same_way (row_way row)) (outbound_ways c.args.profiles.now) there (found ∙ none))
 
 pub loop-row-preserved : goal.loop-row-preserved
 loop-row-preserved c =
     let row = c.row-item.result in
     let found : position (same_way (row_way row)) (outbound_ways c.args.profiles.now) ≡ c.place.result =
-    ap (λ w. position (same_way w) (outbound_ways c.args.profiles.now)) (sym c.way_of_row.ensures)
-    ∙ ap (position (same_way c.way_of_row.result)) (sym c.in_ok-ways.ensures) ∙ sym c.place.ensures.place in
+    ap (λ w. position (same_way w) (outbound_ways c.args.profiles.now)) (sym c.row_way.ensures)
+    ∙ ap (position (same_way c.row_way.result)) (sym c.in_ok-ways.ensures) ∙ sym c.place.ensures.place in
     let pushed : c.push.new.self ≡ c.loop-row.places ++ c.unwrap-place.result ∷ [] = c.in_ok-push.ensures.ok in
     rw pushed (places_more (λ (row : Row). position (same_way (row_way row)) (outbound_ways c.args.profiles.now)) c.args.rows.now c.loop-row.row-index row
     c.loop-row.places c.unwrap-place.result

@@ -20,10 +20,10 @@ returns-in-Ok g c =
     (revoked-went g.V.Volumes.disk c.args.landscape c.revoke.new.self c.world.ensures.safe c.revoke.ensures.event c.revoke.ensures.sound)
     (revoked-only g.V.Volumes.disk c.args.landscape c.revoke.new.self c.world.ensures.safe c.revoke.ensures.event c.revoke.ensures.volumes)
     (revoked-none g.V.Volumes.disk c.args.landscape c.revoke.new.self c.world.ensures.safe c.revoke.ensures.event) c.in-Ok.ensures.visited
-        c.work-drained.ensures
+    c.work-drained.ensures
 
 pub returns-in-Err : goal.returns-in-Err
 returns-in-Err g c =
     on g.V.Volumes.disk is_work false c.args.landscape c.revoke.new.self c.confirm_all.new.landscape
     (revoked-went g.V.Volumes.disk c.args.landscape c.revoke.new.self c.world.ensures.safe c.revoke.ensures.event c.revoke.ensures.sound)
-        c.in-Err.ensures.visited
+    c.in-Err.ensures.visited

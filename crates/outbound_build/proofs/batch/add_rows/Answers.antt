@@ -2,9 +2,9 @@ use Rattle.std.specs.Prelude.{slice_get}
 use Rattle.std.proofs.Common.{◌<◌, ◌≡◌, ℕ, length, Some, subst, sym, ap, ◌∙◌}
 use Rattle.std.proofs.lemmas.Option.{slice_get-get_or}
 use Rattle.ale_base.proofs.ListLemmas.{AllByRecursion-at}
-use Rattle.dist_model.specs.Model.{receivers_of}
+use Rattle.dist_model.specs.Model.{entries_for, receivers_of}
 use Rattle.idoc_tree.specs.Nodes.{forest_of}
-use Rattle.version_reduce.specs.Document.{IsOfMessage}
+use Rattle.idoc_reading.specs.Document.{IsOfEntries}
 use Rattle.outbound_build.specs.Sent.{message_of}
 use Rattle.outbound_build.proofs.RowLemmas.{receivers-message, receivers-within}
 use Rattle.outbound_build.proofs.batch.add_rows.Goals as goal
@@ -20,8 +20,8 @@ add_row-requires-clause-row c =
     AllByRecursion-at (λ k. k < length model.rows) (receivers_of c.args.system message model) at row (receivers-within c.args.system message model)
     (ap (λ rows. slice_get rows at) (sym c.in_ok-rows.ensures ∙ sym c.as_slice-places.ensures) ∙ here)
 
-pub add_row-requires-clause-of_message : goal.add_row-requires-clause-of_message
-add_row-requires-clause-of_message c =
+pub add_row-requires-clause-of_entries : goal.add_row-requires-clause-of_entries
+add_row-requires-clause-of_entries c =
     let model = c.args.model.now in
     let message = c.args.master.now.message in
     let at = c.loop-row.row-index in
@@ -31,4 +31,5 @@ add_row-requires-clause-of_message c =
     let same : message_of model row ≡ message
     = AllByRecursion-at (λ k. message_of model k ≡ message) (receivers_of c.args.system message model) at row (receivers-message c.args.system message model)
     (ap (λ rows. slice_get rows at) (sym c.in_ok-rows.ensures ∙ sym c.as_slice-places.ensures) ∙ here) in
-    subst (λ (m : ℕ). IsOfMessage model m (forest_of c.args.master.now.doc.forest.items)) (sym same) c.requires.of_message
+    subst (λ (m : ℕ). IsOfEntries model.definitions (entries_for model m c.args.master.now.doc.control) (forest_of c.args.master.now.doc.forest.items))
+    (sym same) c.requires.of_entries

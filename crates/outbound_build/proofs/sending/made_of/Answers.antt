@@ -20,8 +20,8 @@ returns-clause-document c =
     = c.control_of-control.ensures.texts ∙ ap (λ (lists : Lists). control_with (control_text lists profile number master)) c.as_lists.ensures.same in
     one-written model profile number master nodes some c.control_of-control.result (forest_of c.in_ok-forest.forest.items) written c.in_ok-forest.ensures.map
 
-pub returns-clause-of_message : goal.returns-clause-of_message
-returns-clause-of_message c kept =
+pub returns-clause-of_entries : goal.returns-clause-of_entries
+returns-clause-of_entries c entries are whole kept =
     let nodes = c.args.kept.items in
     let some = eqb-false (length nodes) 0 (sym (ap (λ (n : ℕ). n == 0) c.args.kept.ok.0) ∙ sym c.is_empty.ensures ∙ c.if-is_empty.false) in
-    c.in_ok-forest.ensures.of_message (some-kept c.args.model.now c.args.profile.now.message nodes some kept)
+    c.in_ok-forest.ensures.of_entries entries are whole (some-kept c.args.model.now.definitions entries nodes some kept)

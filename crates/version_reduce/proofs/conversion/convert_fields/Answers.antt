@@ -8,9 +8,9 @@ use Rattle.dist_model.specs.Outbound.{IsConvert, removes}
 use Rattle.dist_model.specs.Model.{IsModel}
 use Rattle.idoc_tree.specs.Forest.{AllNodes, map_nodes}
 use Rattle.idoc_tree.specs.Nodes.{forest_of}
+use Rattle.idoc_reading.specs.Document.{IsOfEntries}
 use Rattle.version_reduce.specs.Converted.{IsConvertedFrom, converted, converted_segment}
-use Rattle.version_reduce.specs.Document.{IsOfMessage}
-use Rattle.version_reduce.proofs.DocumentLemmas.{converted-IsOfMessage, converted-gone}
+use Rattle.version_reduce.proofs.DocumentLemmas.{converted-IsOfEntries, converted-gone}
 use Rattle.version_reduce.proofs.ChangeLemmas.{without-none}
 use Rattle.version_reduce.proofs.ProfileLemmas.{is_outbound}
 use Rattle.version_reduce.proofs.TextLawLemmas.{converted-from}
@@ -43,7 +43,7 @@ returns c = record {
       (is_outbound c.args.model.now c.args.profile.now c.as_lists-lists.ensures.kept c.requires.profile).convert);
   gone = λ gone. subst (AllNodes (λ segment. removes c.args.profile.now segment.type ≡ false)) (sym (same c))
       (converted-gone c.args.model.now c.args.profile.now (forest_of c.args.forest.items) gone);
-  of_message = λ is. subst (IsOfMessage c.args.model.now c.args.profile.now.message) (sym (same c))
-      (converted-IsOfMessage c.args.model.now c.args.profile.now c.args.profile.now.message (forest_of c.args.forest.items) c.as_lists-lists.ensures.kept
+  of_entries = λ entries is. subst (IsOfEntries c.args.model.now.definitions entries) (sym (same c))
+      (converted-IsOfEntries c.args.model.now c.args.profile.now entries (forest_of c.args.forest.items) c.as_lists-lists.ensures.kept
       c.requires.profile is);
 }

@@ -2,10 +2,10 @@ use Rattle.std.proofs.Common.{◌≡◌, false, sym, ap, subst, ◌∙◌}
 use Rattle.dist_model.specs.Outbound.{removes}
 use Rattle.idoc_tree.specs.Forest.{AllNodes, map_nodes}
 use Rattle.idoc_tree.specs.Nodes.{forest_of}
-use Rattle.version_reduce.specs.Document.{IsOfMessage}
+use Rattle.idoc_reading.specs.Document.{IsOfEntries}
 use Rattle.version_reduce.specs.Reduced.{IsReducedFrom, reduced_segment, reduced}
 use Rattle.version_reduce.proofs.ChangeLemmas.{without-none}
-use Rattle.version_reduce.proofs.DocumentLemmas.{reduced-IsOfMessage, reduced-gone}
+use Rattle.version_reduce.proofs.DocumentLemmas.{reduced-IsOfEntries, reduced-gone}
 use Rattle.version_reduce.proofs.TextLawLemmas.{reduced-from}
 use Rattle.version_reduce.proofs.reduction.reduce_message.Goals as goal
 
@@ -22,6 +22,6 @@ returns c = record {
       (reduced-from c.args.model.now c.args.profile.now (forest_of c.args.forest.items) c.as_lists-lists.ensures.kept.definitions);
   gone = λ gone. subst (AllNodes (λ segment. removes c.args.profile.now segment.type ≡ false)) (sym (same c))
       (reduced-gone c.args.model.now c.args.profile.now (forest_of c.args.forest.items) gone);
-  of_message = λ is. subst (IsOfMessage c.args.model.now c.args.profile.now.message) (sym (same c))
-      (reduced-IsOfMessage c.args.model.now c.args.profile.now c.args.profile.now.message (forest_of c.args.forest.items) c.as_lists-lists.ensures.kept is);
+  of_entries = λ entries is. subst (IsOfEntries c.args.model.now.definitions entries) (sym (same c))
+      (reduced-IsOfEntries c.args.model.now c.args.profile.now entries (forest_of c.args.forest.items) c.as_lists-lists.ensures.kept is);
 }

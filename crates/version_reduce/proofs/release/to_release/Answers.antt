@@ -1,9 +1,9 @@
 use Rattle.std.proofs.Common.{◌≡◌, sym, ap, subst, ◌∙◌}
 use Rattle.idoc_tree.specs.Forest.{AllNodes}
 use Rattle.idoc_tree.specs.Nodes.{forest_of}
-use Rattle.version_reduce.specs.Document.{IsOfMessage}
+use Rattle.idoc_reading.specs.Document.{IsOfEntries}
 use Rattle.version_reduce.specs.Released.{IsByRelease, IsReleasedFrom, released}
-use Rattle.version_reduce.proofs.DocumentLemmas.{released-IsOfMessage}
+use Rattle.version_reduce.proofs.DocumentLemmas.{released-IsOfEntries}
 use Rattle.version_reduce.proofs.ReleaseLemmas.{released-by_release, released-from}
 use Rattle.version_reduce.proofs.release.to_release.Goals as goal
 
@@ -17,6 +17,6 @@ returns c = record {
       (released-by_release c.args.model.now c.args.profile.now (forest_of c.args.forest.items) c.as_lists-lists.ensures.kept.definitions);
   each = subst (IsReleasedFrom c.args.model.now c.args.profile.now (forest_of c.args.forest.items)) (sym (same c))
       (released-from c.args.model.now c.args.profile.now (forest_of c.args.forest.items) c.as_lists-lists.ensures.kept.definitions);
-  of_message = λ gone is. subst (IsOfMessage c.args.model.now c.args.profile.now.message) (sym (same c))
-      (released-IsOfMessage c.args.model.now c.args.profile.now (forest_of c.args.forest.items) c.as_lists-lists.ensures.kept c.requires.profile gone is);
+  of_entries = λ entries are whole gone is. subst (IsOfEntries c.args.model.now.definitions entries) (sym (same c))
+      (released-IsOfEntries c.args.model.now c.args.profile.now entries (forest_of c.args.forest.items) are whole gone is);
 }

@@ -3,10 +3,10 @@ use Rattle.dist_model.specs.Outbound.{removes}
 use Rattle.idoc_tree.specs.Forest.{AllNodes}
 use Rattle.idoc_tree.specs.Nodes.{forest_of}
 use Rattle.idoc_tree.proofs.ForestLemmas.{AllNodes-without}
-use Rattle.version_reduce.specs.Document.{IsOfMessage}
+use Rattle.idoc_reading.specs.Document.{IsOfEntries}
 use Rattle.version_reduce.specs.Removed.{LosesRemoved, removed}
 use Rattle.version_reduce.proofs.ChangeLemmas.{map_nodes-same}
-use Rattle.version_reduce.proofs.DocumentLemmas.{removed-IsOfMessage}
+use Rattle.version_reduce.proofs.DocumentLemmas.{removed-IsOfEntries}
 use Rattle.version_reduce.proofs.RemovalLemmas.{removed-loses}
 use Rattle.version_reduce.proofs.removal.remove_segments.Goals as goal
 
@@ -20,6 +20,6 @@ returns c = record {
       (AllNodes-without (λ segment. removes c.args.profile.now segment.type) (forest_of c.args.forest.items));
   left = subst (LosesRemoved c.args.profile.now (forest_of c.args.forest.items)) (sym (same c))
       (removed-loses c.args.profile.now (forest_of c.args.forest.items));
-  of_message = λ is. subst (IsOfMessage c.args.model.now c.args.profile.now.message) (sym (same c))
-      (removed-IsOfMessage c.args.model.now c.args.profile.now (forest_of c.args.forest.items) c.as_lists-rules.ensures.kept c.requires.profile is);
+  of_entries = λ entries are whole is. subst (IsOfEntries c.args.model.now.definitions entries) (sym (same c))
+      (removed-IsOfEntries c.args.model.now.definitions c.args.profile.now entries (forest_of c.args.forest.items) are whole is);
 }

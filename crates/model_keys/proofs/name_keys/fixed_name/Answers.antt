@@ -1,6 +1,6 @@
 use Rattle.std.proofs.Common.{◌∙◌}
 use Rattle.segment_defs.proofs.NameLemmas.{IsName_decided, name-trimmed}
-use Rattle.model_profiles.proofs.target.fixed_name.Goals as goal
+use Rattle.model_keys.proofs.name_keys.fixed_name.Goals as goal
 
 pub returns : goal.returns
 returns c =
