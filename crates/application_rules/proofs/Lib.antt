@@ -8,3 +8,5 @@ pub mod GatheredLemmas
 pub mod CommitLemmas
 -- what is gathered may be committed
 pub mod FollowLemmas
+-- the last status of a document
+pub mod LastLemmas

@@ -23,7 +23,7 @@ use Rattle.outbound_build.specs.Tables.{AreTablesOf as AreSent}
 use Rattle.inbound_post.specs.declared.application_tables.ApplicationTables.{ApplicationTables}
 use Rattle.inbound_post.specs.declared.prepared.DocPosting.{DocPosting}
 use Rattle.inbound_post.specs.Prepared.{prepared}
-use Rattle.inbound_post.specs.Application.{Application, arrived_all, executed_if, no_application, past_of, with_unit}
+use Rattle.inbound_post.specs.Application.{Application, arrived_all, counted, executed_if, no_application, past_of, with_unit}
 use Rattle.inbound_post.proofs.ApplicationLemmas.{executed-prepared}
 use Rattle.inbound_post.specs.Tables.{AreTablesOf as AreApplied}
 use Rattle.document_state.specs.declared.document_tables.DocumentTables.{DocumentTables}
@@ -41,7 +41,7 @@ use Rattle.document_state.proofs.PushLemmas.{added-nothing, applied-push}
 
 -- what goes with a record under the model before it goes with it as far as the application is concerned
 goes-under : (records : List Record) (next : Record) (made : Made) → GoesUnder records next made
-    → MadeUnder (model_of records) (applied_by records).system (applied_by records).application next made
+    → MadeUnder (model_of records) (applied_by records).system (counted (applied_by records).application) next made
 goes-under records (log.Commit origin docs) (Sent added) goes = refl
 goes-under records log.Dispatch (Sent added) goes = refl
 goes-under records (log.Direct unit) (Postings postings) goes = goes
@@ -90,14 +90,15 @@ under-adds records next (Postings postings) added goes adds = goes-adds records 
 under-adds records next (Executed unit postings) added goes adds = goes-adds records next (Executed unit postings) added goes adds
 
 -- a record is noted under the model before it
-pub between-noted : (records : List Record) (next : Record) (made : Made) (before after : DocumentTables) (added : Added)
+pub between-noted : (records : List Record) (next : Record) (made : Made) (before after : DocumentTables) (inbound : ApplicationTables) (added : Added)
     → AreTablesOf records before → GoesUnder records next made → after.has_begun ≡ before.has_begun → after.model ≡ before.model
     → AddsAs made added
-    → ((application : Application) (system : ℕ) → AreApplied application before.inbound
+    → ((application : Application) → AreApplied application before.inbound → AreApplied (counted application) inbound)
+    → ((application : Application) (system : ℕ) → AreApplied application inbound
     → MadeUnder (option_map arc_value before.model) system application next made
     → AreApplied (applied_under (option_map arc_value before.model) system application next) after.inbound)
     → AreSent (tracked_with (sent_by records) next added) after.outbound → IsBetween records next after
-between-noted records next made before after added are goes begun model adds apply take =
+between-noted records next made before after inbound added are goes begun model adds counts apply take =
     let past = applied_by records in
     let behind = sent_by records in
     record {
@@ -106,9 +107,10 @@ between-noted records next made before after added are goes begun model adds app
       sent = subst (λ (t : Tracked). AreSent t after.outbound)
           (ap (tracked_with behind next) (under-adds records next made added goes adds) ∙ sym (sent-push records next))
           take;
-      applied = subst (λ (found : Option Lists). AreApplied (applied_under found past.system past.application next) after.inbound) are.model
-          (apply past.application past.system are.applied
-          (subst (λ (found : Option Lists). MadeUnder found past.system past.application next made) (sym are.model) (goes-under records next made goes)));
+      applied = subst (λ (found : Option Lists). AreApplied (applied_under found past.system (counted past.application) next) after.inbound) are.model
+          (apply (counted past.application) past.system (counts past.application are.applied)
+          (subst (λ (found : Option Lists). MadeUnder found past.system (counted past.application) next made) (sym are.model)
+          (goes-under records next made goes)));
     }
 
 -- ---- the text of a record
@@ -152,7 +154,7 @@ tables-silent records next tables silent is =
       sent = is.sent;
       applied = subst (λ (a : Application). AreApplied a tables.inbound)
           (sym (applied-push records next ∙ silent-stays (model_of records) (model_of (records ++ next ∷ [])) next
-          (applied_under (model_of records) (applied_by records).system (applied_by records).application next) silent))
+          (applied_under (model_of records) (applied_by records).system (counted (applied_by records).application) next) silent))
           is.applied;
     }
 
@@ -188,11 +190,11 @@ tables-brought records next text before after says is begun outbound model renum
       sent = subst (AreSent (sent_by (records ++ next ∷ []))) (sym outbound) is.sent;
       applied = subst (λ (a : Application). AreApplied a after.inbound)
           (ap (λ (o : Option Lists). renumbered_at o (option_map arc_value after.model) next
-          (applied_under (model_of records) (applied_by records).system (applied_by records).application next)) is.model
+          (applied_under (model_of records) (applied_by records).system (counted (applied_by records).application) next)) is.model
           ∙ ap (λ (o : Option Lists). renumbered_at (model_of records) o next
-          (applied_under (model_of records) (applied_by records).system (applied_by records).application next)) now
+          (applied_under (model_of records) (applied_by records).system (counted (applied_by records).application) next)) now
           ∙ sym (applied-push records next))
-          (renumbers (applied_under (model_of records) (applied_by records).system (applied_by records).application next) is.applied);
+          (renumbers (applied_under (model_of records) (applied_by records).system (counted (applied_by records).application) next) is.applied);
     }
   where
     text-counts : (count : ℕ) (next : Record) (text : List ℕ) → text_of next ≡ Some text → models_after count next ≡ suc count

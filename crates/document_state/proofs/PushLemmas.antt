@@ -12,7 +12,7 @@ use Rattle.said_models.proofs.OfLogLemmas.{in_force-grown, of-grown}
 use Rattle.outbound_build.specs.Added.{added_by, adds_any}
 use Rattle.outbound_build.specs.Committed.{Past as Sending, no_more}
 use Rattle.outbound_build.proofs.LogLemmas.{added-nothing as nothing_by}
-use Rattle.inbound_post.specs.Application.{Application, Past, application_after, next_application, no_past, past_after, past_of, pointers_under}
+use Rattle.inbound_post.specs.Application.{Application, Past, application_after, counted, next_application, no_past, past_after, past_of, pointers_under}
 use Rattle.inbound_post.proofs.ApplicationLemmas.{past_of-push}
 use Rattle.document_state.specs.OfLog.{sent_by, applied_by, added_behind}
 use Rattle.document_state.specs.steps.Applying.{applied_under, renumbered_at}
@@ -22,13 +22,15 @@ use Rattle.document_state.specs.steps.Applying.{applied_under, renumbered_at}
 next-same : (models more : List Lists) (past : Past) (next : Record) → models_after past.models next ≤ length models
     → next_application (models ++ more) past next ≡ next_application models past next
 next-same models more past (log.Model text) within =
-    ap (λ (o : Option Lists). record (past.application) { pointers = pointers_under o (in_force (models ++ more) (suc past.models)) past.application.pointers })
+    ap (λ (o : Option Lists). record (counted past.application)
+    { pointers = pointers_under o (in_force (models ++ more) (suc past.models)) past.application.pointers })
     (in_force-before models more past.models (omega (arith, within)))
-    ∙ ap (λ (o : Option Lists). record (past.application) { pointers = pointers_under (in_force models past.models) o past.application.pointers })
+    ∙ ap (λ (o : Option Lists). record (counted past.application)
+    { pointers = pointers_under (in_force models past.models) o past.application.pointers })
     (in_force-before models more (suc past.models) within)
 next-same models more past next within =
     let least = models-least past.models next in
-    ap (λ (o : Option Lists). option_map_or (λ model. application_after model past.system past.application next) o past.application)
+    ap (λ (o : Option Lists). option_map_or (λ model. application_after model past.system (counted past.application) next) o (counted past.application))
     (in_force-before models more past.models (omega (arith, least, within)))
 
 past-before : (models more : List Lists) (records : List Record) (past : Past) → fold models_after past.models records ≤ length models
@@ -76,17 +78,17 @@ stays (Some model) application = refl
 next-by : (longer : List Lists) (past : Past) (next : Record)
     → next_application longer past next
     ≡ renumbered_at (in_force longer past.models) (in_force longer (models_after past.models next)) next
-    (applied_under (in_force longer past.models) past.system past.application next)
+    (applied_under (in_force longer past.models) past.system (counted past.application) next)
 next-by longer past (log.Model text) =
     ap (λ (a : Application). record a { pointers = pointers_under (in_force longer past.models) (in_force longer (suc past.models)) a.pointers })
-    (sym (stays (in_force longer past.models) past.application))
+    (sym (stays (in_force longer past.models) (counted past.application)))
 next-by longer past next = refl
 
 -- the application: the record is taken under the model in force before it
 pub applied-push : (records : List Record) (next : Record)
     → (applied_by (records ++ next ∷ [])).application
     ≡ renumbered_at (model_of records) (model_of (records ++ next ∷ [])) next
-    (applied_under (model_of records) (applied_by records).system (applied_by records).application next)
+    (applied_under (model_of records) (applied_by records).system (counted (applied_by records).application) next)
 applied-push records next =
     let longer = models_of (records ++ next ∷ []) in
     let past = applied_by records in
@@ -97,5 +99,6 @@ applied-push records next =
     ap (λ (p : Past). p.application) (past_of-push longer records next)
     ∙ ap (λ (p : Past). next_application longer p next) (of-grown past_of past_of-before records next)
     ∙ next-by longer past next
-    ∙ ap (λ (o : Option Lists). renumbered_at o (in_force longer (models_after past.models next)) next (applied_under o past.system past.application next)) now
-    ∙ ap (λ (o : Option Lists). renumbered_at (model_of records) o next (applied_under (model_of records) past.system past.application next)) later
+    ∙ ap (λ (o : Option Lists). renumbered_at o (in_force longer (models_after past.models next)) next (applied_under o past.system
+    (counted past.application) next)) now
+    ∙ ap (λ (o : Option Lists). renumbered_at (model_of records) o next (applied_under (model_of records) past.system (counted past.application) next)) later

@@ -18,11 +18,12 @@ use Rattle.model_growth.proofs.NumberLemmas.{found-renamed, message-renamed, ren
 use Rattle.said_models.specs.Said.{said}
 use Rattle.said_models.specs.OfLog.{model_of, text_of}
 use Rattle.said_models.proofs.OfLogLemmas.{model_of-known, model_of-stay}
-use Rattle.inbound_post.specs.Application.{Application, Arrived, application_after, past_of, statuses_at}
+use Rattle.inbound_post.specs.Application.{Application, Arrived, application_after, counted, past_of, statuses_at}
 use Rattle.inbound_post.specs.Reading.{posting}
 use Rattle.inbound_post.proofs.KeptPostingLemmas.{posting-renamed}
 use Rattle.inbound_post.proofs.StaysReadLemmas.{AreRead, IsError, IsNoError, IsRead, PassesNoError, application-read}
 use Rattle.application_rules.specs.Last.{last_is}
+use Rattle.application_rules.proofs.LastLemmas.{last_is-second}
 use Rattle.trfc_protocol.specs.Legal.{IsLegal, may_follow}
 use Rattle.document_state.specs.OfLog.{applied_by}
 use Rattle.document_state.specs.Allowed.{allowed_under, may_replace, stands_at, waits_any}
@@ -54,11 +55,11 @@ no-error code is documents (suc place) last = λ document here error. told docum
     told : (document : Arrived) → IsError document → last_is code document.statuses ≡ true → (code ≡ 64) ⊎ (code ≡ 51) → ⊥
     told document error statuses (inl is_64) =
         let lies : last_is 64 document.statuses ≡ true = subst (λ (n : ℕ). last_is n document.statuses ≡ true) is_64 statuses in
-        let never : false ≡ true = sym (ap (last_is 64) error) ∙ lies in
+        let never : false ≡ true = sym (last_is-second 64 document.statuses _ _ error) ∙ lies in
         absurd (cc)
     told document error statuses (inr is_51) =
         let lies : last_is 51 document.statuses ≡ true = subst (λ (n : ℕ). last_is n document.statuses ≡ true) is_51 statuses in
-        let never : false ≡ true = sym (ap (last_is 51) error) ∙ lies in
+        let never : false ≡ true = sym (last_is-second 51 document.statuses _ _ error) ∙ lies in
         absurd (cc)
 
 -- behind a log each inbound document is an error, or has a posting under the model in force
@@ -74,13 +75,13 @@ module _ (systems system : ℕ) where
   -- a record without a text is taken under the model that stays in force
   read-stay : (records : List Record) (next : Record) → text_of next ≡ None
       → ((found later : Option Lists) (application : Application) → renumbered_at found later next application ≡ application)
-      → PassesNoError (applied_by records).application next → IsReadLog records → IsReadLog (records ++ next ∷ [])
+      → PassesNoError (counted (applied_by records).application) next → IsReadLog records → IsReadLog (records ++ next ∷ [])
   read-stay records next silent same passes all model found =
       let known = sym (model_of-stay records next silent) ∙ found in
       let past = applied_by records in
       subst (AreRead model) (sym (applied-push records next ∙ same (model_of records) (model_of (records ++ next ∷ [])) _
-      ∙ ap (λ (o : Option Lists). applied_under o past.system past.application next) known))
-      (application-read model past.system past.application next passes (all model known))
+      ∙ ap (λ (o : Option Lists). applied_under o past.system (counted past.application) next) known))
+      (application-read model past.system (counted past.application) next passes (all model known))
 
   -- another model that keeps the one before it reads what that reads
   read-model : (one : Record) (rest : List Record) (text : List ℕ) → may_follow (model_meaning systems) system (one ∷ rest) (log.Model text) ≡ true
@@ -94,9 +95,10 @@ module _ (systems system : ℕ) where
       let past = applied_by records in
       let old_kept = model-kept records by.0 by.1 in
       let new_kept = model-kept (records ++ log.Model text ∷ []) model found in
-      let under = application-read by.0 past.system past.application (log.Model text) tt (all by.0 by.1) in
+      let under = application-read by.0 past.system (counted past.application) (log.Model text) tt (all by.0 by.1) in
       subst (λ (a : Application). AreRead model a) (sym (applied-push records (log.Model text)))
-      (subst (λ (o : Option Lists). AllByRecursion (IsRead model) (applied_under o past.system past.application (log.Model text)).documents) (sym by.1)
+      (subst (λ (o : Option Lists). AllByRecursion (IsRead model) (applied_under o past.system (counted past.application) (log.Model text)).documents)
+      (sym by.1)
       (AllByRecursion-weaker (IsRead by.0) (IsRead model) past.application.documents
       (λ document is. elim is [
         | inl error ↦ inl error

@@ -58,10 +58,11 @@ impl DocumentTables {
     ghost use Rattle.document_state.specs.Tables.{AreTablesOf};
     ghost use Rattle.document_state.specs.steps.Between.{GoesUnder, IsBetween};
 
-    /// Notes a record under the model in force before it.
+    /// Notes a record under the model in force before it. It is counted first.
     fn note_under(&mut self, alloc: Global, next: &Record, made: Made) -> Result<(), OutOfMemory>
         ensures { (log : List Record) → AreTablesOf log self.old → GoesUnder log next.now made → OnOk result (IsBetween log next.now self.new) }
     {
+        self.inbound.count_record()?;
         let added = apply(alloc, &mut self.inbound, &self.model, next, made)?;
         self.outbound.take(alloc, next, added)
     }
@@ -99,8 +100,8 @@ fn behind(
     model
 }
 
-/// What a record does to the inbound documents, objects and pointers, under the model in force and with what was made for it; and what
-/// it adds to the outbound documents and units.
+/// What a record, which is counted already, does to the inbound documents, objects and pointers, under the model in force and with what
+/// was made for it; and what it adds to the outbound documents and units.
 fn apply(
     alloc: Global,
     inbound: &mut ApplicationTables,

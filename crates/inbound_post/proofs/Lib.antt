@@ -20,3 +20,5 @@ pub mod RenamedLemmas
 pub mod KeptPostingLemmas
 -- inbound documents that were read are read again
 pub mod StaysReadLemmas
+-- the statuses of the documents of a log, in the order of its records
+pub mod GivenLemmas

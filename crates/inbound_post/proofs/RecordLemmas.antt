@@ -17,7 +17,7 @@ use Rattle.object_store.specs.declared.posting.Posting.{Posting}
 use Rattle.inbound_post.specs.declared.application_tables.ApplicationTables.{ApplicationTables}
 use Rattle.inbound_post.specs.Reading.{posting}
 use Rattle.inbound_post.specs.Prepared.{prepared}
-use Rattle.inbound_post.specs.Application.{Application, Arrived, Past, application_after, arrived_all, executed_if, next_application, no_past, passed}
+use Rattle.inbound_post.specs.Application.{Application, Arrived, Past, application_after, arrived_all, counted, executed_if, next_application, no_past, passed}
 use Rattle.inbound_post.specs.Application.{passed_at, passed_again, past_after, past_of, with_document, with_unit}
 use Rattle.inbound_post.specs.Tables.{AreTablesOf}
 use Rattle.inbound_post.proofs.ApplicationLemmas.{executed-prepared}
@@ -27,7 +27,13 @@ use Rattle.inbound_post.proofs.ApplicationLemmas.{executed-prepared}
 -- a unit that is received leaves the tables
 pub AreTablesOf-Accept : (unit : AleUnit) (application : Application) (tables : ApplicationTables) → AreTablesOf application tables →
     AreTablesOf (with_unit unit application) tables
-AreTablesOf-Accept unit application tables are = record { documents = are.documents; statuses = are.statuses; objects = are.objects; pointers = are.pointers }
+AreTablesOf-Accept unit application tables are = record {
+  documents = are.documents;
+  statuses = are.statuses;
+  objects = are.objects;
+  pointers = are.pointers;
+  records = are.records;
+}
 
 -- what `execute` makes of the tables
 abbrev pub Executes : Lists → ℕ → AleUnit → ApplicationTables → ApplicationTables → Type 0
@@ -111,12 +117,14 @@ forced models zero least most = absurd (omega (arith, least))
 forced models (suc last) least most = there models last (omega (arith, most))
 
 under : (models : List Lists) (past : Past) (next : Record) → 1 ≤ past.models → past.models ≤ length models
-    → (option_map_or (λ model. application_after model past.system past.application next) (in_force models past.models) past.application).received
+    → (option_map_or (λ model. application_after model past.system (counted past.application) next) (in_force models past.models)
+    (counted past.application)).received
     ≡ past.application.received ++ taken next
 under models past next least most =
     let (model, is) = forced models past.models least most in
-    ap (λ (found : Option Lists). (option_map_or (λ model. application_after model past.system past.application next) found past.application).received) is
-    ∙ after_received model past.system past.application next
+    ap (λ (found : Option Lists). (option_map_or (λ model. application_after model past.system (counted past.application) next) found
+    (counted past.application)).received) is
+    ∙ after_received model past.system (counted past.application) next
 
 one_received : (models : List Lists) (past : Past) (next : Record) → 1 ≤ past.models → past.models ≤ length models
     → (next_application models past next).received ≡ past.application.received ++ taken next

@@ -16,7 +16,9 @@ use Rattle.unit_core.specs.declared.records.Record.{Record}
 use Rattle.unit_core.specs.declared.records.Record.TheVariants as log
 use Rattle.unit_core.specs.Queues.{unit_named}
 use Rattle.object_store.specs.declared.posting.Posting.{Posting}
-use Rattle.status_log.specs.Statuses.{plain}
+use Rattle.status_log.specs.declared.status_at.StatusAt.{StatusAt}
+use Rattle.status_log.specs.Statuses.{bare, given_by, plain}
+use Rattle.inbound_post.specs.declared.prepared.DocPosting.{DocPosting}
 use Rattle.inbound_post.specs.declared.prepared.DocPosting.TheVariants.{Errors}
 use Rattle.inbound_post.specs.Application.{Application, Arrived, application_after, executed_if, first_statuses, passed, passed_again}
 use Rattle.inbound_post.specs.Application.{passed_at, with_document, with_unit}
@@ -25,7 +27,7 @@ use Rattle.inbound_post.specs.Reading.{posting}
 
 -- a document was an error as it came in, and nothing else became of it
 abbrev pub IsError : Arrived → Type 0
-IsError document = document.statuses ≡ plain 50 ∷ plain 56 ∷ []
+IsError document = bare document.statuses ≡ plain 50 ∷ plain 56 ∷ []
 
 -- an inbound document is an error, or has a posting under a model
 abbrev pub IsRead : Lists → Arrived → Type 0
@@ -63,12 +65,15 @@ arrived-read : (model : Lists) (system sender : ℕ) (application : Application)
     → AreRead model (with_document model system sender application doc)
 arrived-read model system sender application doc all =
     AllByRecursion-append (IsRead model) application.documents
-    (record { sender = sender; document = doc; statuses = first_statuses application.objects (posting_from model system sender doc) } ∷ []) all
+    (record { sender = sender; document = doc; statuses = its (posting_from model system sender doc) } ∷ []) all
     (own (from-read model system sender doc), tt)
   where
+    its : DocPosting → List StatusAt
+    its becomes = given_by application.records (first_statuses application.objects becomes)
+
     own : (posting_from model system sender doc ≡ Errors) ⊎ (posting model doc ≡ None → ⊥)
-        → IsRead model (record { sender = sender; document = doc; statuses = first_statuses application.objects (posting_from model system sender doc) })
-    own (inl error) = inl (ap (first_statuses application.objects) error)
+        → IsRead model (record { sender = sender; document = doc; statuses = its (posting_from model system sender doc) })
+    own (inl error) = inl (ap (λ (becomes : DocPosting). bare (its becomes)) error)
     own (inr read) = inr read
 
 executed-read : (model : Lists) (system sender : ℕ) (docs : List RawUnitDoc) (application : Application) → AreRead model application

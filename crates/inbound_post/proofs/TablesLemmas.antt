@@ -10,8 +10,8 @@ use Rattle.unit_core.specs.declared.raw_unit_doc.RawUnitDoc.{RawUnitDoc}
 use Rattle.object_store.specs.declared.posting.Posting.{Posting}
 use Rattle.object_store.specs.Objects.{ObjectsOf}
 use Rattle.object_store.specs.Posting.{applied, outcome_of}
-use Rattle.status_log.specs.declared.status.Status.{Status}
-use Rattle.status_log.specs.Statuses.{Adds, AddsAll, plain, statuses_of}
+use Rattle.status_log.specs.declared.status_at.StatusAt.{StatusAt}
+use Rattle.status_log.specs.Statuses.{Adds, AddsAll, given_by, plain, statuses_of}
 use Rattle.inbound_post.specs.declared.prepared.DocPosting.{DocPosting}
 use Rattle.inbound_post.specs.declared.inbound_document.InboundDocument.{InboundDocument}
 use Rattle.inbound_post.specs.declared.application_tables.ApplicationTables.{ApplicationTables}
@@ -20,7 +20,7 @@ use Rattle.inbound_post.specs.Application.{Application, Arrived, arrived, first_
 use Rattle.inbound_post.specs.Application.{with_statuses}
 use Rattle.inbound_post.specs.Tables.{AreTablesOf, bare}
 
-abbrev statuses_from : List Arrived → ℕ → List Status
+abbrev statuses_from : List Arrived → ℕ → List StatusAt
 statuses_from documents place = option_map_or (λ document. document.statuses) (slice_get documents place) []
 
 length_map : (documents : List Arrived) → length (map bare documents) ≡ length documents
@@ -57,13 +57,13 @@ at_push documents d doc =
       | inr other ↦ rw other.0 (at_before documents d doc other.1)
     ]
 
-bare_set : (documents : List Arrived) (place : ℕ) (d : Arrived) (more : List Status) → slice_get documents place ≡ Some d
+bare_set : (documents : List Arrived) (place : ℕ) (d : Arrived) (more : List StatusAt) → slice_get documents place ≡ Some d
     → map bare (slice_set documents place (with_statuses more d)) ≡ map bare documents
 bare_set [] place d more known = refl
 bare_set (x ∷ xs) zero d more known = let same : d ≡ x = cc known in ap (λ (e : Arrived). bare e ∷ map bare xs) same
 bare_set (x ∷ xs) (suc place) d more known = ap (λ v. bare x ∷ v) (bare_set xs place d more known)
 
-from_set : (documents : List Arrived) (place : ℕ) (d : Arrived) (more : List Status) → slice_get documents place ≡ Some d
+from_set : (documents : List Arrived) (place : ℕ) (d : Arrived) (more : List StatusAt) → slice_get documents place ≡ Some d
     → statuses_from (slice_set documents place (with_statuses more d)) place ≡ statuses_from documents place ++ more
 from_set [] place d more known = absurd (cc)
 from_set (x ∷ xs) zero d more known = let same : d ≡ x = cc known in ap (λ (e : Arrived). e.statuses ++ more) same
@@ -83,7 +83,7 @@ at_beside documents place new zero other = refl
 at_beside documents place new (suc k) other = from_beside documents place new k (λ same. other (ap suc same))
 
 -- the statuses of documents of which one got more
-at_set : (documents : List Arrived) (place : ℕ) (d : Arrived) (more : List Status) (doc : ℕ) → slice_get documents place ≡ Some d
+at_set : (documents : List Arrived) (place : ℕ) (d : Arrived) (more : List StatusAt) (doc : ℕ) → slice_get documents place ≡ Some d
     → statuses_at (slice_set documents place (with_statuses more d)) doc
     ≡ (if doc == suc place then statuses_at documents doc ++ more else statuses_at documents doc)
 at_set documents place d more doc known =
@@ -93,18 +93,19 @@ at_set documents place d more doc known =
     ]
 
 -- one status is a list of one
-pub one_status : (doc : ℕ) (status : Status) (before after : List (List Status)) → Adds doc status before after → AddsAll doc (status ∷ []) before after
+pub one_status : (doc : ℕ) (status : StatusAt) (before after : List (List StatusAt)) → Adds doc status before after → AddsAll doc (status ∷ []) before after
 one_status doc status before after adds = record { added = adds.added }
 
 -- statuses that are added to the same document in two tables that agree
-both_added : (doc : ℕ) (more : List Status) (before after : List (List Status)) (told : ℕ → List Status) → ((other : ℕ) → statuses_of other before ≡ told other)
-    → AddsAll doc more before after → (other : ℕ) → statuses_of other after ≡ (if other == doc then told other ++ more else told other)
-both_added doc more before after told same adds other = adds.added other ∙ ap (λ (had : List Status). if other == doc then had ++ more else had) (same other)
+both_added : (doc : ℕ) (more : List StatusAt) (before after : List (List StatusAt)) (told : ℕ → List StatusAt)
+    → ((other : ℕ) → statuses_of other before ≡ told other) → AddsAll doc more before after → (other : ℕ)
+    → statuses_of other after ≡ (if other == doc then told other ++ more else told other)
+both_added doc more before after told same adds other = adds.added other ∙ ap (λ (had : List StatusAt). if other == doc then had ++ more else had) (same other)
 
 -- a document came in: the tables after it
 pub arrived-tables : (sender : ℕ) (doc : RawUnitDoc) (becomes : DocPosting) (application : Application) (tables : ApplicationTables) (number : ℕ)
-    (statuses : List (List Status)) (objects : ObjectsOf) → AreTablesOf application tables → number ≡ suc (length tables.documents)
-    → AddsAll number (first_statuses tables.objects becomes) tables.statuses statuses → objects ≡ objects_with becomes tables.objects
+    (statuses : List (List StatusAt)) (objects : ObjectsOf) → AreTablesOf application tables → number ≡ suc (length tables.documents)
+    → AddsAll number (given_by tables.records (first_statuses tables.objects becomes)) tables.statuses statuses → objects ≡ objects_with becomes tables.objects
     → AreTablesOf (arrived sender doc becomes application)
     (record {
       documents = tables.documents ++ record { sender = sender; document = doc }
@@ -112,21 +113,25 @@ pub arrived-tables : (sender : ℕ) (doc : RawUnitDoc) (becomes : DocPosting) (a
       statuses = statuses;
       objects = objects;
       pointers = tables.pointers;
+      records = tables.records;
     })
 arrived-tables sender doc becomes application tables number statuses objects are next adds of_objects =
-    let new : Arrived = record { sender = sender; document = doc; statuses = first_statuses application.objects becomes } in
+    let new : Arrived = record { sender = sender; document = doc; statuses = given_by application.records (first_statuses application.objects becomes) } in
     let count : length tables.documents ≡ length application.documents = ap length are.documents ∙ length_map application.documents in
     let its : number ≡ suc (length application.documents) = next ∙ ap suc count in
     record {
       documents = ap (λ v. v ++ bare new ∷ []) are.documents ∙ sym (bare_push application.documents new);
-      statuses = λ other. both_added number (first_statuses tables.objects becomes) tables.statuses statuses (statuses_at application.documents) are.statuses
-          adds other
+      statuses = λ other. both_added number (given_by tables.records (first_statuses tables.objects becomes)) tables.statuses statuses
+          (statuses_at application.documents) are.statuses adds other
           ∙ ap (λ (o : ObjectsOf). if other == number then statuses_at application.documents other
-          ++ first_statuses o becomes else statuses_at application.documents other) are.objects
+          ++ given_by tables.records (first_statuses o becomes) else statuses_at application.documents other) are.objects
+          ∙ ap (λ (by : ℕ). if other == number then statuses_at application.documents other
+          ++ given_by by (first_statuses application.objects becomes) else statuses_at application.documents other) are.records
           ∙ ap (λ (n : ℕ). if other == n then statuses_at application.documents other ++ new.statuses else statuses_at application.documents other) its
           ∙ sym (at_push application.documents new other);
       objects = of_objects ∙ ap (objects_with becomes) are.objects;
       pointers = are.pointers;
+      records = are.records;
     }
 
 -- the document of a place in the tables is that of the application
@@ -142,7 +147,7 @@ document-there application tables place document are known =
     found (Some d) is maps = (d, is, cc (maps, ap (option_map bare) is))
 
 -- a document got statuses, and the objects are others: the tables after it
-with_more : (application : Application) (tables : ApplicationTables) (place : ℕ) (d : Arrived) (more : List Status) (statuses : List (List Status))
+with_more : (application : Application) (tables : ApplicationTables) (place : ℕ) (d : Arrived) (more : List StatusAt) (statuses : List (List StatusAt))
     (objects : ObjectsOf)
     → AreTablesOf application tables → slice_get application.documents place ≡ Some d → AddsAll (suc place) more tables.statuses statuses
     → AreTablesOf (record application { documents = slice_set application.documents place (with_statuses more d); objects = objects })
@@ -153,19 +158,23 @@ with_more application tables place d more statuses objects are known adds = reco
       ∙ sym (at_set application.documents place d more other known);
   objects = refl;
   pointers = are.pointers;
+  records = are.records;
 }
 
 -- a document is passed to the application again: the tables after it
 pub passed-tables : (model : Lists) (application : Application) (tables : ApplicationTables) (place : ℕ) (document : InboundDocument) (made : Posting)
-    (statuses : List (List Status)) (objects : ObjectsOf) → AreTablesOf application tables → slice_get tables.documents place ≡ Some document
+    (statuses : List (List StatusAt)) (objects : ObjectsOf) → AreTablesOf application tables → slice_get tables.documents place ≡ Some document
     → posting model document.document ≡ Some made
-    → AddsAll (suc place) (plain 62 ∷ status_of (outcome_of made tables.objects) ∷ []) tables.statuses statuses → objects ≡ applied made tables.objects
+    → AddsAll (suc place) (given_by tables.records (plain 62 ∷ status_of (outcome_of made tables.objects) ∷ [])) tables.statuses statuses
+    → objects ≡ applied made tables.objects
     → AreTablesOf (passed_at model place application (slice_get application.documents place)) (record tables { statuses = statuses; objects = objects })
 passed-tables model application tables place document made statuses objects are known is adds of_objects =
     let (d, at, same) = document-there application tables place document are known in
-    let more : List Status = plain 62 ∷ status_of (outcome_of made application.objects) ∷ [] in
+    let more : List StatusAt = given_by application.records (plain 62 ∷ status_of (outcome_of made application.objects) ∷ []) in
     let adds2 : AddsAll (suc place) more tables.statuses statuses =
-    subst (λ (o : ObjectsOf). AddsAll (suc place) (plain 62 ∷ status_of (outcome_of made o) ∷ []) tables.statuses statuses) are.objects adds in
+    subst (λ (by : ℕ). AddsAll (suc place) (given_by by (plain 62 ∷ status_of (outcome_of made application.objects) ∷ [])) tables.statuses statuses) are.records
+    (subst (λ (o : ObjectsOf). AddsAll (suc place) (given_by tables.records (plain 62 ∷ status_of (outcome_of made o) ∷ [])) tables.statuses statuses)
+    are.objects adds) in
     let of_it : posting model d.document ≡ Some made = ap (λ (e : InboundDocument). posting model e.document) same ∙ is in
     subst (λ (a : Application). AreTablesOf a (record tables { statuses = statuses; objects = objects }))
     (sym (ap (passed_at model place application) at ∙ ap (passed place d application) of_it
@@ -176,15 +185,18 @@ passed-tables model application tables place document made statuses objects are 
 
 -- a document is not read any more: the tables after it
 pub unread-tables : (model : Lists) (application : Application) (tables : ApplicationTables) (place : ℕ) (document : InboundDocument)
-    (statuses : List (List Status)) → AreTablesOf application tables → slice_get tables.documents place ≡ Some document
-    → posting model document.document ≡ None → AddsAll (suc place) (plain 56 ∷ []) tables.statuses statuses
+    (statuses : List (List StatusAt)) → AreTablesOf application tables → slice_get tables.documents place ≡ Some document
+    → posting model document.document ≡ None → AddsAll (suc place) (given_by tables.records (plain 56 ∷ [])) tables.statuses statuses
     → AreTablesOf (passed_at model place application (slice_get application.documents place)) (record tables { statuses = statuses })
 unread-tables model application tables place document statuses are known is adds =
     let (d, at, same) = document-there application tables place document are known in
     let of_it : posting model d.document ≡ None = ap (λ (e : InboundDocument). posting model e.document) same ∙ is in
+    let more : List StatusAt = given_by application.records (plain 56 ∷ []) in
+    let adds2 : AddsAll (suc place) more tables.statuses statuses =
+    subst (λ (by : ℕ). AddsAll (suc place) (given_by by (plain 56 ∷ [])) tables.statuses statuses) are.records adds in
     subst (λ (a : Application). AreTablesOf a (record tables { statuses = statuses }))
     (sym (ap (passed_at model place application) at ∙ ap (passed place d application) of_it))
     (let set : AreTablesOf (record application
-    { documents = slice_set application.documents place (with_statuses (plain 56 ∷ []) d); objects = tables.objects })
-    (record tables { statuses = statuses }) = with_more application tables place d (plain 56 ∷ []) statuses tables.objects are at adds in
-    record { documents = set.documents; statuses = set.statuses; objects = are.objects; pointers = set.pointers })
+    { documents = slice_set application.documents place (with_statuses more d); objects = tables.objects })
+    (record tables { statuses = statuses }) = with_more application tables place d more statuses tables.objects are at adds2 in
+    record { documents = set.documents; statuses = set.statuses; objects = are.objects; pointers = set.pointers; records = set.records })

@@ -22,7 +22,8 @@ use Rattle.change_pointers.specs.Noted.{noted_by}
 use Rattle.change_pointers.specs.Pointers.{cleared}
 use Rattle.change_pointers.specs.Renumbered.{renumbered}
 use Rattle.status_log.specs.declared.status.Status.{Status}
-use Rattle.status_log.specs.Statuses.{plain}
+use Rattle.status_log.specs.declared.status_at.StatusAt.{StatusAt}
+use Rattle.status_log.specs.Statuses.{given_by, plain}
 use Rattle.inbound_post.specs.declared.prepared.DocPosting.{DocPosting}
 use Rattle.inbound_post.specs.declared.prepared.DocPosting.TheVariants.{Post, Waits, Errors}
 use Rattle.inbound_post.specs.Reading.{posting}
@@ -33,23 +34,29 @@ abbrev pub status_of : Outcome → Status
 status_of Posted = plain 53
 status_of (Refused reason) = record { code = 51; reason = reason }
 
--- an inbound document: the system that sent it, the document, and its statuses in order
+-- an inbound document: the system that sent it, the document, and its statuses in order, each with the number of its record
 pub record Arrived : Type 0 where
   pub sender : ℕ
   pub document : RawUnitDoc
-  pub statuses : List Status
+  pub statuses : List StatusAt
 
 -- what a system's application is: the units that were received, the inbound documents in the order in which their units were
--- executed, numbered from 1, the objects, and the change pointers that no gathering has taken up yet
+-- executed, numbered from 1, the objects, the change pointers that no gathering has taken up yet, and how many records made it, with the one
+-- that is being taken
 pub record Application : Type 0 where
   pub received : List AleUnit
   pub documents : List Arrived
   pub objects : ObjectsOf
   pub pointers : List Pointer
+  pub records : ℕ
 
--- nothing was received, and there are no objects
+-- nothing was received, and there are no objects and no records
 abbrev pub no_application : Application
-no_application = record { received = []; documents = []; objects = no_objects; pointers = [] }
+no_application = record { received = []; documents = []; objects = no_objects; pointers = []; records = 0 }
+
+-- one more record is being taken
+abbrev pub counted : Application → Application
+counted application = record application { records = suc application.records }
 
 -- the statuses of a document as it comes in: 50 added; 64 ready for the application and 62 passed to it where it is posted at once,
 -- and then what came of that; 64 alone where it waits; 56 where there is no profile for it or it is not read
@@ -67,7 +74,8 @@ objects_with _ objects = objects
 abbrev pub arrived : ℕ → RawUnitDoc → DocPosting → Application → Application
 arrived sender doc becomes application =
     record application {
-      documents = application.documents ++ record { sender = sender; document = doc; statuses = first_statuses application.objects becomes } ∷ [];
+      documents = application.documents
+          ++ record { sender = sender; document = doc; statuses = given_by application.records (first_statuses application.objects becomes) } ∷ [];
       objects = objects_with becomes application.objects;
     }
 
@@ -94,18 +102,19 @@ abbrev pub with_unit : AleUnit → Application → Application
 with_unit unit application = record application { received = application.received ++ unit ∷ [] }
 
 -- a document with further statuses
-abbrev pub with_statuses : List Status → Arrived → Arrived
+abbrev pub with_statuses : List StatusAt → Arrived → Arrived
 with_statuses more document = record document { statuses = document.statuses ++ more }
 
 -- a document is passed to the application again: 62, and what came of it; 56 where it is not read any more
 abbrev pub passed : ℕ → Arrived → Application → Option Posting → Application
 passed place document application (Some posting) =
     record application {
-      documents = slice_set application.documents place (with_statuses (plain 62 ∷ status_of (outcome_of posting application.objects) ∷ []) document);
+      documents = slice_set application.documents place
+          (with_statuses (given_by application.records (plain 62 ∷ status_of (outcome_of posting application.objects) ∷ [])) document);
       objects = applied posting application.objects;
     }
 passed place document application None =
-    record application { documents = slice_set application.documents place (with_statuses (plain 56 ∷ []) document) }
+    record application { documents = slice_set application.documents place (with_statuses (given_by application.records (plain 56 ∷ [])) document) }
 
 -- the document at a place is passed to the application; nothing changes where there is none
 abbrev pub passed_at : Lists → ℕ → Application → Option Arrived → Application
@@ -156,13 +165,14 @@ pub record Past : Type 0 where
 abbrev pub no_past : Past
 no_past = record { models = 0; system = 0; application = no_application }
 
--- the application behind one more record: a Model record brings another model into force, and each other one is taken under
--- the model that is
+-- the application behind one more record, which is counted first: a Model record brings another model into force, and each other one is
+-- taken under the model that is
 abbrev pub next_application : List Lists → Past → Record → Application
 next_application models past (Model text) =
-    record (past.application) { pointers = pointers_under (in_force models past.models) (in_force models (suc past.models)) past.application.pointers }
+    record (counted past.application)
+    { pointers = pointers_under (in_force models past.models) (in_force models (suc past.models)) past.application.pointers }
 next_application models past next =
-    option_map_or (λ model. application_after model past.system past.application next) (in_force models past.models) past.application
+    option_map_or (λ model. application_after model past.system (counted past.application) next) (in_force models past.models) (counted past.application)
 
 -- what is known behind one more record
 abbrev pub past_after : List Lists → Past → Record → Past
@@ -178,6 +188,14 @@ unfoldable pub past_of : List Lists → List Record → Past
 past_of models log = fold (past_after models) no_past log
 
 -- the statuses of the inbound document of a number, from 1; none where there is no such document
-abbrev pub statuses_at : List Arrived → ℕ → List Status
+abbrev pub statuses_at : List Arrived → ℕ → List StatusAt
 statuses_at documents zero = []
 statuses_at documents (suc place) = option_map_or (λ document. document.statuses) (slice_get documents place) []
+
+-- the codes of the statuses that a record may give to inbound documents
+abbrev pub codes_of : Record → List ℕ
+codes_of (Execute tid) = 50 ∷ 64 ∷ 62 ∷ 53 ∷ 51 ∷ 56 ∷ []
+codes_of (Direct unit) = 50 ∷ 64 ∷ 62 ∷ 53 ∷ 51 ∷ 56 ∷ []
+codes_of (App doc) = 62 ∷ 53 ∷ 51 ∷ 56 ∷ []
+codes_of (Repost doc) = 62 ∷ 53 ∷ 51 ∷ 56 ∷ []
+codes_of _ = []

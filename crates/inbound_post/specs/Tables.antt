@@ -15,3 +15,4 @@ pub record AreTablesOf (application : Application) (tables : ApplicationTables) 
   pub statuses : (doc : ℕ) → statuses_of doc tables.statuses ≡ statuses_at application.documents doc
   pub objects : tables.objects ≡ application.objects
   pub pointers : tables.pointers ≡ application.pointers
+  pub records : tables.records ≡ application.records

@@ -8,7 +8,7 @@ use ale_base::{DocNum, FieldValue, Items, OutOfMemory};
 use change_pointers::{Pointer, Pointers, noted};
 use dist_model::Model;
 use object_store::{Objects, put};
-use status_log::{Status, StatusLog};
+use status_log::{StatusAt, StatusLog, number_after};
 use std::alloc::Global;
 
 /// The inbound documents of a system with their statuses, its objects, and its change pointers, as its log has made them. Which
@@ -23,13 +23,18 @@ pub struct ApplicationTables {
     pub(crate) statuses: StatusLog,
     pub(crate) objects: Objects,
     pub(crate) pointers: Pointers,
+    /// How many records there are, with the one that is being taken.
+    pub(crate) records: u64,
 }
 
 impl ApplicationTables {
     ghost use Rattle.std.specs.Prelude.{◌≡◌, IfOk, List, OnOk, Some, slice_get, length};
     ghost use Rattle.std.specs.Option.{option_copied, option_map};
+    ghost use Rattle.dist_model.specs.declared.lists.Lists.{Lists};
+    ghost use Rattle.unit_core.specs.declared.records.Record.{Record};
     ghost use Rattle.change_pointers.specs.Noted.{noted_by};
-    ghost use Rattle.inbound_post.specs.Application.{Application, changed, left_by, no_application, pointers_under, statuses_at};
+    ghost use Rattle.status_log.specs.Statuses.{AreGivenIn};
+    ghost use Rattle.inbound_post.specs.Application.{Application, changed, codes_of, counted, left_by, no_application, past_of, pointers_under, statuses_at};
     ghost use Rattle.change_pointers.specs.declared.pointer.Pointer.{Pointer};
     ghost use Rattle.inbound_post.specs.Laws.{TakesUp};
     ghost use Rattle.inbound_post.specs.Tables.{AreTablesOf, bare};
@@ -43,6 +48,7 @@ impl ApplicationTables {
             statuses: StatusLog::new(alloc),
             objects: Objects::new(alloc),
             pointers: Pointers::new(alloc),
+            records: 0,
         }
     }
 
@@ -61,9 +67,12 @@ impl ApplicationTables {
         self.documents.get(place)
     }
 
-    /// The statuses of the inbound document of a number, in the order in which it got them; none where there is no such document.
-    pub fn statuses(&self, doc: DocNum) -> &[Status]
-        ensures { (application : Application) → AreTablesOf application self.now → result.now ≡ statuses_at application.documents doc.0 }
+    /// The statuses of the inbound document of a number, in the order in which it got them, each with the number of the record that
+    /// gave it; none where there is no such document.
+    pub fn statuses(&self, doc: DocNum) -> &[StatusAt]
+        ensures are { (application : Application) → AreTablesOf application self.now → result.now ≡ statuses_at application.documents doc.0 }
+        // Of a whole log they are in the order of its records, and each is of a record that may give it.
+        ensures given { (models : List Lists) (log : List Record) → AreTablesOf (past_of models log).application self.now → AreGivenIn codes_of log result.now }
     {
         self.statuses.list(doc)
     }
@@ -80,6 +89,15 @@ impl ApplicationTables {
         ensures { (application : Application) → AreTablesOf application self.now → result.now ≡ application.pointers }
     {
         &self.pointers
+    }
+
+    /// Counts a record that is to be taken; what it gives has its number. Past the greatest number of 64 bits memory is wanting.
+    pub fn count_record(&mut self) -> Result<(), OutOfMemory>
+        ensures { (application : Application) → AreTablesOf application self.old → OnOk result (AreTablesOf (counted application) self.new) }
+    {
+        let number = number_after(self.records)?;
+        self.records = number;
+        Ok(())
     }
 
     /// A Put: an object gets values, and the pointers of what changes are noted. It answers how many these are.

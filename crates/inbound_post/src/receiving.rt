@@ -2,7 +2,7 @@
 
 ghost use Rattle.std.specs.Prelude.{◌≡◌, ◌++◌, ◌∷◌, [], ◌==◌, List, ℕ, suc, IfOk, OnOk, if◌then◌else◌};
 ghost use Rattle.status_log.specs.declared.status.Status.{Status};
-ghost use Rattle.status_log.specs.Statuses.{AddsAll, plain};
+ghost use Rattle.status_log.specs.Statuses.{AddsAll, given_by, plain};
 ghost use Rattle.object_store.specs.Objects.{ObjectsOf};
 ghost use Rattle.object_store.specs.Posting.{applied, outcome_of};
 ghost use Rattle.inbound_post.specs.Application.{first_statuses, objects_with, status_of};
@@ -58,6 +58,7 @@ impl ApplicationTables {
             alloc,
             &mut self.objects,
             &mut self.statuses,
+            self.records,
             number,
             becomes,
         )?;
@@ -81,12 +82,20 @@ impl ApplicationTables {
         if doc.0 == 0 {
             return Ok(());
         }
+        let by = self.records;
         match self.documents.get(doc.0 as usize - 1) {
             None => Ok(()),
             Some(document) => match posting(alloc, model, &document.document)? {
-                None => self.statuses.add(doc, Status::plain(56)),
+                None => self.statuses.add(doc, Status::plain(56), by),
                 Some(posting) => {
-                    pass(alloc, &mut self.objects, &mut self.statuses, doc, &posting)
+                    pass(
+                        alloc,
+                        &mut self.objects,
+                        &mut self.statuses,
+                        by,
+                        doc,
+                        &posting,
+                    )
                 }
             },
         }
@@ -103,42 +112,45 @@ fn number_after(count: usize) -> Result<DocNum, OutOfMemory>
     }
 }
 
-/// The statuses that a document gets as it comes in, and what it makes of the objects.
+/// The statuses that a document gets as it comes in by the record of a number, and what it makes of the objects.
 fn receive(
     alloc: Global,
     objects: &mut Objects,
     statuses: &mut StatusLog,
+    by: u64,
     number: DocNum,
     becomes: &DocPosting,
 ) -> Result<(), OutOfMemory>
     ensures objects { OnOk result (objects.new ≡ objects_with becomes.now objects.old) }
-    ensures statuses { OnOk result (AddsAll number.0 (first_statuses objects.old becomes.now) statuses.old statuses.new) }
+    ensures statuses { OnOk result (AddsAll number.0 (given_by by (first_statuses objects.old becomes.now)) statuses.old statuses.new) }
 {
-    statuses.add(number, Status::plain(50))?;
+    statuses.add(number, Status::plain(50), by)?;
     match becomes {
         DocPosting::Post(posting) => {
-            statuses.add(number, Status::plain(64))?;
-            pass(alloc, objects, statuses, number, posting)
+            statuses.add(number, Status::plain(64), by)?;
+            pass(alloc, objects, statuses, by, number, posting)
         }
-        DocPosting::Waits => statuses.add(number, Status::plain(64)),
-        DocPosting::Errors => statuses.add(number, Status::plain(56)),
+        DocPosting::Waits => statuses.add(number, Status::plain(64), by),
+        DocPosting::Errors => statuses.add(number, Status::plain(56), by),
     }
 }
 
-/// A document is passed to the application: 62, and what came of it.
+/// A document is passed to the application by the record of a number: 62, and what came of it.
 fn pass(
     alloc: Global,
     objects: &mut Objects,
     statuses: &mut StatusLog,
+    by: u64,
     number: DocNum,
     posting: &Posting,
 ) -> Result<(), OutOfMemory>
     ensures objects { OnOk result (objects.new ≡ applied posting.now objects.old) }
-    ensures statuses { OnOk result (AddsAll number.0 (plain 62 ∷ status_of (outcome_of posting.now objects.old) ∷ []) statuses.old statuses.new) }
+    ensures statuses { OnOk result (AddsAll number.0 (given_by by (plain 62 ∷ status_of (outcome_of posting.now objects.old) ∷ []))
+        statuses.old statuses.new) }
 {
-    statuses.add(number, Status::plain(62))?;
+    statuses.add(number, Status::plain(62), by)?;
     let outcome = apply(alloc, objects, posting)?;
-    statuses.add(number, status_of(outcome))
+    statuses.add(number, status_of(outcome), by)
 }
 
 /// The status by what came of a posting.

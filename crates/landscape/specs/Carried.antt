@@ -1,12 +1,13 @@
 -- What commands ask for at the systems of a landscape, and how they are carried out.
 use Rattle.std.specs.Prelude.{◌≡◌, ◌⊎◌, ℕ, List, Some, None, Result, Ok, Err, if◌then◌else◌, ◌-◌, length, slice_get}
-use Rattle.std.specs.Option.{unwrap_or}
+use Rattle.std.specs.Option.{option_map_or}
 use Rattle.ale_volumes.specs.Disk.{Disk}
 use Rattle.ale_volumes.specs.declared.volume.Volume.{Volume as OneVolume}
 use Rattle.unit_core.specs.declared.records.Record.{Record}
 use Rattle.unit_core.specs.declared.records.Record.TheVariants.{Commit}
 use Rattle.status_log.specs.declared.refusal.Refusal.{Refusal}
 use Rattle.status_log.specs.declared.status.Status.{Status}
+use Rattle.status_log.specs.declared.status_at.StatusAt.{StatusAt}
 use Rattle.status_log.specs.Statuses.{plain}
 use Rattle.status_log.specs.declared.refusal.Refusal.TheVariants.{N2, N10, Volume, OutOfMemory}
 use Rattle.trfc_protocol.specs.declared.event.Event.{Event}
@@ -52,8 +53,8 @@ abbrev pub sent_counts : Gathered → Sent
 sent_counts counts = record { documents = counts.documents; units = counts.units }
 
 -- the last of some statuses; one of code 0 where there is none
-abbrev pub last_status : List Status → Status
-last_status statuses = unwrap_or (slice_get statuses (length statuses - 1)) (plain 0)
+abbrev pub last_status : List StatusAt → Status
+last_status statuses = option_map_or (λ one. one.status) (slice_get statuses (length statuses - 1)) (plain 0)
 
 -- the last status of an inbound document of a system that is up
 abbrev pub status_at : World ModelRules → ℕ → ℕ → Status

@@ -15,7 +15,7 @@ use crate::wanted::Wanted;
 use ale_base::{Items, OutOfMemory, SystemNo, Tid, Way};
 use document_state::Made;
 use outbound_build::Added;
-use status_log::{Refusal, Status};
+use status_log::{Refusal, Status, StatusAt};
 use std::alloc::Global;
 use unit_core::{AleUnit, Record};
 use unit_landscape::{AppendEnd, Late, LateEnd, OperatorEnd};
@@ -125,11 +125,11 @@ pub(crate) fn way_at(system: SystemNo, tid: Tid) -> Way
 }
 
 /// The last of some statuses; one of code 0 where there is none.
-pub(crate) fn last_of(statuses: &[Status]) -> Status
+pub(crate) fn last_of(statuses: &[StatusAt]) -> Status
     ensures { result ≡ last_status statuses.now }
 {
     match statuses.last() {
         None => Status::plain(0),
-        Some(status) => *status,
+        Some(one) => one.status,
     }
 }

@@ -4,21 +4,22 @@ use Rattle.ale_base.specs.declared.way.Way.TheVariants.{Outgoing, Incoming}
 use Rattle.idoc_record.specs.declared.control_field.ControlField.TheVariants.{Mestyp, Rcvprn, Sndprn}
 use Rattle.idoc_record.specs.Control.{field_of}
 use Rattle.status_log.specs.declared.line.DocLine.{DocLine}
-use Rattle.status_log.specs.declared.status.Status.{Status}
+use Rattle.status_log.specs.declared.status_at.StatusAt.{StatusAt}
+use Rattle.status_log.specs.Statuses.{bare}
 use Rattle.unit_core.specs.declared.records.Record.{Record}
 use Rattle.outbound_build.specs.declared.added.OutDocument.{OutDocument}
 use Rattle.inbound_post.specs.Application.{Arrived}
 use Rattle.document_state.specs.OfLog.{sent_by, applied_by}
 
 -- the line of the outbound document of a number, by the statuses of each: its partner is the system to which it was sent
-abbrev pub sent_line : (ℕ → List Status) → ℕ → OutDocument → DocLine
+abbrev pub sent_line : (ℕ → List StatusAt) → ℕ → OutDocument → DocLine
 sent_line statuses number one =
     record {
       way = Outgoing;
       doc = record { 0 = number };
       partner = field_of one.document.control Rcvprn;
       message = field_of one.document.control Mestyp;
-      statuses = statuses number;
+      statuses = bare (statuses number);
     }
 
 -- the line of the inbound document of a number: its partner is the system from which it came
@@ -29,7 +30,7 @@ arrived_line number one =
       doc = record { 0 = number };
       partner = field_of one.document.control Sndprn;
       message = field_of one.document.control Mestyp;
-      statuses = one.statuses;
+      statuses = bare one.statuses;
     }
 
 -- the lines of documents in order, of which the first has this number

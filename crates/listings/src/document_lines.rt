@@ -4,6 +4,7 @@ ghost use Rattle.std.specs.Prelude.{◌≡◌, ◌<◌, ◌++◌, [], suc, List,
 ghost use Rattle.std.specs.List.{cons_option};
 ghost use Rattle.std.specs.Option.{option_map};
 ghost use Rattle.idoc_record.specs.Control.{field_of};
+ghost use Rattle.status_log.specs.Statuses.{bare};
 ghost use Rattle.unit_core.specs.declared.records.Record.{Record};
 ghost use Rattle.outbound_build.specs.Statuses.{Tracked};
 ghost use Rattle.outbound_build.specs.Tables.{AreTablesOf as AreSent};
@@ -17,7 +18,7 @@ use document_state::DocumentTables;
 use idoc_record::{Control, ControlField};
 use inbound_post::ApplicationTables;
 use outbound_build::OutboundTables;
-use status_log::{DocLine, Status};
+use status_log::{DocLine, Status, StatusAt};
 use std::alloc::Global;
 
 /// The documents of a system: the outbound ones, and then the inbound ones, each by number from 1, with the other system, the message type
@@ -136,14 +137,14 @@ fn line_of(
     doc: DocNum,
     control: &Control,
     partner: ControlField,
-    statuses: &[Status],
+    statuses: &[StatusAt],
 ) -> Result<DocLine, OutOfMemory>
     ensures { IfOk result (λ line. line ≡ record {
       way = way;
       doc = doc;
       partner = field_of control.now partner;
       message = field_of control.now ControlField.Mestyp;
-      statuses = statuses.now;
+      statuses = bare statuses.now;
     }) }
 {
     Ok(DocLine {
@@ -151,6 +152,17 @@ fn line_of(
         doc,
         partner: Items::from_slice(alloc, control.get(partner))?,
         message: Items::from_slice(alloc, control.get(ControlField::Mestyp))?,
-        statuses: Items::from_slice(alloc, statuses)?,
+        statuses: bare(alloc, statuses)?,
     })
+}
+
+/// The statuses alone, without the numbers of their records.
+fn bare(alloc: Global, statuses: &[StatusAt]) -> Result<Items<Status>, OutOfMemory>
+    ensures { IfOk result (λ alone. alone ≡ bare statuses.now) }
+{
+    let mut alone = Items::new(alloc);
+    for one in statuses {
+        alone.push(one.status)?;
+    }
+    Ok(alone)
 }

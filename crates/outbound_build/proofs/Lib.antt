@@ -36,6 +36,8 @@ pub mod GetsLemmas
 pub mod TablesLemmas
 -- one more record of a log
 pub mod TrackedLemmas
+-- the statuses of the documents of a log, in the order of its records
+pub mod GivenLemmas
 -- the queues of the units that a record adds
 pub mod QueuedLemmas
 -- whom what a record adds is for

@@ -6,7 +6,7 @@ use Rattle.std.specs.Option.{unwrap_or}
 use Rattle.ale_base.specs.declared.doc_num.DocNum.{DocNum}
 use Rattle.dist_model.specs.declared.lists.Lists.{Lists}
 use Rattle.unit_core.specs.declared.records.Record.{Record}
-use Rattle.unit_core.specs.declared.records.Record.TheVariants.{Dispatch, Done}
+use Rattle.unit_core.specs.declared.records.Record.TheVariants.{Commit, Dispatch, Done}
 use Rattle.outbound_build.specs.declared.added.Added.{Added}
 use Rattle.outbound_build.specs.declared.added.Fate.{Fate}
 use Rattle.outbound_build.specs.declared.added.Fate.TheVariants.{Sent, Waits, Refused}
@@ -14,7 +14,8 @@ use Rattle.outbound_build.specs.declared.added.OutDocument.{OutDocument}
 use Rattle.outbound_build.specs.declared.added.OutUnit.{OutUnit}
 use Rattle.outbound_build.specs.Committed.{Past, adds, no_past, past_with}
 use Rattle.status_log.specs.declared.status.Status.{Status}
-use Rattle.status_log.specs.Statuses.{plain}
+use Rattle.status_log.specs.declared.status_at.StatusAt.{StatusAt}
+use Rattle.status_log.specs.Statuses.{given_by, plain}
 
 -- the statuses of a document as it is made: 01 and 30, and 03 where a unit carries it at once; 01 and 29 where the name of a queue is
 -- refused
@@ -55,17 +56,19 @@ passed_in carried added _ doc = []
 abbrev pub gets : List (List DocNum) → Added → Record → ℕ → List Status
 gets carried added next doc = made_for added.documents doc ++ passed_in carried added next doc
 
--- what is known behind some records, and the statuses of each document
+-- what is known behind some records, how many these are, and the statuses of each document, with the numbers of their records
 pub record Tracked : Type 0 where
   pub past : Past
-  pub statuses : ℕ → List Status
+  pub records : ℕ
+  pub statuses : ℕ → List StatusAt
 
 -- the same behind one more record that adds this
 abbrev pub tracked_with : Tracked → Record → Added → Tracked
 tracked_with tracked next added =
     record {
       past = past_with tracked.past next added;
-      statuses = λ doc. tracked.statuses doc ++ gets (carried_in tracked.past.units) added next doc;
+      records = suc tracked.records;
+      statuses = λ doc. tracked.statuses doc ++ given_by (suc tracked.records) (gets (carried_in tracked.past.units) added next doc);
     }
 
 -- the same behind one more record
@@ -74,8 +77,15 @@ tracked_after models tracked next = tracked_with tracked next (adds models track
 
 -- no records, and no statuses
 abbrev pub nothing_tracked : Tracked
-nothing_tracked = record { past = no_past; statuses = λ doc. [] }
+nothing_tracked = record { past = no_past; records = 0; statuses = λ doc. [] }
 
 -- what is known behind a log whose models these are, and the statuses of its outbound documents
 unfoldable pub tracked_of : List Lists → List Record → Tracked
 tracked_of models log = fold (tracked_after models) nothing_tracked log
+
+-- the codes of the statuses that a record may give to outbound documents
+abbrev pub codes_of : Record → List ℕ
+codes_of (Commit origin docs) = 1 ∷ 30 ∷ 29 ∷ 3 ∷ []
+codes_of Dispatch = 3 ∷ []
+codes_of (Done tid) = 12 ∷ []
+codes_of _ = []

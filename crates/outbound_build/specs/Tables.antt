@@ -9,4 +9,5 @@ pub record AreTablesOf (tracked : Tracked) (tables : OutboundTables) : Type 0 wh
   pub outbox : tables.outbox ≡ tracked.past.outbox
   pub documents : tables.documents ≡ tracked.past.documents
   pub carried : tables.carried ≡ carried_in tracked.past.units
+  pub records : tables.records ≡ tracked.records
   pub statuses : (doc : ℕ) → statuses_of doc tables.statuses ≡ tracked.statuses doc

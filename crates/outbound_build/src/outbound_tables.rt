@@ -4,7 +4,7 @@ use crate::adding::{add_made, pass, push_carried};
 use crate::{AddFault, Added, OutDocument, Outbox};
 use ale_base::{DocNum, Items, OutOfMemory, SystemNo};
 use dist_model::Model;
-use status_log::{Status, StatusLog};
+use status_log::{StatusAt, StatusLog, number_after};
 use std::alloc::Global;
 use unit_core::Record;
 
@@ -18,18 +18,23 @@ pub struct OutboundTables {
     documents: Items<OutDocument>,
     /// The numbers of the documents that each unit carries, by the numbers of the units from 1.
     carried: Items<Items<DocNum>>,
+    /// How many records there are.
+    records: u64,
     statuses: StatusLog,
 }
 
 impl OutboundTables {
-    ghost use Rattle.std.specs.Prelude.{◌≡◌, ◌≤◌, ◌<◌, ℕ, Err, IfOk, OnOk, length, slice_get};
+    ghost use Rattle.std.specs.Prelude.{◌≡◌, ◌≤◌, ◌<◌, ℕ, List, Err, IfOk, OnOk, length, slice_get};
     ghost use Rattle.std.specs.Option.{option_copied};
+    ghost use Rattle.dist_model.specs.declared.lists.Lists.{Lists};
+    ghost use Rattle.status_log.specs.Statuses.{AreGivenIn};
+    ghost use Rattle.unit_core.specs.declared.records.Record.{Record};
     ghost use Rattle.unit_core.specs.declared.records.Record.TheVariants.{Dispatch};
     ghost use Rattle.outbound_build.specs.Added.{added_by, units_with};
     ghost use Rattle.outbound_build.specs.Addressed.{AreAddressed, AreMadeFor, AreUnitsAddressed};
     ghost use Rattle.outbound_build.specs.Carried.{AreCarried};
     ghost use Rattle.outbound_build.specs.Queued.{AreQueued};
-    ghost use Rattle.outbound_build.specs.Statuses.{Tracked, nothing_tracked, tracked_with};
+    ghost use Rattle.outbound_build.specs.Statuses.{Tracked, codes_of, nothing_tracked, tracked_of, tracked_with};
     ghost use Rattle.outbound_build.specs.Tables.{AreTablesOf};
 
     /// The tables of a log that has no record. It takes no memory.
@@ -40,6 +45,7 @@ impl OutboundTables {
             outbox: Outbox::new(alloc),
             documents: Items::new(alloc),
             carried: Items::new(alloc),
+            records: 0,
             statuses: StatusLog::new(alloc),
         }
     }
@@ -58,9 +64,12 @@ impl OutboundTables {
         self.documents.get(place)
     }
 
-    /// The statuses of the document of a number, in the order in which it got them; none where there is no such document.
-    pub fn statuses(&self, doc: DocNum) -> &[Status]
-        ensures { (tracked : Tracked) → AreTablesOf tracked self.now → result.now ≡ tracked.statuses doc.0 }
+    /// The statuses of the document of a number, in the order in which it got them, each with the number of the record that gave
+    /// it; none where there is no such document.
+    pub fn statuses(&self, doc: DocNum) -> &[StatusAt]
+        ensures are { (tracked : Tracked) → AreTablesOf tracked self.now → result.now ≡ tracked.statuses doc.0 }
+        // Of a whole log they are in the order of its records, and each is of a record that may give it.
+        ensures given { (models : List Lists) (log : List Record) → AreTablesOf (tracked_of models log) self.now → AreGivenIn codes_of log result.now }
     {
         self.statuses.list(doc)
     }
@@ -99,14 +108,18 @@ impl OutboundTables {
         self.outbox.added(alloc, model, system, next)
     }
 
-    /// Takes in a record and what it adds: its documents with their first statuses, and what the record says of those before it.
+    /// Takes in a record and what it adds: its documents with their first statuses, and what the record says of those before it. The
+    /// record is counted first, and what it gives has its number. Past the greatest number of 64 bits memory is wanting.
     pub fn take(&mut self, alloc: Global, next: &Record, added: Added) -> Result<(), OutOfMemory>
         ensures { (tracked : Tracked) → AreTablesOf tracked self.old → OnOk result (AreTablesOf (tracked_with tracked next.now added) self.new) }
     {
+        let number = number_after(self.records)?;
+        self.records = number;
         self.outbox.take(alloc, next, &added)?;
-        add_made(&mut self.statuses, added.documents.as_slice())?;
+        add_made(&mut self.statuses, number, added.documents.as_slice())?;
         pass(
             &mut self.statuses,
+            number,
             self.carried.as_slice(),
             next,
             added.units.as_slice(),

@@ -1,25 +1,60 @@
--- The statuses of documents, as a table of them is seen.
-use Rattle.std.specs.Prelude.{◌≡◌, ℕ, ◌==◌, List, [], ◌∷◌, ◌++◌, slice_get, if◌then◌else◌}
+-- The statuses of documents, each with the number of the record that gave it, as a table of them is seen.
+use Rattle.std.specs.Prelude.{⊤, ◌≡◌, ◌≤◌, ℕ, zero, suc, ◌==◌, Contains, Option, Some, None, List, [], ◌∷◌, ◌++◌, map, slice_get, if◌then◌else◌}
+use Rattle.std.specs.List.{AllByRecursion}
 use Rattle.std.specs.Option.{unwrap_or}
 use Rattle.status_log.specs.declared.status.Status.{Status}
+use Rattle.status_log.specs.declared.status_at.StatusAt.{StatusAt}
 
 -- the statuses of a document, in the order in which it got them; none before the first. A table has those of the document of a
 -- number at the place of that number
-abbrev pub statuses_of : ℕ → List (List Status) → List Status
+abbrev pub statuses_of : ℕ → List (List StatusAt) → List StatusAt
 statuses_of doc table = unwrap_or (slice_get table doc) []
 
 -- a document got a status behind those that it had; all others have what they had
-pub record Adds (doc : ℕ) (status : Status) (before after : List (List Status)) : Type 0 where
-  pub added : (other : ℕ) → statuses_of other after ≡ (if other == doc then statuses_of other before ++ status ∷ [] else statuses_of other before)
+pub record Adds (doc : ℕ) (one : StatusAt) (before after : List (List StatusAt)) : Type 0 where
+  pub added : (other : ℕ) → statuses_of other after ≡ (if other == doc then statuses_of other before ++ one ∷ [] else statuses_of other before)
 
 -- each document has what it had
-pub record Keeps (before after : List (List Status)) : Type 0 where
+pub record Keeps (before after : List (List StatusAt)) : Type 0 where
   pub kept : (other : ℕ) → statuses_of other after ≡ statuses_of other before
 
 -- a status that has no reason
 abbrev pub plain : ℕ → Status
 plain code = record { code = code; reason = 0 }
 
+-- a status that the record of a number gives
+abbrev pub given : ℕ → Status → StatusAt
+given number status = record { status = status; number = number }
+
+-- the statuses that the record of a number gives
+abbrev pub given_by : ℕ → List Status → List StatusAt
+given_by number statuses = map (given number) statuses
+
+-- the statuses alone
+abbrev pub bare : List StatusAt → List Status
+bare statuses = map (λ one. one.status) statuses
+
 -- a document got statuses behind those that it had; all others have what they had
-pub record AddsAll (doc : ℕ) (more : List Status) (before after : List (List Status)) : Type 0 where
+pub record AddsAll (doc : ℕ) (more : List StatusAt) (before after : List (List StatusAt)) : Type 0 where
   pub added : (other : ℕ) → statuses_of other after ≡ (if other == doc then statuses_of other before ++ more else statuses_of other before)
+
+-- ---- a law, for any log and whatever its records may give
+
+-- along these statuses the numbers never fall
+abbrev pub AreInOrder : List StatusAt → Type 0
+AreInOrder [] = ⊤
+AreInOrder (one ∷ later) = AllByRecursion (λ other. one.number ≤ other.number) later × AreInOrder later
+
+-- the record of a number, from 1; none where the log has no such record
+abbrev pub record_at : {R : Type 0} → List R → ℕ → Option R
+record_at log zero = None
+record_at log (suc place) = slice_get log place
+
+-- the record of the number of a status is in the log, and has the code of the status among those that it may give
+abbrev pub IsGivenIn : {R : Type 0} → (R → List ℕ) → List R → StatusAt → Type 0
+IsGivenIn {R} codes log one = (next : R) × (record_at log one.number ≡ Some next) × Contains (codes next) one.status.code
+
+-- statuses are those of a document of this log: in the order of its records, and each of a record that may give it
+pub record AreGivenIn {R : Type 0} (codes : R → List ℕ) (log : List R) (statuses : List StatusAt) : Type 0 where
+  pub in_order : AreInOrder statuses
+  pub each : AllByRecursion (IsGivenIn codes log) statuses

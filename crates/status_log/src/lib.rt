@@ -1,8 +1,8 @@
 //! What commands answer and list: statuses of documents, refusals, causes, and the lines of listings.
 //!
 //! Contract: each refusal has the number by which an operator knows it (`Refusal::number`), exactly where it is one of the
-//! numbered ones; and a table of statuses has for each document exactly those that it got (`StatusLog`). The definitions are in
-//! `specs/`: `Refusal`, `Statuses`.
+//! numbered ones; and a table of statuses has for each document exactly those that it got, each with the number of its record
+//! (`StatusLog`). The definitions are in `specs/`: `Refusal`, `Statuses`.
 #![tactic(auto)]
 
 mod cause;
@@ -11,6 +11,7 @@ mod listing;
 mod refusal;
 mod show;
 mod status;
+mod status_at;
 mod status_table;
 
 pub use cause::Cause;
@@ -19,4 +20,5 @@ pub use listing::Listing;
 pub use refusal::Refusal;
 pub use show::Show;
 pub use status::Status;
+pub use status_at::{StatusAt, number_after};
 pub use status_table::StatusLog;

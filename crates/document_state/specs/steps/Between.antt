@@ -6,6 +6,7 @@ use Rattle.unit_core.specs.declared.records.Record.{Record}
 use Rattle.log_models.specs.InForce.{models_in}
 use Rattle.said_models.specs.OfLog.{model_of}
 use Rattle.outbound_build.specs.Tables.{AreTablesOf as AreSent}
+use Rattle.inbound_post.specs.Application.{counted}
 use Rattle.inbound_post.specs.Tables.{AreTablesOf as AreApplied}
 use Rattle.document_state.specs.declared.document_tables.DocumentTables.{DocumentTables}
 use Rattle.document_state.specs.OfLog.{sent_by, applied_by}
@@ -19,7 +20,7 @@ pub record IsBetween (log : List Record) (next : Record) (tables : DocumentTable
   pub begun : IsTrue tables.has_begun ↔ (1 ≤ models_in log)
   pub model : option_map arc_value tables.model ≡ model_of log
   pub sent : AreSent (sent_by (log ++ next ∷ [])) tables.outbound
-  pub applied : AreApplied (applied_under (model_of log) (applied_by log).system (applied_by log).application next) tables.inbound
+  pub applied : AreApplied (applied_under (model_of log) (applied_by log).system (counted (applied_by log).application) next) tables.inbound
 
 -- what was made goes with a record under the model before it; nothing needs to go with one that neither takes documents nor adds any
 abbrev pub GoesUnder : List Record → Record → Made → Type 0

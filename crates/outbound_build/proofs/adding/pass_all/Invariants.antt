@@ -6,4 +6,4 @@ use Rattle.outbound_build.specs.steps.Adding.{Gets}
 use Rattle.outbound_build.proofs.adding.pass_all.Given as goal
 
 abbrev pub invariant-loop-one : goal.invariant-loop-one
-invariant-loop-one l = Gets (λ doc. flat_map (λ one. passed_for (plain 3) one.documents doc) (take l.one-index l.units)) l.fn.statuses l.statuses
+invariant-loop-one l = Gets l.by (λ doc. flat_map (λ one. passed_for (plain 3) one.documents doc) (take l.one-index l.units)) l.fn.statuses l.statuses

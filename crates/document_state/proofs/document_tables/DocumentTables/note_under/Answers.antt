@@ -14,4 +14,5 @@ returns c log are goes =
       outbound = c.take.new.self;
       inbound = c.apply.new.inbound;
     })
-    c.in_ok-added.added are goes refl refl c.in_ok-added.ensures.added c.in_ok-added.ensures.applied)
+    c.count_record.new.self c.in_ok-added.added are goes refl refl c.in_ok-added.ensures.added c.in_ok-count_record.ensures
+    c.in_ok-added.ensures.applied)

@@ -24,7 +24,8 @@ returns c application are =
       statuses = c.receive.new.statuses;
       objects = c.receive.new.objects;
       pointers = tables.pointers;
+      records = tables.records;
     } in
     let made : AreTablesOf (arrived sender doc c.args.becomes.now application) after = record
-    { documents = with ∙ is.documents; statuses = is.statuses; objects = is.objects; pointers = is.pointers } in
+    { documents = with ∙ is.documents; statuses = is.statuses; objects = is.objects; pointers = is.pointers; records = is.records } in
     made)
