@@ -1,10 +1,9 @@
 -- A document that had a posting keeps one, whichever model comes into force: so what a legal log passes to the application again is read.
-use Rattle.std.specs.Prelude.{is_none, not, slice_get}
+use Rattle.std.specs.Prelude.{not, slice_get}
 use Rattle.std.specs.List.{AllByRecursion}
 use Rattle.std.specs.Option.{option_map_or}
 use Rattle.std.proofs.Common.{◌≡◌, ◌⊎◌, inl, inr, ℕ, zero, suc, true, false, Option, Some, None, List, [], ◌∷◌, ◌++◌, refl, sym, ap, subst, ◌∙◌}
 use Rattle.std.proofs.lemmas.Bool.{and_parts}
-use Rattle.std.proofs.lemmas.Option.{same_Some}
 use Rattle.ale_base.proofs.ListLemmas.{AllByRecursion-at, AllByRecursion-weaker}
 use Rattle.ale_base.proofs.OptionLemmas.{none_or_some}
 use Rattle.dist_model.specs.declared.lists.Lists.{Lists}
@@ -12,13 +11,11 @@ use Rattle.dist_model.specs.Model.{IsModel}
 use Rattle.unit_core.specs.declared.raw_unit_doc.RawUnitDoc.{RawUnitDoc}
 use Rattle.unit_core.specs.declared.records.Record.{Record}
 use Rattle.unit_core.specs.declared.records.Record.TheVariants as log
-use Rattle.model_growth.specs.Growth.{IsGrown, first_unkept}
-use Rattle.model_growth.proofs.GrowthLemmas.{none_unkept}
+use Rattle.model_growth.specs.Growth.{IsGrown}
 use Rattle.model_growth.proofs.NumberLemmas.{found-renamed, message-renamed, renamed, renamed-apart}
-use Rattle.said_models.specs.Said.{said}
 use Rattle.said_models.specs.OfLog.{model_of, text_of}
 use Rattle.said_models.proofs.OfLogLemmas.{model_of-known, model_of-stay}
-use Rattle.inbound_post.specs.Application.{Application, Arrived, application_after, counted, past_of, statuses_at}
+use Rattle.inbound_post.specs.Application.{Application, Arrived, counted, past_of, statuses_at}
 use Rattle.inbound_post.specs.Reading.{posting}
 use Rattle.inbound_post.proofs.KeptPostingLemmas.{posting-renamed}
 use Rattle.inbound_post.proofs.StaysReadLemmas.{AreRead, IsError, IsNoError, IsRead, PassesNoError, application-read}
@@ -26,7 +23,7 @@ use Rattle.application_rules.specs.Last.{last_is}
 use Rattle.application_rules.proofs.LastLemmas.{last_is-second}
 use Rattle.trfc_protocol.specs.Legal.{IsLegal, may_follow}
 use Rattle.document_state.specs.OfLog.{applied_by}
-use Rattle.document_state.specs.Allowed.{allowed_under, may_replace, stands_at, waits_any}
+use Rattle.document_state.specs.Allowed.{may_replace, stands_at, waits_any}
 use Rattle.document_state.specs.Meaning.{model_meaning}
 use Rattle.document_state.specs.steps.Applying.{applied_under, renumbered_at}
 use Rattle.document_state.specs.LawfulLemmas.{allows-by, legal-keeps}

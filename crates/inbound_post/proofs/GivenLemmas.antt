@@ -1,9 +1,11 @@
--- The statuses of inbound documents are in the order of the records of their log, and each is of a record that may give it.
-use Rattle.std.specs.Prelude.{Contains, fold, slice_get, slice_set}
+-- Which records of their log gave the statuses of inbound documents.
+use Rattle.std.specs.Prelude.{◌==◌, Contains, fold, slice_get, slice_set, if◌then◌else◌}
 use Rattle.std.specs.List.{AllByRecursion}
 use Rattle.std.specs.Option.{option_map_or}
-use Rattle.std.proofs.Common.{◌≡◌, ℕ, zero, suc, Option, Some, None, List, [], ◌∷◌, ◌++◌, length, refl, ap, sym, subst, ◌∙◌, append_assoc, append-nil}
-use Rattle.ale_base.proofs.ListLemmas.{AllByRecursion-append, AllByRecursion-at, AllByRecursion-weaker}
+use Rattle.std.proofs.Common.{◌≡◌, ℕ, zero, suc, Option, Some, None, List, [], ◌∷◌, ◌++◌, length, take, refl, ap, sym, subst, ◌∙◌}
+use Rattle.std.proofs.Common.{arith, Bool, true, false}
+use Rattle.std.proofs.lemmas.List.{length_push}
+use Rattle.ale_base.proofs.ListLemmas.{AllByRecursion-weaker}
 use Rattle.ale_base.proofs.MemberLemmas.{Contains-here, Contains-there}
 use Rattle.dist_model.specs.declared.lists.Lists.{Lists}
 use Rattle.unit_core.specs.declared.ale_unit.AleUnit.{AleUnit}
@@ -18,43 +20,56 @@ use Rattle.object_store.specs.declared.posting.Posting.{Posting}
 use Rattle.object_store.specs.Objects.{ObjectsOf}
 use Rattle.object_store.specs.Posting.{outcome_of}
 use Rattle.status_log.specs.declared.status.Status.{Status}
-use Rattle.status_log.specs.Statuses.{AreGivenIn, plain}
-use Rattle.status_log.proofs.GivenLemmas.{AreGivenIn-none, AreGivenIn-nothing, AreGivenIn-push}
+use Rattle.status_log.specs.declared.status_at.StatusAt.{StatusAt}
+use Rattle.status_log.specs.Statuses.{given_by, plain}
+use Rattle.status_log.specs.Given.{AreGivenIn, up_to}
+use Rattle.status_log.proofs.GivenLemmas.{Gives, Gives-both, Gives-none, from_front, given-log, stood-log}
 use Rattle.inbound_post.specs.declared.prepared.DocPosting.{DocPosting}
 use Rattle.inbound_post.specs.declared.prepared.DocPosting.TheVariants as becomes
 use Rattle.inbound_post.specs.Application.{Application, Arrived, Past, application_after, codes_of, counted, executed_if, first_statuses, next_application}
-use Rattle.inbound_post.specs.Application.{no_past, passed, passed_again, passed_at, past_after, past_of, status_of, statuses_at, with_document, with_unit}
+use Rattle.inbound_post.specs.Application.{no_past, passed, passed_again, passed_at, past_of, status_of, statuses_at, with_document, with_statuses}
+use Rattle.inbound_post.specs.Application.{with_unit}
 use Rattle.inbound_post.specs.Prepared.{posting_from}
 use Rattle.inbound_post.specs.Reading.{posting}
+use Rattle.inbound_post.proofs.ApplicationLemmas.{past_of-push}
+use Rattle.inbound_post.proofs.TablesLemmas.{at_push, at_set}
 
 -- the code of a status is among these
 abbrev May : List ℕ → Status → Type 0
 May codes status = Contains codes status.code
+
+-- the codes that a document may get as it comes in
+abbrev coming : List ℕ
+coming = 50 ∷ 64 ∷ 62 ∷ 53 ∷ 51 ∷ 56 ∷ []
+
+-- and those as it is passed to the application again
+abbrev again : List ℕ
+again = 62 ∷ 53 ∷ 51 ∷ 56 ∷ []
 
 came : (given : Outcome) → May (53 ∷ 51 ∷ 56 ∷ []) (status_of given)
 came outcome.Posted = Contains-here 53 (51 ∷ 56 ∷ [])
 came (outcome.Refused reason) = Contains-there 53 (51 ∷ 56 ∷ []) 51 (Contains-here 51 (56 ∷ []))
 
 -- what a document gets as it is passed to the application
-again_may : (given : Outcome) → AllByRecursion (May (62 ∷ 53 ∷ 51 ∷ 56 ∷ [])) (plain 62 ∷ status_of given ∷ [])
+again_may : (given : Outcome) → AllByRecursion (May again) (plain 62 ∷ status_of given ∷ [])
 again_may given = (
   Contains-here 62 (53 ∷ 51 ∷ 56 ∷ []),
   (Contains-there 62 (53 ∷ 51 ∷ 56 ∷ []) (status_of given).code (came given), tt),
 )
 
-unread_may : AllByRecursion (May (62 ∷ 53 ∷ 51 ∷ 56 ∷ [])) (plain 56 ∷ [])
+unread_may : AllByRecursion (May again) (plain 56 ∷ [])
 unread_may = (
   Contains-there 62 (53 ∷ 51 ∷ 56 ∷ []) 56 (Contains-there 53 (51 ∷ 56 ∷ []) 56 (Contains-there 51 (56 ∷ []) 56 (Contains-here 56 []))),
   tt,
 )
 
 -- what a document gets as it comes in
-first_may : (objects : ObjectsOf) (made : DocPosting) → AllByRecursion (May (50 ∷ 64 ∷ 62 ∷ 53 ∷ 51 ∷ 56 ∷ [])) (first_statuses objects made)
+first_may : (objects : ObjectsOf) (made : DocPosting) → AllByRecursion (May coming) (first_statuses objects made)
 first_may objects (becomes.Post posting) = (
   Contains-here 50 (64 ∷ 62 ∷ 53 ∷ 51 ∷ 56 ∷ []),
   (
     Contains-there 50 (64 ∷ 62 ∷ 53 ∷ 51 ∷ 56 ∷ []) 64 (Contains-here 64 (62 ∷ 53 ∷ 51 ∷ 56 ∷ [])),
-    AllByRecursion-weaker (May (62 ∷ 53 ∷ 51 ∷ 56 ∷ [])) (May (50 ∷ 64 ∷ 62 ∷ 53 ∷ 51 ∷ 56 ∷ []))
+    AllByRecursion-weaker (May again) (May coming)
         (plain 62 ∷ status_of (outcome_of posting objects) ∷ [])
         (λ status has. Contains-there 50 (64 ∷ 62 ∷ 53 ∷ 51 ∷ 56 ∷ []) status.code
         (Contains-there 64 (62 ∷ 53 ∷ 51 ∷ 56 ∷ []) status.code has))
@@ -67,100 +82,92 @@ first_may objects becomes.Waits = (
 )
 first_may objects becomes.Errors = (
   Contains-here 50 (64 ∷ 62 ∷ 53 ∷ 51 ∷ 56 ∷ []),
-  AllByRecursion-weaker (May (62 ∷ 53 ∷ 51 ∷ 56 ∷ [])) (May (50 ∷ 64 ∷ 62 ∷ 53 ∷ 51 ∷ 56 ∷ [])) (plain 56 ∷ [])
+  AllByRecursion-weaker (May again) (May coming) (plain 56 ∷ [])
       (λ status has. Contains-there 50 (64 ∷ 62 ∷ 53 ∷ 51 ∷ 56 ∷ []) status.code (Contains-there 64 (62 ∷ 53 ∷ 51 ∷ 56 ∷ []) status.code has))
       unread_may,
 )
 
--- the statuses of a document are given in a log
-abbrev IsGiven : List Record → Arrived → Type 0
-IsGiven records document = AreGivenIn codes_of records document.statuses
+-- a record gives the document that it names what it may, and no other one anything
+if_named : (b : Bool) (number : ℕ) (before : List StatusAt) (more : List Status) → AllByRecursion (May again) more
+    → Gives (if b then again else []) number before (if b then before ++ given_by number more else before)
+if_named true number before more may = record { more = more; behind = refl; may = may }
+if_named false number before more may = Gives-none [] number before
 
-set_given : (records : List Record) (documents : List Arrived) (place : ℕ) (new : Arrived) → AllByRecursion (IsGiven records) documents
-    → IsGiven records new → AllByRecursion (IsGiven records) (slice_set documents place new)
-set_given records [] place new all is = tt
-set_given records (document ∷ documents) zero new all is = (is, all.1)
-set_given records (document ∷ documents) (suc place) new all is = (all.0, set_given records documents place new all.1 is)
+-- a document that comes in gets what it may, and no other one gets anything
+if_comes : (b : Bool) (number : ℕ) (before : List StatusAt) (more : List Status) → AllByRecursion (May coming) more
+    → Gives coming number before (if b then before ++ given_by number more else before)
+if_comes true number before more may = record { more = more; behind = refl; may = may }
+if_comes false number before more may = Gives-none coming number before
 
--- one more record leaves what those before it gave
-none_given : (records : List Record) (next : Record) (documents : List Arrived) → AllByRecursion (IsGiven records) documents →
-    AllByRecursion (IsGiven (records ++ next ∷ [])) documents
-none_given records next documents all =
-    AllByRecursion-weaker (IsGiven records) (IsGiven (records ++ next ∷ [])) documents
-    (λ document is. AreGivenIn-none codes_of records next document.statuses is) all
+-- ---- what one record gives to the document of a number, of an application that has counted it
+module _ (doc : ℕ) where
+  abbrev at : Application → List StatusAt
+  at application = statuses_at application.documents doc
 
--- a record is being taken that is counted as the one behind a log
-module _ (records : List Record) (next : Record) where
-  -- documents come in by it
-  abbrev BringsIn : Type 0
-  BringsIn = codes_of next ≡ 50 ∷ 64 ∷ 62 ∷ 53 ∷ 51 ∷ 56 ∷ []
+  come-gives : (model : Lists) (system sender : ℕ) (docs : List RawUnitDoc) (application : Application)
+      → Gives coming application.records (at application) (at (fold (with_document model system sender) application docs))
+  come-gives model system sender [] application = Gives-none coming application.records (at application)
+  come-gives model system sender (one ∷ docs) application =
+      let becomes = posting_from model system sender one in
+      let more = first_statuses application.objects becomes in
+      let new : Arrived = record { sender = sender; document = one; statuses = given_by application.records more } in
+      let between = with_document model system sender application one in
+      Gives-both coming application.records (at application) (at between) (at (fold (with_document model system sender) between docs))
+      (subst (Gives coming application.records (at application)) (sym (at_push application.documents new doc))
+      (if_comes (doc == suc (length application.documents)) application.records (at application) more (first_may application.objects becomes)))
+      (come-gives model system sender docs between)
 
-  come_given : (model : Lists) (system sender : ℕ) (docs : List RawUnitDoc) (application : Application) → BringsIn
-      → application.records ≡ suc (length records) → AllByRecursion (IsGiven (records ++ next ∷ [])) application.documents
-      → AllByRecursion (IsGiven (records ++ next ∷ [])) (fold (with_document model system sender) application docs).documents
-  come_given model system sender [] application brings count all = all
-  come_given model system sender (doc ∷ docs) application brings count all =
-      come_given model system sender docs (with_document model system sender application doc) brings count
-      (AllByRecursion-append (IsGiven (records ++ next ∷ [])) application.documents _ all (
-        AreGivenIn-push codes_of records next [] application.records (first_statuses application.objects (posting_from model system sender doc)) count
-            (subst (λ (codes : List ℕ). AllByRecursion (May codes) (first_statuses application.objects (posting_from model system sender doc))) (sym brings)
-            (first_may application.objects (posting_from model system sender doc)))
-            (AreGivenIn-nothing codes_of records),
-        tt,
-      ))
+  made-gives : (place : ℕ) (document : Arrived) (application : Application) (made : Option Posting) → slice_get application.documents place ≡ Some document
+      → Gives (if doc == suc place then again else []) application.records (at application) (at (passed place document application made))
+  made-gives place document application made here = of_made made
+    where
+      gets : (more : List Status) → AllByRecursion (May again) more
+          → Gives (if doc == suc place then again else []) application.records (at application)
+          (statuses_at (slice_set application.documents place (with_statuses (given_by application.records more) document)) doc)
+      gets more may =
+          subst (Gives (if doc == suc place then again else []) application.records (at application))
+          (sym (at_set application.documents place document (given_by application.records more) doc here))
+          (if_named (doc == suc place) application.records (at application) more may)
 
-  -- a document is passed to the application by it
-  abbrev PassesAgain : Type 0
-  PassesAgain = codes_of next ≡ 62 ∷ 53 ∷ 51 ∷ 56 ∷ []
+      of_made : (made : Option Posting)
+          → Gives (if doc == suc place then again else []) application.records (at application) (at (passed place document application made))
+      of_made None = gets (plain 56 ∷ []) unread_may
+      of_made (Some posting) =
+          gets (plain 62 ∷ status_of (outcome_of posting application.objects) ∷ []) (again_may (outcome_of posting application.objects))
 
-  made_given : (place : ℕ) (document : Arrived) (application : Application) (made : Option Posting) → PassesAgain
-      → application.records ≡ suc (length records) → AllByRecursion (IsGiven records) application.documents → IsGiven records document
-      → AllByRecursion (IsGiven (records ++ next ∷ [])) (passed place document application made).documents
-  made_given place document application None passes count all is =
-      set_given (records ++ next ∷ []) application.documents place _ (none_given records next application.documents all)
-      (AreGivenIn-push codes_of records next document.statuses application.records (plain 56 ∷ []) count
-      (subst (λ (codes : List ℕ). AllByRecursion (May codes) (plain 56 ∷ [])) (sym passes) unread_may) is)
-  made_given place document application (Some posting) passes count all is =
-      set_given (records ++ next ∷ []) application.documents place _ (none_given records next application.documents all)
-      (AreGivenIn-push codes_of records next document.statuses application.records (plain 62 ∷ status_of (outcome_of posting application.objects) ∷ []) count
-      (subst (λ (codes : List ℕ). AllByRecursion (May codes) (plain 62 ∷ status_of (outcome_of posting application.objects) ∷ [])) (sym passes)
-      (again_may (outcome_of posting application.objects))) is)
+  found-gives : (model : Lists) (place : ℕ) (application : Application) (found : Option Arrived) → slice_get application.documents place ≡ found
+      → Gives (if doc == suc place then again else []) application.records (at application) (at (passed_at model place application found))
+  found-gives model place application None here = Gives-none (if doc == suc place then again else []) application.records (at application)
+  found-gives model place application (Some document) here = made-gives place document application (posting model document.document) here
 
-  found_given : (model : Lists) (place : ℕ) (application : Application) (found : Option Arrived) → PassesAgain
-      → application.records ≡ suc (length records) → AllByRecursion (IsGiven records) application.documents
-      → slice_get application.documents place ≡ found
-      → AllByRecursion (IsGiven (records ++ next ∷ [])) (passed_at model place application found).documents
-  found_given model place application None passes count all here = none_given records next application.documents all
-  found_given model place application (Some document) passes count all here =
-      made_given place document application (posting model document.document) passes count all
-      (AllByRecursion-at (IsGiven records) application.documents place document all here)
+  again-gives : (model : Lists) (application : Application) (named : ℕ)
+      → Gives (if doc == named then again else []) application.records (at application) (at (passed_again model application named))
+  again-gives model application zero = Gives-none (if doc == zero then again else []) application.records (at application)
+  again-gives model application (suc place) = found-gives model place application (slice_get application.documents place) refl
 
-  again_given : (model : Lists) (application : Application) (doc : ℕ) → PassesAgain → application.records ≡ suc (length records)
-      → AllByRecursion (IsGiven records) application.documents
-      → AllByRecursion (IsGiven (records ++ next ∷ [])) (passed_again model application doc).documents
-  again_given model application zero passes count all = none_given records next application.documents all
-  again_given model application (suc place) passes count all =
-      found_given model place application (slice_get application.documents place) passes count all refl
+  unit-gives : (model : Lists) (system : ℕ) (application : Application) (found : Option AleUnit)
+      → Gives coming application.records (at application) (at (executed_if model system application found))
+  unit-gives model system application None = Gives-none coming application.records (at application)
+  unit-gives model system application (Some unit) = come-gives model system unit.sender unit.docs application
 
-  unit_given : (model : Lists) (system : ℕ) (application : Application) (found : Option AleUnit) → BringsIn
-      → application.records ≡ suc (length records) → AllByRecursion (IsGiven records) application.documents
-      → AllByRecursion (IsGiven (records ++ next ∷ [])) (executed_if model system application found).documents
-  unit_given model system application None brings count all = none_given records next application.documents all
-  unit_given model system application (Some unit) brings count all =
-      come_given model system unit.sender unit.docs application brings count (none_given records next application.documents all)
+  after-gives : (model : Lists) (system : ℕ) (application : Application) (next : Record)
+      → Gives (codes_of doc next) application.records (at application) (at (application_after model system application next))
+  after-gives model system application (log.Direct unit) = come-gives model system unit.sender unit.docs (with_unit unit application)
+  after-gives model system application (log.Execute tid) = unit-gives model system application (unit_named tid application.received)
+  after-gives model system application (log.App named) = again-gives model application named.0
+  after-gives model system application (log.Repost named) = again-gives model application named.0
+  after-gives model system application next = Gives-none (codes_of doc next) application.records (at application)
 
--- one more record gives what it may
-after_given : (model : Lists) (system : ℕ) (application : Application) (records : List Record) (next : Record)
-    → application.records ≡ suc (length records) → AllByRecursion (IsGiven records) application.documents
-    → AllByRecursion (IsGiven (records ++ next ∷ [])) (application_after model system application next).documents
-after_given model system application records (log.Direct unit) count all =
-    come_given records (log.Direct unit) model system unit.sender unit.docs (with_unit unit application) refl count
-    (none_given records (log.Direct unit) application.documents all)
-after_given model system application records (log.Execute tid) count all =
-    unit_given records (log.Execute tid) model system application (unit_named tid application.received) refl count all
-after_given model system application records (log.App doc) count all = again_given records (log.App doc) model application doc.0 refl count all
-after_given model system application records (log.Repost doc) count all = again_given records (log.Repost doc) model application doc.0 refl count all
-after_given model system application records next count all = none_given records next application.documents all
+  under-gives : (found : Option Lists) (system : ℕ) (application : Application) (next : Record)
+      → Gives (codes_of doc next) application.records (at application)
+      (at (option_map_or (λ model. application_after model system application next) found application))
+  under-gives None system application next = Gives-none (codes_of doc next) application.records (at application)
+  under-gives (Some model) system application next = after-gives model system application next
+
+  next-gives : (models : List Lists) (past : Past) (next : Record)
+      → Gives (codes_of doc next) (suc past.application.records) (at past.application) (at (next_application models past next))
+  next-gives models past (log.Model text) = Gives-none [] (suc past.application.records) (at past.application)
+  next-gives models past next = under-gives (in_force models past.models) past.system (counted past.application) next
 
 -- ---- how many records there are
 
@@ -197,63 +204,64 @@ after_same model system application (log.App doc) = again_same model application
 after_same model system application (log.Repost doc) = again_same model application doc.0
 after_same model system application _ = refl
 
+under_same : (found : Option Lists) (system : ℕ) (application : Application) (next : Record)
+    → (option_map_or (λ model. application_after model system application next) found application).records ≡ application.records
+under_same None system application next = refl
+under_same (Some model) system application next = after_same model system application next
+
+next_same : (models : List Lists) (past : Past) (next : Record) → (next_application models past next).records ≡ suc past.application.records
+next_same models past (log.Model text) = refl
+next_same models past next = under_same (in_force models past.models) past.system (counted past.application) next
+
 -- ---- the whole log
 
--- an application behind a log: how many records it has, and statuses as they may be given
-record IsLawful (records : List Record) (application : Application) : Type 0 where
-  count : application.records ≡ length records
-  given : AllByRecursion (IsGiven records) application.documents
-
-one_more : {A : Type 0} (xs : List A) (x : A) → suc (length xs) ≡ length (xs ++ x ∷ [])
-one_more [] x = refl
-one_more (y ∷ xs) x = ap suc (one_more xs x)
-
-lawful-under : (found : Option Lists) (system : ℕ) (records : List Record) (application : Application) (next : Record) → IsLawful records application
-    → IsLawful (records ++ next ∷ []) (option_map_or (λ model. application_after model system (counted application) next) found (counted application))
-lawful-under None system records application next is = record {
-  count = ap suc is.count ∙ one_more records next;
-  given = none_given records next application.documents is.given;
-}
-lawful-under (Some model) system records application next is = record {
-  count = after_same model system (counted application) next ∙ ap suc is.count ∙ one_more records next;
-  given = after_given model system (counted application) records next (ap suc is.count) is.given;
-}
-
-lawful-next : (models : List Lists) (records : List Record) (past : Past) (next : Record) → IsLawful records past.application →
-    IsLawful (records ++ next ∷ []) (next_application models past next)
-lawful-next models records past (log.Model text) is = record {
-  count = ap suc is.count ∙ one_more records (log.Model text);
-  given = none_given records (log.Model text) past.application.documents is.given;
-}
-lawful-next models records past next is = lawful-under (in_force models past.models) past.system records past.application next is
-
-from-lawful : (models : List Lists) (records more : List Record) (past : Past) → IsLawful records past.application →
-    IsLawful (records ++ more) (fold (past_after models) past more).application
-from-lawful models records [] past is = subst (λ (rs : List Record). IsLawful rs past.application) (sym (append-nil records)) is
-from-lawful models records (next ∷ more) past is =
-    subst (λ (rs : List Record). IsLawful rs (fold (past_after models) (past_after models past next) more).application)
-    (append_assoc records (next ∷ []) more)
-    (from-lawful models (records ++ next ∷ []) more (past_after models past next) (lawful-next models records past next is))
-
-lawful : (models : List Lists) (records : List Record) → IsLawful records (past_of models records).application
+applied-begun : (models : List Lists) → past_of models [] ≡ no_past
 unfolding past_of
-lawful models records = from-lawful models [] records no_past (record { count = refl; given = tt })
+applied-begun models = refl
 
 -- as many records are counted as the log has
 pub applied-records : (models : List Lists) (records : List Record) → (past_of models records).application.records ≡ length records
-applied-records models records = (lawful models records).count
-
-at_given : (records : List Record) (documents : List Arrived) (doc : ℕ) → AllByRecursion (IsGiven records) documents →
-    AreGivenIn codes_of records (statuses_at documents doc)
-at_given records documents zero all = AreGivenIn-nothing codes_of records
-at_given records documents (suc place) all = of_document (slice_get documents place) refl
+applied-records models records = from_front (λ (so_far : List Record). (past_of models so_far).application.records ≡ length so_far) step [] records
+    (ap (λ (past : Past). past.application.records) (applied-begun models))
   where
-    of_document : (found : Option Arrived) → slice_get documents place ≡ found
-        → AreGivenIn codes_of records (option_map_or (λ document. document.statuses) found [])
-    of_document None here = AreGivenIn-nothing codes_of records
-    of_document (Some document) here = AllByRecursion-at (IsGiven records) documents place document all here
+    step : (so_far : List Record) (next : Record) → (past_of models so_far).application.records ≡ length so_far
+        → (past_of models (so_far ++ next ∷ [])).application.records ≡ length (so_far ++ next ∷ [])
+    step so_far next count =
+        let counted : (past_of models (so_far ++ next ∷ [])).application.records ≡ suc (past_of models so_far).application.records =
+        ap (λ (past : Past). past.application.records) (past_of-push models so_far next) ∙ next_same models (past_of models so_far) next in
+        omega (arith, counted, count, length_push so_far next)
+
+-- a document has no statuses before the first record
+applied-nothing : (models : List Lists) (doc : ℕ) → statuses_at (past_of models []).application.documents doc ≡ []
+applied-nothing models doc = ap (λ (past : Past). statuses_at past.application.documents doc) (applied-begun models) ∙ none_at doc
+  where
+    none_at : (doc : ℕ) → statuses_at [] doc ≡ []
+    none_at zero = refl
+    none_at (suc place) = refl
+
+-- and each record gives it what it may, by its number
+applied-gives : (models : List Lists) (doc : ℕ) (records : List Record) (next : Record)
+    → Gives (codes_of doc next) (suc (length records)) (statuses_at (past_of models records).application.documents doc)
+    (statuses_at (past_of models (records ++ next ∷ [])).application.documents doc)
+applied-gives models doc records next =
+    let past = past_of models records in
+    let had = statuses_at past.application.documents doc in
+    subst (λ (after : Past). Gives (codes_of doc next) (suc (length records)) had (statuses_at after.application.documents doc))
+    (sym (past_of-push models records next))
+    (subst (λ (count : ℕ). Gives (codes_of doc next) (suc count) had (statuses_at (next_application models past next).documents doc))
+    (applied-records models records) (next-gives doc models past next))
 
 -- the statuses of a document are in the order of the records of the log, and each is of a record that may give it
 pub applied-given : (models : List Lists) (records : List Record) (doc : ℕ) →
-    AreGivenIn codes_of records (statuses_at (past_of models records).application.documents doc)
-applied-given models records doc = at_given records (past_of models records).application.documents doc (lawful models records).given
+    AreGivenIn (codes_of doc) records (statuses_at (past_of models records).application.documents doc)
+applied-given models records doc =
+    given-log (codes_of doc) (λ (so_far : List Record). statuses_at (past_of models so_far).application.documents doc) (applied-nothing models doc)
+    (applied-gives models doc) records
+
+-- what the first records gave is what was there after them
+pub applied-stood : (models : List Lists) (records : List Record) (doc count : ℕ)
+    → up_to count (statuses_at (past_of models records).application.documents doc)
+    ≡ statuses_at (past_of models (take count records)).application.documents doc
+applied-stood models records doc count =
+    stood-log (codes_of doc) (λ (so_far : List Record). statuses_at (past_of models so_far).application.documents doc) (applied-nothing models doc)
+    (applied-gives models doc) records count

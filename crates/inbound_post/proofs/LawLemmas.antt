@@ -30,7 +30,8 @@ use Rattle.object_store.specs.declared.posting.Posting.{Posting}
 use Rattle.inbound_post.specs.Application.{left_by}
 use Rattle.inbound_post.specs.Laws.{IsFieldValue, IsKeyOf, IsSaidBy, TakesUp}
 use Rattle.idoc_reading.specs.Reading.{read_as, read_by_type}
-use Rattle.inbound_post.specs.Reading.{is_no_data, key_text, posted_fields, posting, posting_by, posting_made, posting_of, posting_read, posting_with, root_built}
+use Rattle.inbound_post.specs.Reading.{is_no_data, key_text, posted_fields, posting, posting_by, posting_made, posting_of, posting_read}
+use Rattle.inbound_post.specs.Reading.{posting_with, root_built}
 
 -- what is posted of the fields from a place on
 record IsPosted (fields : List Field) (key from : ℕ) (sdata : List ℕ) (posted : FieldValue) : Type 0 where

@@ -20,5 +20,5 @@ pub mod RenamedLemmas
 pub mod KeptPostingLemmas
 -- inbound documents that were read are read again
 pub mod StaysReadLemmas
--- the statuses of the documents of a log, in the order of its records
+-- which records gave the statuses of the documents of a log
 pub mod GivenLemmas

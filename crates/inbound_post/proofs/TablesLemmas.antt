@@ -49,7 +49,7 @@ at_before documents d zero other = refl
 at_before documents d (suc place) other = from_before documents d place (λ same. other (ap suc same))
 
 -- the statuses of documents with one more
-at_push : (documents : List Arrived) (d : Arrived) (doc : ℕ)
+pub at_push : (documents : List Arrived) (d : Arrived) (doc : ℕ)
     → statuses_at (documents ++ d ∷ []) doc ≡ (if doc == suc (length documents) then statuses_at documents doc ++ d.statuses else statuses_at documents doc)
 at_push documents d doc =
     elim (eqb_tells doc (suc (length documents))) [
@@ -83,7 +83,7 @@ at_beside documents place new zero other = refl
 at_beside documents place new (suc k) other = from_beside documents place new k (λ same. other (ap suc same))
 
 -- the statuses of documents of which one got more
-at_set : (documents : List Arrived) (place : ℕ) (d : Arrived) (more : List StatusAt) (doc : ℕ) → slice_get documents place ≡ Some d
+pub at_set : (documents : List Arrived) (place : ℕ) (d : Arrived) (more : List StatusAt) (doc : ℕ) → slice_get documents place ≡ Some d
     → statuses_at (slice_set documents place (with_statuses more d)) doc
     ≡ (if doc == suc place then statuses_at documents doc ++ more else statuses_at documents doc)
 at_set documents place d more doc known =

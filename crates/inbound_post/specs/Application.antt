@@ -1,6 +1,6 @@
 -- What a log made of the application of its system: the documents that came in with their statuses, the objects, and their change
 -- pointers. Each record is taken under the model in force there. Statuses are SAP's (SAP Library, IDoc statuses); when each comes is this project's own.
-use Rattle.std.specs.Prelude.{ℕ, zero, suc, List, [], ◌∷◌, ◌++◌, fold, Option, Some, None, slice_get, slice_set}
+use Rattle.std.specs.Prelude.{ℕ, zero, suc, ◌==◌, List, [], ◌∷◌, ◌++◌, fold, Option, Some, None, slice_get, slice_set, if◌then◌else◌}
 use Rattle.std.specs.List.{filter_map}
 use Rattle.std.specs.Option.{option_map_or}
 use Rattle.dist_model.specs.declared.lists.Lists.{Lists}
@@ -192,10 +192,11 @@ abbrev pub statuses_at : List Arrived → ℕ → List StatusAt
 statuses_at documents zero = []
 statuses_at documents (suc place) = option_map_or (λ document. document.statuses) (slice_get documents place) []
 
--- the codes of the statuses that a record may give to inbound documents
-abbrev pub codes_of : Record → List ℕ
-codes_of (Execute tid) = 50 ∷ 64 ∷ 62 ∷ 53 ∷ 51 ∷ 56 ∷ []
-codes_of (Direct unit) = 50 ∷ 64 ∷ 62 ∷ 53 ∷ 51 ∷ 56 ∷ []
-codes_of (App doc) = 62 ∷ 53 ∷ 51 ∷ 56 ∷ []
-codes_of (Repost doc) = 62 ∷ 53 ∷ 51 ∷ 56 ∷ []
-codes_of _ = []
+-- the codes of the statuses that a record may give to the inbound document of a number. An App and a Repost give theirs only to the
+-- document that they name
+abbrev pub codes_of : ℕ → Record → List ℕ
+codes_of number (Execute tid) = 50 ∷ 64 ∷ 62 ∷ 53 ∷ 51 ∷ 56 ∷ []
+codes_of number (Direct unit) = 50 ∷ 64 ∷ 62 ∷ 53 ∷ 51 ∷ 56 ∷ []
+codes_of number (App doc) = if number == doc.0 then 62 ∷ 53 ∷ 51 ∷ 56 ∷ [] else []
+codes_of number (Repost doc) = if number == doc.0 then 62 ∷ 53 ∷ 51 ∷ 56 ∷ [] else []
+codes_of number _ = []

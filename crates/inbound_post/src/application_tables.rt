@@ -28,12 +28,12 @@ pub struct ApplicationTables {
 }
 
 impl ApplicationTables {
-    ghost use Rattle.std.specs.Prelude.{◌≡◌, IfOk, List, OnOk, Some, slice_get, length};
+    ghost use Rattle.std.specs.Prelude.{◌≡◌, ℕ, IfOk, List, OnOk, Some, slice_get, length, take};
     ghost use Rattle.std.specs.Option.{option_copied, option_map};
     ghost use Rattle.dist_model.specs.declared.lists.Lists.{Lists};
     ghost use Rattle.unit_core.specs.declared.records.Record.{Record};
     ghost use Rattle.change_pointers.specs.Noted.{noted_by};
-    ghost use Rattle.status_log.specs.Statuses.{AreGivenIn};
+    ghost use Rattle.status_log.specs.Given.{AreGivenIn, up_to};
     ghost use Rattle.inbound_post.specs.Application.{Application, changed, codes_of, counted, left_by, no_application, past_of, pointers_under, statuses_at};
     ghost use Rattle.change_pointers.specs.declared.pointer.Pointer.{Pointer};
     ghost use Rattle.inbound_post.specs.Laws.{TakesUp};
@@ -72,7 +72,11 @@ impl ApplicationTables {
     pub fn statuses(&self, doc: DocNum) -> &[StatusAt]
         ensures are { (application : Application) → AreTablesOf application self.now → result.now ≡ statuses_at application.documents doc.0 }
         // Of a whole log they are in the order of its records, and each is of a record that may give it.
-        ensures given { (models : List Lists) (log : List Record) → AreTablesOf (past_of models log).application self.now → AreGivenIn codes_of log result.now }
+        ensures given { (models : List Lists) (log : List Record) → AreTablesOf (past_of models log).application self.now
+            → AreGivenIn (codes_of doc.0) log result.now }
+        // What the first records gave is what was there after them.
+        ensures stood { (models : List Lists) (log : List Record) (count : ℕ) → AreTablesOf (past_of models log).application self.now
+            → up_to count result.now ≡ statuses_at (past_of models (take count log)).application.documents doc.0 }
     {
         self.statuses.list(doc)
     }
@@ -91,7 +95,8 @@ impl ApplicationTables {
         &self.pointers
     }
 
-    /// Counts a record that is to be taken; what it gives has its number. Past the greatest number of 64 bits memory is wanting.
+    /// Counts one more record, which is to be taken next: the statuses that `execute` and `pass_again` give have the number of the
+    /// record that was counted last. Past the greatest number of 64 bits memory is wanting.
     pub fn count_record(&mut self) -> Result<(), OutOfMemory>
         ensures { (application : Application) → AreTablesOf application self.old → OnOk result (AreTablesOf (counted application) self.new) }
     {

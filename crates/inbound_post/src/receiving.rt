@@ -53,7 +53,7 @@ impl ApplicationTables {
         ensures { (application : Application) → AreTablesOf application self.old
             → OnOk result (AreTablesOf (arrived sender doc.now becomes.now application) self.new) }
     {
-        let number = number_after(self.documents.len())?;
+        let number = document_after(self.documents.len())?;
         receive(
             alloc,
             &mut self.objects,
@@ -103,7 +103,7 @@ impl ApplicationTables {
 }
 
 /// The number of the document after so many. The numbers of documents end where memory does: at the greatest number of 64 bits.
-fn number_after(count: usize) -> Result<DocNum, OutOfMemory>
+fn document_after(count: usize) -> Result<DocNum, OutOfMemory>
     ensures { IfOk result (λ number. number.0 ≡ suc count) }
 {
     match (count as u64).checked_add(1) {

@@ -1,9 +1,10 @@
--- Whom what a record adds is for: the documents that it makes, and its units.
-use Rattle.std.specs.Prelude.{Contains, slice_get, nat_eq, fold, map, filter, ◌==◌, ◌*◌, ◌&&◌, if◌then◌else◌}
-use Rattle.std.specs.List.{AllByRecursion, cons_option, list_all, range_with_len}
+-- The documents that a record makes are for their rows, the documents of its units for the units' receivers, and what waits behind it for the
+-- rows that it waits for.
+use Rattle.std.specs.Prelude.{Contains, slice_get, nat_eq, fold, map, filter, ◌==◌, ◌&&◌, if◌then◌else◌}
+use Rattle.std.specs.List.{AllByRecursion, cons_option, list_all}
 use Rattle.std.specs.Option.{option_map, option_map_or}
 use Rattle.std.proofs.Common.{nat_le, ◌≡◌, ℕ, zero, suc, ◌+◌, ◌-◌, ◌≤◌, Bool, true, false, cond, Option, Some, None, Result, Ok, Err, List, [], ◌∷◌}
-use Rattle.std.proofs.Common.{◌++◌, length, take, drop, refl, sym, ap, subst, ◌∙◌, arith}
+use Rattle.std.proofs.Common.{◌++◌, length, refl, sym, ap, subst, ◌∙◌, arith}
 use Rattle.std.proofs.lemmas.Bool.{and_parts, eqb-true}
 use Rattle.std.proofs.lemmas.Option.{same_Some, slice_get-map}
 use Rattle.ale_base.specs.Blanks.{trimmed}
@@ -37,7 +38,7 @@ use Rattle.outbound_build.specs.declared.outbox.Outbox.{Outbox}
 use Rattle.outbound_build.specs.declared.parcel.Parcel.{Parcel}
 use Rattle.outbound_build.specs.declared.queue_lists.QueueLists.{QueueLists}
 use Rattle.outbound_build.specs.Added.{Master, batch_of, dispatched, master_of, no_batch, numbered, packed, packed_for, packets, parcel_of, rows_of}
-use Rattle.outbound_build.specs.Added.{packet_count, still_waiting, waiting_for, waits_as, waits_of, with_document, with_master, with_row, with_rows}
+use Rattle.outbound_build.specs.Added.{still_waiting, waiting_for, waits_as, waits_of, with_document, with_master, with_row, with_rows}
 use Rattle.outbound_build.specs.Added.{with_sent, with_unit}
 use Rattle.outbound_build.specs.Addressed.{AreAddressed, AreMadeFor, AreUnitsAddressed, IsAddressed, IsForRow}
 use Rattle.outbound_build.specs.ControlRecord.{control_text}
@@ -45,6 +46,7 @@ use Rattle.outbound_build.specs.Document.{Document, carried}
 use Rattle.outbound_build.specs.QueueNames.{queues_by}
 use Rattle.outbound_build.specs.Sent.{kept_by, made_of, sent}
 use Rattle.outbound_build.proofs.ControlLemmas.{texts-room}
+use Rattle.outbound_build.proofs.PacketLemmas.{packets-all}
 use Rattle.outbound_build.proofs.RowLemmas.{HasAt, places_from-pass, profile-row}
 use Rattle.outbound_build.proofs.SentLemmas.{sent-by}
 
@@ -52,7 +54,7 @@ either_has : {A : Type 0} (P : A → Type 0) (b : Bool) (x y : A) → P x → P 
 either_has P true x y one two = one
 either_has P false x y one two = two
 
--- what holds of each element holds of each that passes, of each at the front, and of each behind
+-- what holds of each element holds of each that passes
 all-filter : {A : Type 0} (P Q : A → Type 0) (test : A → Bool) (xs : List A) → ((x : A) → P x → test x ≡ true → Q x) → AllByRecursion P xs
     → AllByRecursion Q (filter test xs)
 all-filter P Q test [] told all = tt
@@ -61,25 +63,6 @@ all-filter {A} P Q test (x ∷ xs) told all = by_test (all-filter P Q test xs to
     by_test : AllByRecursion Q (filter test xs) → (b : Bool) → test x ≡ b → AllByRecursion Q (cond b (x ∷ filter test xs) (filter test xs))
     by_test rest true is = (told x all.0 is, rest)
     by_test rest false is = rest
-
-all-take : {A : Type 0} (P : A → Type 0) (n : ℕ) (xs : List A) → AllByRecursion P xs → AllByRecursion P (take n xs)
-all-take P zero xs all = tt
-all-take P (suc n) [] all = tt
-all-take P (suc n) (x ∷ xs) all = (all.0, all-take P n xs all.1)
-
-all-drop : {A : Type 0} (P : A → Type 0) (n : ℕ) (xs : List A) → AllByRecursion P xs → AllByRecursion P (drop n xs)
-all-drop P zero xs all = all
-all-drop P (suc n) [] all = tt
-all-drop P (suc n) (x ∷ xs) all = all-drop P n xs all.1
-
-all-packets : (P : Waiting → Type 0) (size : ℕ) (waiting : List Waiting) → AllByRecursion P waiting → AllByRecursion (AllByRecursion P) (packets size waiting)
-all-packets P size waiting all =
-    let packet : ℕ → List Waiting = λ place. take size (drop (place * size) waiting) in
-    let places = range_with_len 0 (packet_count size (length waiting)) in
-    AllByRecursion-map (AllByRecursion P) packet places
-    (AllByRecursion-of (λ place. AllByRecursion P (packet place))
-    (λ place. all-take P size (drop (place * size) waiting) (all-drop P (place * size) waiting all))
-    places)
 
 -- the text of a field that has the name of a system of the model names it
 names-system : (model : Lists) → IsModel model → (number : ℕ) (text : List ℕ) → 1 ≤ number → number ≤ length model.systems
@@ -251,7 +234,7 @@ module _ (model : Lists) (kept : IsModel model) (system : ℕ) where
           AllByRecursion-map IsParcelAddressed (packed profile) (packets profile.packet (waiting_for row waiting))
           (AllByRecursion-weaker (AllByRecursion to) (λ packet. IsParcelAddressed (packed profile packet)) (packets profile.packet (waiting_for row waiting))
           (λ packet is. AllByRecursion-map (IsAddressed model system profile.receiver) (λ (one : Waiting). one.document) packet is)
-          (all-packets to profile.packet (waiting_for row waiting) each))
+          (packets-all to profile.packet (waiting_for row waiting) each))
 
   dispatched-addressed : (waiting : List Waiting) → AreAddressed model system waiting → AllByRecursion IsParcelAddressed (dispatched model system waiting)
   dispatched-addressed waiting all =

@@ -1,9 +1,10 @@
--- The statuses of outbound documents are in the order of the records of their log, and each is of a record that may give it.
-use Rattle.std.specs.Prelude.{◌==◌, Contains, fold, if◌then◌else◌}
+-- Which records of their log gave the statuses of outbound documents.
+use Rattle.std.specs.Prelude.{◌==◌, Contains, if◌then◌else◌}
 use Rattle.std.specs.List.{AllByRecursion, flat_map}
 use Rattle.std.specs.Option.{option_map_or}
-use Rattle.std.proofs.Common.{◌≡◌, ℕ, suc, Bool, true, false, Option, Some, None, List, [], ◌∷◌, ◌++◌, length, refl, ap, sym, subst, ◌∙◌, append_assoc}
-use Rattle.std.proofs.Common.{append-nil}
+use Rattle.std.proofs.Common.{◌≡◌, ℕ, suc, Bool, true, false, Option, Some, None, List, [], ◌∷◌, ◌++◌, length, refl, ap, ◌∙◌}
+use Rattle.std.proofs.Common.{arith, take}
+use Rattle.std.proofs.lemmas.List.{length_push}
 use Rattle.ale_base.specs.declared.doc_num.DocNum.{DocNum}
 use Rattle.ale_base.proofs.ListLemmas.{AllByRecursion-append, AllByRecursion-flat_map, AllByRecursion-of}
 use Rattle.ale_base.proofs.MemberLemmas.{Contains-here, Contains-there}
@@ -12,8 +13,9 @@ use Rattle.unit_core.specs.declared.records.Record.{Record}
 use Rattle.unit_core.specs.declared.records.Record.TheVariants as log
 use Rattle.log_models.specs.InForce.{in_force}
 use Rattle.status_log.specs.declared.status.Status.{Status}
-use Rattle.status_log.specs.Statuses.{AreGivenIn, plain}
-use Rattle.status_log.proofs.GivenLemmas.{AreGivenIn-nothing, AreGivenIn-push}
+use Rattle.status_log.specs.Statuses.{given_by, plain}
+use Rattle.status_log.specs.Given.{AreGivenIn, up_to}
+use Rattle.status_log.proofs.GivenLemmas.{Gives, from_front, given-log, stood-log}
 use Rattle.outbound_build.specs.declared.added.Fate.{Fate}
 use Rattle.outbound_build.specs.declared.added.Fate.TheVariants.{Sent, Waits, Refused}
 use Rattle.outbound_build.specs.declared.added.OutDocument.{OutDocument}
@@ -21,7 +23,8 @@ use Rattle.outbound_build.specs.declared.added.OutUnit.{OutUnit}
 use Rattle.outbound_build.specs.Added.{added_by}
 use Rattle.outbound_build.specs.Committed.{Past, adds, no_more}
 use Rattle.outbound_build.specs.Statuses.{Tracked, carried_by, carried_in, codes_of, gets, if_of, made_for, made_statuses, nothing_tracked, passed_for}
-use Rattle.outbound_build.specs.Statuses.{tracked_after, tracked_of}
+use Rattle.outbound_build.specs.Statuses.{tracked_of}
+use Rattle.outbound_build.proofs.TrackedLemmas.{tracked_of-push}
 
 -- the code of a status is among these
 abbrev May : List ℕ → Status → Type 0
@@ -78,39 +81,46 @@ under_may (Some model) past (log.Done tid) carried doc = passed_may 12 (carried_
 under_may None past _ carried doc = tt
 under_may (Some model) past _ carried doc = tt
 
--- what is known behind a log: how many records it has, and statuses as they may be given
-record IsLawful (records : List Record) (tracked : Tracked) : Type 0 where
-  count : tracked.records ≡ length records
-  given : (doc : ℕ) → AreGivenIn codes_of records (tracked.statuses doc)
-
-one_more : {A : Type 0} (xs : List A) (x : A) → suc (length xs) ≡ length (xs ++ x ∷ [])
-one_more [] x = refl
-one_more (y ∷ xs) x = ap suc (one_more xs x)
-
-lawful-after : (models : List Lists) (records : List Record) (tracked : Tracked) (next : Record) → IsLawful records tracked →
-    IsLawful (records ++ next ∷ []) (tracked_after models tracked next)
-lawful-after models records tracked next is = record {
-  count = ap suc is.count ∙ one_more records next;
-  given = λ doc. AreGivenIn-push codes_of records next (tracked.statuses doc) (suc tracked.records)
-      (gets (carried_in tracked.past.units) (adds models tracked.past next) next doc) (ap suc is.count)
-      (under_may (in_force models tracked.past.models) tracked.past next (carried_in tracked.past.units) doc) (is.given doc);
-}
-
-from-lawful : (models : List Lists) (records more : List Record) (tracked : Tracked) → IsLawful records tracked →
-    IsLawful (records ++ more) (fold (tracked_after models) tracked more)
-from-lawful models records [] tracked is = subst (λ (rs : List Record). IsLawful rs tracked) (sym (append-nil records)) is
-from-lawful models records (next ∷ more) tracked is =
-    subst (λ (rs : List Record). IsLawful rs (fold (tracked_after models) (tracked_after models tracked next) more)) (append_assoc records (next ∷ []) more)
-    (from-lawful models (records ++ next ∷ []) more (tracked_after models tracked next) (lawful-after models records tracked next is))
-
-lawful : (models : List Lists) (records : List Record) → IsLawful records (tracked_of models records)
+tracked-begun : (models : List Lists) → tracked_of models [] ≡ nothing_tracked
 unfolding tracked_of
-lawful models records = from-lawful models [] records nothing_tracked (record { count = refl; given = λ doc. AreGivenIn-nothing codes_of [] })
+tracked-begun models = refl
 
 -- as many records are counted as the log has
 pub tracked-records : (models : List Lists) (records : List Record) → (tracked_of models records).records ≡ length records
-tracked-records models records = (lawful models records).count
+tracked-records models records = from_front (λ (so_far : List Record). (tracked_of models so_far).records ≡ length so_far) step [] records
+    (ap (λ (tracked : Tracked). tracked.records) (tracked-begun models))
+  where
+    step : (so_far : List Record) (next : Record) → (tracked_of models so_far).records ≡ length so_far
+        → (tracked_of models (so_far ++ next ∷ [])).records ≡ length (so_far ++ next ∷ [])
+    step so_far next count =
+        let counted : (tracked_of models (so_far ++ next ∷ [])).records ≡ suc (tracked_of models so_far).records =
+        ap (λ (tracked : Tracked). tracked.records) (tracked_of-push models so_far next) in
+        omega (arith, counted, count, length_push so_far next)
+
+-- a document has no statuses before the first record
+tracked-nothing : (models : List Lists) (doc : ℕ) → (tracked_of models []).statuses doc ≡ []
+tracked-nothing models doc = ap (λ (tracked : Tracked). tracked.statuses doc) (tracked-begun models)
+
+-- and each record gives it what it may, by its number
+tracked-gives : (models : List Lists) (doc : ℕ) (records : List Record) (next : Record)
+    → Gives (codes_of next) (suc (length records)) ((tracked_of models records).statuses doc) ((tracked_of models (records ++ next ∷ [])).statuses doc)
+tracked-gives models doc records next =
+    let tracked = tracked_of models records in
+    let more = gets (carried_in tracked.past.units) (adds models tracked.past next) next doc in
+    record {
+      more = more;
+      behind = ap (λ (after : Tracked). after.statuses doc) (tracked_of-push models records next)
+          ∙ ap (λ (count : ℕ). tracked.statuses doc ++ given_by (suc count) more) (tracked-records models records);
+      may = under_may (in_force models tracked.past.models) tracked.past next (carried_in tracked.past.units) doc;
+    }
 
 -- the statuses of a document are in the order of the records of the log, and each is of a record that may give it
 pub tracked-given : (models : List Lists) (records : List Record) (doc : ℕ) → AreGivenIn codes_of records ((tracked_of models records).statuses doc)
-tracked-given models records doc = (lawful models records).given doc
+tracked-given models records doc =
+    given-log codes_of (λ (so_far : List Record). (tracked_of models so_far).statuses doc) (tracked-nothing models doc) (tracked-gives models doc) records
+
+-- what the first records gave is what was there after them
+pub tracked-stood : (models : List Lists) (records : List Record) (doc count : ℕ)
+    → up_to count ((tracked_of models records).statuses doc) ≡ (tracked_of models (take count records)).statuses doc
+tracked-stood models records doc count =
+    stood-log codes_of (λ (so_far : List Record). (tracked_of models so_far).statuses doc) (tracked-nothing models doc) (tracked-gives models doc) records count

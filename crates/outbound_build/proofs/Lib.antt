@@ -36,7 +36,7 @@ pub mod GetsLemmas
 pub mod TablesLemmas
 -- one more record of a log
 pub mod TrackedLemmas
--- the statuses of the documents of a log, in the order of its records
+-- which records gave the statuses of the documents of a log
 pub mod GivenLemmas
 -- the queues of the units that a record adds
 pub mod QueuedLemmas

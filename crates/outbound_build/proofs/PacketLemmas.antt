@@ -1,6 +1,6 @@
 -- Documents cut in packets.
 use Rattle.std.specs.Prelude.{◌/◌, ◌*◌, ◌==◌, slice_get, slice_set}
-use Rattle.std.specs.List.{range_with_len}
+use Rattle.std.specs.List.{AllByRecursion, range_with_len}
 use Rattle.std.proofs.Common.{◌≡◌, ◌⊎◌, inl, inr, ℕ, zero, suc, ◌+◌, ◌-◌, ◌<◌, ◌≤◌, List, [], ◌∷◌, length, take, drop, map, refl, ap, sym, ◌∙◌, arith, ◌++◌}
 use Rattle.std.proofs.Common.{Some, get_or, length-drop, length-set, nat_le, true, false, subst}
 use Rattle.std.proofs.lemmas.Bool.{eqb-false}
@@ -9,7 +9,7 @@ use Rattle.std.proofs.lemmas.Option.{same_Some}
 use Rattle.std.proofs.lemmas.List.{drop-drop, take_more}
 use Rattle.std.proofs.Math.Nat.{add-div_right, div-eq_of_lt, suc-mul, zero-mul}
 use Rattle.outbound_build.specs.declared.added.Waiting.{Waiting}
-use Rattle.ale_base.proofs.ListLemmas.{slice_get-set, slice_get-set_other}
+use Rattle.ale_base.proofs.ListLemmas.{AllByRecursion-map, AllByRecursion-of, slice_get-set, slice_get-set_other}
 use Rattle.ale_base.proofs.MemberLemmas.{filter-kept, filter-left_out}
 use Rattle.outbound_build.specs.Added.{packet_count, packets, waiting_for}
 use Rattle.outbound_build.specs.steps.Packets.{AreWaitingFor}
@@ -36,6 +36,27 @@ count-more size n some any =
 shifted : {A : Type 0} (f g : ℕ → A) (a n : ℕ) → ((k : ℕ) → f (k + 1) ≡ g k) → map f (range_with_len (a + 1) n) ≡ map g (range_with_len a n)
 shifted f g a zero same = refl
 shifted {A} f g a (suc n) same = ap (λ (x : A). x ∷ map f (range_with_len (a + 1 + 1) n)) (same a) ∙ ap (λ (xs : List A). g a ∷ xs) (shifted f g (a + 1) n same)
+
+all-take : {A : Type 0} (P : A → Type 0) (n : ℕ) (xs : List A) → AllByRecursion P xs → AllByRecursion P (take n xs)
+all-take P zero xs all = tt
+all-take P (suc n) [] all = tt
+all-take P (suc n) (x ∷ xs) all = (all.0, all-take P n xs all.1)
+
+all-drop : {A : Type 0} (P : A → Type 0) (n : ℕ) (xs : List A) → AllByRecursion P xs → AllByRecursion P (drop n xs)
+all-drop P zero xs all = all
+all-drop P (suc n) [] all = tt
+all-drop P (suc n) (x ∷ xs) all = all-drop P n xs all.1
+
+-- what holds of each document holds of each in each packet
+pub packets-all : (P : Waiting → Type 0) (size : ℕ) (waiting : List Waiting) → AllByRecursion P waiting →
+    AllByRecursion (AllByRecursion P) (packets size waiting)
+packets-all P size waiting all =
+    let packet : ℕ → List Waiting = λ place. take size (drop (place * size) waiting) in
+    let places = range_with_len 0 (packet_count size (length waiting)) in
+    AllByRecursion-map (AllByRecursion P) packet places
+    (AllByRecursion-of (λ place. AllByRecursion P (packet place))
+    (λ place. all-take P size (drop (place * size) waiting) (all-drop P (place * size) waiting all))
+    places)
 
 -- the packets of some documents are the first one, and those of the documents behind it
 pub packets-first : (size : ℕ) (waiting : List Waiting) → 1 ≤ size → 1 ≤ length waiting

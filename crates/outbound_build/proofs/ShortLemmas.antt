@@ -1,6 +1,6 @@
 -- Documents of a log have no more segments than the masters that were committed.
-use Rattle.std.specs.Prelude.{fold, map, filter, take, drop, slice_get, ◌==◌, ◌*◌, option_and_then, if◌then◌else◌}
-use Rattle.std.specs.List.{AllByRecursion, cons_option, range_with_len}
+use Rattle.std.specs.Prelude.{fold, map, filter, slice_get, ◌==◌, option_and_then, if◌then◌else◌}
+use Rattle.std.specs.List.{AllByRecursion, cons_option}
 use Rattle.std.specs.Option.{option_map_or}
 use Rattle.std.proofs.Common.{◌≡◌, ℕ, zero, suc, ◌+◌, ◌≤◌, Bool, true, false, Option, Some, None, Result, Ok, Err, List, [], ◌∷◌, length, refl, ap, subst}
 use Rattle.std.proofs.Common.{arith}
@@ -33,27 +33,18 @@ use Rattle.outbound_build.specs.declared.queue_lists.QueueLists.{QueueLists}
 use Rattle.outbound_build.specs.Document.{Document, carried}
 use Rattle.outbound_build.specs.QueueNames.{queues_by}
 use Rattle.outbound_build.specs.Sent.{sent}
-use Rattle.outbound_build.specs.Added.{Master, added_by, batch_of, built_master, dispatched, may_be_of, no_batch, numbered, packed, packed_for, packet_count}
+use Rattle.outbound_build.specs.Added.{Master, added_by, batch_of, built_master, dispatched, may_be_of, no_batch, numbered, packed, packed_for}
 use Rattle.outbound_build.specs.Added.{master_read, packets, rows_of, still_waiting, waiting_for, waits_as, waits_of, with_document, with_master, with_row}
 use Rattle.outbound_build.specs.Added.{with_rows, with_sent, with_unit}
 use Rattle.outbound_build.specs.Committed.{Past, adds, no_more, no_past, past_after, past_of, units_of}
 use Rattle.outbound_build.specs.Units.{HasShort, IsShort}
+use Rattle.outbound_build.proofs.PacketLemmas.{packets-all}
 use Rattle.outbound_build.proofs.SizeLemmas.{size, size-sent}
 
 -- a fold keeps what each of its steps keeps
 fold-step : {A B : Type 0} (P : B → Type 0) (f : B → A → B) (b : B) (xs : List A) → ((c : B) (x : A) → P c → P (f c x)) → P b → P (fold f b xs)
 fold-step P f b [] step is = is
 fold-step P f b (x ∷ xs) step is = fold-step P f (f b x) xs step (step b x is)
-
-All-take : {A : Type 0} (P : A → Type 0) (n : ℕ) (xs : List A) → AllByRecursion P xs → AllByRecursion P (take n xs)
-All-take P zero xs all = tt
-All-take P (suc n) [] all = tt
-All-take P (suc n) (x ∷ xs) all = (all.0, All-take P n xs all.1)
-
-All-drop : {A : Type 0} (P : A → Type 0) (n : ℕ) (xs : List A) → AllByRecursion P xs → AllByRecursion P (drop n xs)
-All-drop P zero xs all = all
-All-drop P (suc n) [] all = tt
-All-drop P (suc n) (x ∷ xs) all = All-drop P n xs all.1
 
 All-filter : {A : Type 0} (P : A → Type 0) (test : A → Bool) (xs : List A) → AllByRecursion P xs → AllByRecursion P (filter test xs)
 All-filter P test [] all = tt
@@ -156,16 +147,6 @@ module _ (most : ℕ) (model : Lists) (kept : IsModel model) where
   masters-short system before batch (doc ∷ docs) all is =
       masters-short system before (with_master model system before batch doc) docs all.1 (with_master-short system before batch doc all.0 is)
 
-  packets-short : (size : ℕ) (waiting : List Waiting) → AllByRecursion (λ one. IsShort most one.document) waiting
-      → AllByRecursion (λ packet. AllByRecursion (λ one. IsShort most one.document) packet) (packets size waiting)
-  packets-short size waiting all =
-      AllByRecursion-map (λ (packet : List Waiting). AllByRecursion (λ (one : Waiting). IsShort most one.document) packet)
-      (λ place. take size (drop (place * size) waiting))
-      (range_with_len 0 (packet_count size (length waiting)))
-      (AllByRecursion-of (λ (place : ℕ). AllByRecursion (λ (one : Waiting). IsShort most one.document) (take size (drop (place * size) waiting)))
-      (λ place. All-take (λ (one : Waiting). IsShort most one.document) size (drop (place * size) waiting)
-      (All-drop (λ (one : Waiting). IsShort most one.document) (place * size) waiting all)) (range_with_len 0 (packet_count size (length waiting))))
-
   packed-short : (profile : Outbound) (found : List (List Waiting)) → AllByRecursion (λ packet. AllByRecursion (λ one. IsShort most one.document) packet) found
       → AllByRecursion (λ parcel. AllByRecursion (IsShort most) parcel.docs) (map (packed profile) found)
   packed-short profile [] all = tt
@@ -180,7 +161,8 @@ module _ (most : ℕ) (model : Lists) (kept : IsModel model) where
           (option_map_or (λ profile. map (packed profile) (packets profile.packet (waiting_for row waiting))) o [])
       of_profile None = tt
       of_profile (Some profile) =
-          packed-short profile (packets profile.packet (waiting_for row waiting)) (packets-short profile.packet (waiting_for row waiting)
+          packed-short profile (packets profile.packet (waiting_for row waiting))
+          (packets-all (λ (one : Waiting). IsShort most one.document) profile.packet (waiting_for row waiting)
           (All-filter (λ (one : Waiting). IsShort most one.document) (λ one. one.row == row) waiting all))
 
   dispatched-short : (system : ℕ) (waiting : List Waiting) → AllByRecursion (λ one. IsShort most one.document) waiting

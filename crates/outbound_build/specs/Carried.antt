@@ -1,5 +1,5 @@
--- Which documents the units carry that a record adds, in other words than the steps that make them: each document once, and none is
--- lost. This project's own.
+-- Which documents the units carry that a record adds, in other words than the steps that make them: exactly those that a Commit sends at
+-- once, and those that wait for the rows at a Dispatch, each once and in order. This project's own.
 use Rattle.std.specs.Prelude.{◌≡◌, ℕ, ◌==◌, List, [], ◌∷◌, ◌++◌, map, filter, Option, Some, None}
 use Rattle.std.specs.List.{filter_map}
 use Rattle.ale_base.specs.declared.doc_num.DocNum.{DocNum}

@@ -24,10 +24,10 @@ pub struct OutboundTables {
 }
 
 impl OutboundTables {
-    ghost use Rattle.std.specs.Prelude.{◌≡◌, ◌≤◌, ◌<◌, ℕ, List, Err, IfOk, OnOk, length, slice_get};
+    ghost use Rattle.std.specs.Prelude.{◌≡◌, ◌≤◌, ◌<◌, ℕ, List, Err, IfOk, OnOk, length, slice_get, take};
     ghost use Rattle.std.specs.Option.{option_copied};
     ghost use Rattle.dist_model.specs.declared.lists.Lists.{Lists};
-    ghost use Rattle.status_log.specs.Statuses.{AreGivenIn};
+    ghost use Rattle.status_log.specs.Given.{AreGivenIn, up_to};
     ghost use Rattle.unit_core.specs.declared.records.Record.{Record};
     ghost use Rattle.unit_core.specs.declared.records.Record.TheVariants.{Dispatch};
     ghost use Rattle.outbound_build.specs.Added.{added_by, units_with};
@@ -70,6 +70,9 @@ impl OutboundTables {
         ensures are { (tracked : Tracked) → AreTablesOf tracked self.now → result.now ≡ tracked.statuses doc.0 }
         // Of a whole log they are in the order of its records, and each is of a record that may give it.
         ensures given { (models : List Lists) (log : List Record) → AreTablesOf (tracked_of models log) self.now → AreGivenIn codes_of log result.now }
+        // What the first records gave is what was there after them.
+        ensures stood { (models : List Lists) (log : List Record) (count : ℕ) → AreTablesOf (tracked_of models log) self.now
+            → up_to count result.now ≡ (tracked_of models (take count log)).statuses doc.0 }
     {
         self.statuses.list(doc)
     }

@@ -1,4 +1,4 @@
 -- a table of statuses with one place or one status more
 pub mod StatusLemmas
--- statuses in the order of the records that gave them
+-- which records of a log gave the statuses of a document
 pub mod GivenLemmas

@@ -1,6 +1,5 @@
 -- The statuses of documents, each with the number of the record that gave it, as a table of them is seen.
-use Rattle.std.specs.Prelude.{⊤, ◌≡◌, ◌≤◌, ℕ, zero, suc, ◌==◌, Contains, Option, Some, None, List, [], ◌∷◌, ◌++◌, map, slice_get, if◌then◌else◌}
-use Rattle.std.specs.List.{AllByRecursion}
+use Rattle.std.specs.Prelude.{◌≡◌, ℕ, ◌==◌, List, [], ◌∷◌, ◌++◌, map, slice_get, if◌then◌else◌}
 use Rattle.std.specs.Option.{unwrap_or}
 use Rattle.status_log.specs.declared.status.Status.{Status}
 use Rattle.status_log.specs.declared.status_at.StatusAt.{StatusAt}
@@ -37,24 +36,3 @@ bare statuses = map (λ one. one.status) statuses
 -- a document got statuses behind those that it had; all others have what they had
 pub record AddsAll (doc : ℕ) (more : List StatusAt) (before after : List (List StatusAt)) : Type 0 where
   pub added : (other : ℕ) → statuses_of other after ≡ (if other == doc then statuses_of other before ++ more else statuses_of other before)
-
--- ---- a law, for any log and whatever its records may give
-
--- along these statuses the numbers never fall
-abbrev pub AreInOrder : List StatusAt → Type 0
-AreInOrder [] = ⊤
-AreInOrder (one ∷ later) = AllByRecursion (λ other. one.number ≤ other.number) later × AreInOrder later
-
--- the record of a number, from 1; none where the log has no such record
-abbrev pub record_at : {R : Type 0} → List R → ℕ → Option R
-record_at log zero = None
-record_at log (suc place) = slice_get log place
-
--- the record of the number of a status is in the log, and has the code of the status among those that it may give
-abbrev pub IsGivenIn : {R : Type 0} → (R → List ℕ) → List R → StatusAt → Type 0
-IsGivenIn {R} codes log one = (next : R) × (record_at log one.number ≡ Some next) × Contains (codes next) one.status.code
-
--- statuses are those of a document of this log: in the order of its records, and each of a record that may give it
-pub record AreGivenIn {R : Type 0} (codes : R → List ℕ) (log : List R) (statuses : List StatusAt) : Type 0 where
-  pub in_order : AreInOrder statuses
-  pub each : AllByRecursion (IsGivenIn codes log) statuses

@@ -2,7 +2,7 @@
 //!
 //! Contract: each refusal has the number by which an operator knows it (`Refusal::number`), exactly where it is one of the
 //! numbered ones; and a table of statuses has for each document exactly those that it got, each with the number of its record
-//! (`StatusLog`). The definitions are in `specs/`: `Refusal`, `Statuses`.
+//! (`StatusLog`). The definitions are in `specs/`: `Refusal`, `Statuses`, and `Given`, a law on the numbers of a whole log.
 #![tactic(auto)]
 
 mod cause;

@@ -1,5 +1,7 @@
 //! A status with the record that gave it.
 
+ghost use Rattle.std.specs.Prelude.{◌≡◌, ◌^◌, suc, IfOk, OnErr};
+
 use crate::Status;
 use ale_base::OutOfMemory;
 
@@ -12,11 +14,11 @@ pub struct StatusAt {
     pub number: u64,
 }
 
-ghost use Rattle.std.specs.Prelude.{◌≡◌, suc, IfOk};
-
-/// The number of the record after so many. The numbers of records end where memory does: at the greatest number of 64 bits.
+/// The number of the record after so many. The numbers of records end where memory does: an `Err` comes at the greatest number of
+/// 64 bits alone.
 pub fn number_after(records: u64) -> Result<u64, OutOfMemory>
-    ensures { IfOk result (λ number. number ≡ suc records) }
+    ensures ok { IfOk result (λ number. number ≡ suc records) }
+    ensures err { OnErr result (suc records ≡ 2 ^ 64) }
 {
     match records.checked_add(1) {
         None => Err(OutOfMemory),

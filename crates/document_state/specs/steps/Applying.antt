@@ -23,7 +23,7 @@ abbrev pub said_behind : Bool → Option Lists → List ℕ → Option Lists
 said_behind false before text = said text
 said_behind true before text = option_and_then (λ model. said text) before
 
--- the application behind a record under the model in force, by the one that has counted it; where there is no model that stays
+-- the application after a record, which it has counted already, under the model in force; it stays where there is none
 abbrev pub applied_under : Option Lists → ℕ → Application → Record → Application
 applied_under found system application next = option_map_or (λ model. application_after model system application next) found application
 

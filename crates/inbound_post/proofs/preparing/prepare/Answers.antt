@@ -1,6 +1,5 @@
 use Rattle.std.proofs.Common.{List, map, sym, subst, ap, ◌∙◌}
 use Rattle.std.specs.List.{AllZip}
-use Rattle.unit_core.specs.declared.raw_unit_doc.RawUnitDoc.{RawUnitDoc}
 use Rattle.inbound_post.specs.declared.prepared.DocPosting.{DocPosting}
 use Rattle.inbound_post.specs.Prepared.{IsByProfile, posting_from}
 use Rattle.inbound_post.proofs.PreparedLemmas.{all-by_profile}

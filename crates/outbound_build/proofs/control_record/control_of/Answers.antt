@@ -1,4 +1,4 @@
-use Rattle.std.proofs.Common.{List, ℕ, ap, sym, subst, ◌∙◌}
+use Rattle.std.proofs.Common.{ap, sym, subst, ◌∙◌}
 use Rattle.idoc_record.specs.Control.{control_with}
 use Rattle.outbound_build.specs.ControlRecord.{HasBlanks, control_text}
 use Rattle.outbound_build.specs.steps.Texts.{written_all}

@@ -1,4 +1,4 @@
-use Rattle.std.proofs.Common.{sym, subst}
+use Rattle.std.proofs.Common.{subst}
 use Rattle.ale_base.proofs.OnOkLemmas.{on_ok}
 use Rattle.document_state.specs.Made.{GoesWith}
 use Rattle.document_state.proofs.NotedLemmas.{brought-text, goes-silent, tables-silent}

@@ -20,7 +20,8 @@ returns c tracked are =
     let made = subst (λ (ds : List OutDocument). Gets records (made_for ds) tables.statuses between) c.as_slice.ensures c.in_ok-add_made.ensures in
     let passed = subst (λ (cs : List (List DocNum)). Gets records (passed_in cs added next) between later) c.as_slice-2.ensures
     (c.in_ok-pass.ensures added (sym c.as_slice-3.ensures)) in
-    let is = taken-tables tracked tables next added records c.take.new.self between later are c.in_ok-number.ensures c.in_ok-take.ensures.taken made passed in
+    let is = taken-tables tracked tables next added records c.take.new.self between later are c.in_ok-number.ensures.ok c.in_ok-take.ensures.taken
+    made passed in
     on_ok c.append.result c.append.ensures.ok (λ appended.
     let after : OutboundTables = record {
       outbox = c.take.new.self;
