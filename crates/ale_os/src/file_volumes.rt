@@ -153,7 +153,7 @@ impl<R: rt::Files<File = File>> Volumes for FileVolumes<'_, R> {
       told = ⊥;
       volume = λ _ _. settled [];
       moment = λ _. 0;
-      images_since = λ _ _ _ _. ⊥;
+      left_at = λ _ _ _ _. ⊥;
       faults = λ volumes n. slice_index volumes.faults n;
     } };
 

@@ -2,10 +2,10 @@
 use Rattle.std.proofs.Common.{◌≡◌, inl, inr, ℕ, ◌≤◌, Bool, true, false, List, [], ◌∷◌, ◌++◌, length, refl, sym, ◌∙◌, ap, subst}
 use Rattle.ale_volumes.specs.declared.volume.Volume.{Volume}
 use Rattle.ale_volumes.specs.declared.step.Step.TheVariants.{Write, Sync}
-use Rattle.ale_volumes.specs.Volume.{IsImage, settled, written, FailsToWrite}
+use Rattle.ale_volumes.specs.Volume.{settled, written, FailsToWrite}
 use Rattle.ale_volumes.specs.Clock.{Elapses, KeepsOthers}
 use Rattle.ale_volumes.specs.Memory.{MemoryOf, AddsSync, half_written, after_step}
-use Rattle.ale_volumes.specs.MemoryLemmas.{memory, volume_now, moment_of, images_of, volume_step, volume_same, elapses_step, elapses_still, others_stay}
+use Rattle.ale_volumes.specs.MemoryLemmas.{memory, volume_now, volume_step, volume_same, elapses_step, elapses_still, others_stay}
 use Rattle.ale_volumes.specs.MemoryLemmas.{others_same}
 use Rattle.ale_volumes.specs.MemoryLemmas.{after_step-sync, after_step-write, after_step-half, after_steps-clean, half_written-torn}
 
@@ -14,7 +14,7 @@ module _ (old new : MemoryOf) (n : ℕ) (start : new.start ≡ old.start) where
   sync-durable (inl more) = volume_step old new (Sync n) n start more.0 ∙ after_step-sync n (volume_now old n)
   sync-durable (inr same) = volume_same old new n start same.0 ∙ after_steps-clean old.start old.steps n same.1
 
-  pub sync-time : AddsSync old new n → Elapses (moment_of old) (moment_of new) (images_of old n) (images_of new n) (IsImage (volume_now new n))
+  pub sync-time : AddsSync old new n → Elapses memory old new n
   sync-time (inl more) = elapses_step old new (Sync n) n start more.0
   sync-time (inr same) = elapses_still old new n start same.0
 
@@ -23,7 +23,7 @@ module _ (old new : MemoryOf) (n : ℕ) (start : new.start ≡ old.start) where
   sync-others (inr same) = others_same old new n start same.0
 
   module _ (at : ℕ) (bytes : List ℕ) (failed : Bool) (more : new.steps ≡ old.steps ++ Write n at bytes failed ∷ []) where
-    pub write-time : Elapses (moment_of old) (moment_of new) (images_of old n) (images_of new n) (IsImage (volume_now new n))
+    pub write-time : Elapses memory old new n
     write-time = elapses_step old new (Write n at bytes failed) n start more
 
     pub write-others : KeepsOthers memory old new n

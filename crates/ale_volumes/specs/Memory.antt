@@ -52,10 +52,9 @@ contents_after_step n old (Sync volume) = old
 abbrev pub EndsAtSync : ℕ → List Step → Type 0
 EndsAtSync n steps = (steps ≡ []) ⊎ ((front : List Step) × (steps ≡ front ++ Sync n ∷ []))
 
--- a crash at a moment from t on leaves this of volume n: an image of it after so many of the steps
-abbrev pub LeftSince : List (List ℕ) → List Step → ℕ → ℕ → List ℕ → Type 0
-LeftSince start steps n t image =
-    (moment : ℕ) × (t ≤ moment) × (moment ≤ length steps) × IsImage (after_steps start (take moment steps) n) image
+-- a crash at a moment leaves this of volume n: an image of it after so many of the steps
+abbrev pub LeftAt : List (List ℕ) → List Step → ℕ → ℕ → List ℕ → Type 0
+LeftAt start steps n moment image = IsImage (after_steps start (take moment steps) n) image
 
 -- What is kept beside the record: what each volume holds, which volumes have a write since their last sync, and room for
 -- the sync of each of them.

@@ -13,9 +13,9 @@ use Rattle.ale_volumes.specs.declared.volume.UnsyncedWrite.{UnsyncedWrite}
 use Rattle.ale_volumes.specs.declared.step.Step.{Step}
 use Rattle.ale_volumes.specs.declared.step.Step.TheVariants.{Write, Sync}
 use Rattle.ale_volumes.specs.Volume.{IsImage, IsCovered, settled, written, overwritten, FailsToWrite}
-use Rattle.ale_volumes.specs.Clock.{Elapses, KeepsOthers}
-use Rattle.ale_volumes.specs.Disk.{Disk}
-use Rattle.ale_volumes.specs.Memory.{MemoryOf, place_in, left_of, half_written, after_step, after_steps, LeftSince}
+use Rattle.ale_volumes.specs.Clock.{Elapses, KeepsOthers, PastStays, StaysAs}
+use Rattle.ale_volumes.specs.Disk.{Disk, LeftSince}
+use Rattle.ale_volumes.specs.Memory.{MemoryOf, place_in, left_of, half_written, after_step, after_steps, LeftAt}
 
 -- what is written keeps the bytes before and behind it
 pub overwritten_before : (old : List ℕ) (at : ℕ) (bytes : List ℕ) (i : ℕ) → at ≤ length old → i < at → get_or (overwritten old at bytes) i 0 ≡ get_or old i 0
@@ -146,51 +146,23 @@ pub after_steps-push : (start : List (List ℕ)) (steps : List Step) (step : Ste
     after_steps start (steps ++ step ∷ []) n ≡ after_step n (after_steps start steps n) step
 after_steps-push start steps step n = fold-append (after_step n) (settled (slice_index_or start n [])) steps (step ∷ [])
 
-module _ (start : List (List ℕ)) (steps : List Step) (n : ℕ) where
-  pub counts_now : (t : ℕ) (image : List ℕ) → t ≤ length steps → IsImage (after_steps start steps n) image → LeftSince start steps n t image
-  counts_now t image le is =
-      (length steps, le, omega arith, subst (λ (s : List Step). IsImage (after_steps start s n) image) (sym (take_all (length steps) steps (omega arith))) is)
-
-  pub only_now : (image : List ℕ) → LeftSince start steps n (length steps) image → IsImage (after_steps start steps n) image
-  only_now image left =
-      subst (λ (s : List Step). IsImage (after_steps start s n) image) (take_all left.0 steps left.1) left.3
-
-  -- no step
-  pub elapses_same : Elapses (length steps) (length steps) (LeftSince start steps n) (LeftSince start steps n) (IsImage (after_steps start steps n))
-  elapses_same = record { later = omega arith; nothing_else = λ t image le left. inl left; keeps = λ t image le left. left }
-
-  -- one step
-  module _ (step : Step) where
-    longer : List Step
-    longer = steps ++ step ∷ []
-
-    old_moment : (moment : ℕ) (image : List ℕ) → moment ≤ length steps → take moment (steps ++ step ∷ []) ≡ take moment steps
-    old_moment moment image le = take-append-le moment steps (step ∷ []) le
-
-    pub left_before : (t : ℕ) (image : List ℕ) → LeftSince start steps n t image → LeftSince start (steps ++ step ∷ []) n t image
-    left_before t image left = (
-      left.0,
-      left.1,
-      omega (arith, left.2, length_push steps step),
-      subst (λ (s : List Step). IsImage (after_steps start s n) image)
-          (sym (old_moment left.0 image left.2)) left.3,
+-- now is an image of now
+left_now : (start : List (List ℕ)) (steps : List Step) (n : ℕ) (image : List ℕ) → LeftAt start steps n (length steps) image ↔
+    IsImage (after_steps start steps n) image
+left_now start steps n image =
+    let all : take (length steps) steps ≡ steps = take_all (length steps) steps (omega arith) in (
+      λ left. subst (λ (s : List Step). IsImage (after_steps start s n) image) all left,
+      λ is. subst (λ (s : List Step). IsImage (after_steps start s n) image) (sym all) is,
     )
 
-    pub left_now : (t : ℕ) (image : List ℕ) → LeftSince start (steps ++ step ∷ []) n t image →
-        LeftSince start steps n t image ⊎ IsImage (after_steps start (steps ++ step ∷ []) n) image
-    left_now t image left = elim (cases_lt (length steps) left.0) [
-      | inl new ↦ inr (subst (λ (s : List Step). IsImage (after_steps start s n) image)
-          (take_all left.0 (steps ++ step ∷ []) (omega (arith, length_push steps step))) left.3)
-      | inr old ↦ inl (left.0, left.1, old, subst (λ (s : List Step). IsImage (after_steps start s n) image) (old_moment left.0 image old) left.3)
-    ]
-
-    pub elapses_push : Elapses (length steps) (length (steps ++ step ∷ [])) (LeftSince start steps n) (LeftSince start (steps ++ step ∷ []) n)
-        (IsImage (after_steps start (steps ++ step ∷ []) n))
-    elapses_push = record {
-      later = omega (arith, length_push steps step);
-      nothing_else = λ t image le left. left_now t image left;
-      keeps = λ t image le left. left_before t image left;
-    }
+-- what an earlier crash left stays after one step more
+left_before : (start : List (List ℕ)) (steps : List Step) (step : Step) (n moment : ℕ) (image : List ℕ) → moment ≤ length steps →
+    LeftAt start (steps ++ step ∷ []) n moment image ↔ LeftAt start steps n moment image
+left_before start steps step n moment image le =
+    let old : take moment (steps ++ step ∷ []) ≡ take moment steps = take-append-le moment steps (step ∷ []) le in (
+      λ left. subst (λ (s : List Step). IsImage (after_steps start s n) image) old left,
+      λ left. subst (λ (s : List Step). IsImage (after_steps start s n) image) (sym old) left,
+    )
 
 -- the volume that a step is of
 abbrev pub volume_of : Step → ℕ
@@ -282,59 +254,58 @@ volume_now memory n = after_steps memory.start memory.steps n
 abbrev pub moment_of : MemoryOf → ℕ
 moment_of memory = length memory.steps
 
-abbrev pub images_of : MemoryOf → ℕ → ℕ → List ℕ → Type 0
-images_of memory n t image = LeftSince memory.start memory.steps n t image
-
 -- what is known of volumes in memory
 abbrev pub memory : Disk MemoryOf
 memory = record {
   told = Unit {0};
   volume = volume_now;
   moment = moment_of;
-  images_since = images_of;
+  left_at = λ vols n moment image. LeftAt vols.start vols.steps n moment image;
   faults = λ vols n. slice_index vols.calls.faults n;
 }
 
--- with no step all is as it was
+pub counts_now : (vols : MemoryOf) (n t : ℕ) (image : List ℕ) → t ≤ moment_of vols → IsImage (volume_now vols n) image → LeftSince memory vols n t image
+counts_now vols n t image le is =
+    record { moment = moment_of vols; least = le; most = omega arith; left = (left_now vols.start vols.steps n image).1 is }
+
+pub only_now : (vols : MemoryOf) (n : ℕ) (image : List ℕ) → LeftSince memory vols n (moment_of vols) image → IsImage (volume_now vols n) image
+only_now vols n image left =
+    let here : left.moment ≡ moment_of vols = omega (arith, left.least, left.most) in
+    (left_now vols.start vols.steps n image).0 (subst (λ (m : ℕ). LeftAt vols.start vols.steps n m image) here left.left)
+
+-- with no step a volume is as it was
+module _ (old new : MemoryOf) (n : ℕ) (start : new.start ≡ old.start) (steps : new.steps ≡ old.steps) where
+  pub volume_same : volume_now new n ≡ volume_now old n
+  volume_same = cc
+
+  past_same : PastStays memory old new n
+  past_same moment image le =
+      let same : after_steps new.start (take moment new.steps) n ≡ after_steps old.start (take moment old.steps) n = cc in (
+        λ left. subst (λ (v : Volume). IsImage v image) same left,
+        λ left. subst (λ (v : Volume). IsImage v image) (sym same) left,
+      )
+
+  moment_same : moment_of new ≡ moment_of old
+  moment_same = ap length steps
+
+  pub elapses_still : Elapses memory old new n
+  elapses_still = record {
+    later = omega (arith, moment_same);
+    past = past_same;
+    now = λ moment image after le left. absurd (omega (arith, moment_same, after, le));
+  }
+
+  stays_same : StaysAs memory old new n
+  stays_same = record {
+    known = volume_same;
+    past = past_same;
+    still = λ moment image least most left.
+        let here : moment ≡ moment_of old = omega (arith, moment_same, least, most) in
+        subst (λ (m : ℕ). LeftAt old.start old.steps n m image) here ((past_same moment image (omega (arith, here))).0 left);
+  }
+
 pub others_same : (old new : MemoryOf) (n : ℕ) → new.start ≡ old.start → new.steps ≡ old.steps → KeepsOthers memory old new n
-others_same old new n start steps = record {
-  known = λ m other. cc;
-  images = λ m t image other le. (
-    λ left. subst (λ (s : List (List ℕ)). LeftSince s old.steps m t image) start
-        (subst (λ (s : List Step). LeftSince new.start s m t image) steps left),
-    λ left.
-        subst (λ (s : List Step). LeftSince new.start s m t image) (sym steps)
-        (subst (λ (s : List (List ℕ)). LeftSince s old.steps m t image) (sym start) left),
-  );
-}
-
-others_push : (old : MemoryOf) (start : List (List ℕ)) (steps : List Step) (step : Step) (n : ℕ) → n ≡ volume_of step → start ≡ old.start →
-    steps ≡ old.steps ++ step ∷ [] → (m t : ℕ) (image : List ℕ) → m ≢ n → t ≤ length old.steps →
-    LeftSince start steps m t image ↔ LeftSince old.start old.steps m t image
-others_push old start steps step n own same more m t image other le =
-    let longer = old.steps ++ step ∷ [] in
-    let stays : after_steps old.start longer m ≡ after_steps old.start old.steps m = after_steps-push old.start old.steps step m
-    ∙ after_step-other m _ step (λ is. other (is ∙ sym own)) in (
-      λ left.
-          let here : LeftSince old.start longer m t image = subst (λ (s : List (List ℕ)). LeftSince s longer m t image) same
-          (subst (λ (s : List Step). LeftSince start s m t image) more left) in
-          elim (left_now old.start old.steps m step t image here) [
-            | inl before ↦ before
-            | inr now ↦ counts_now old.start old.steps m t image le (subst (λ (v : Volume). IsImage v image) stays now)
-          ],
-      λ left.
-          subst (λ (s : List Step). LeftSince start s m t image) (sym more)
-          (subst (λ (s : List (List ℕ)). LeftSince s longer m t image) (sym same) (left_before old.start old.steps m step t image left)),
-    )
-
--- a step of one volume leaves all others alone
-pub others_stay : (old new : MemoryOf) (step : Step) (n : ℕ) → n ≡ volume_of step → new.start ≡ old.start → new.steps ≡ old.steps ++ step ∷ [] →
-    KeepsOthers memory old new n
-others_stay old new step n own start steps = record {
-  known = λ m other. let more : after_steps new.start new.steps m ≡ after_steps old.start (old.steps ++ step ∷ []) m = cc in
-      more ∙ after_steps-push old.start old.steps step m ∙ after_step-other m _ step (λ is. other (is ∙ sym own));
-  images = λ m t image other le. others_push old new.start new.steps step n own start steps m t image other le;
-}
+others_same old new n start steps = record { each = λ m other. stays_same old new m start steps }
 
 -- after one step more, of whichever volume
 module _ (old new : MemoryOf) (step : Step) (n : ℕ) (start : new.start ≡ old.start) (steps : new.steps ≡ old.steps ++ step ∷ []) where
@@ -343,28 +314,44 @@ module _ (old new : MemoryOf) (step : Step) (n : ℕ) (start : new.start ≡ old
       let more : volume_now new n ≡ after_steps old.start (old.steps ++ step ∷ []) n = cc in
       more ∙ after_steps-push old.start old.steps step n
 
-  pub elapses_step : Elapses (moment_of old) (moment_of new) (images_of old n) (images_of new n) (IsImage (volume_now new n))
-  elapses_step =
-      let push = elapses_push old.start old.steps n step in
-      let at_start : (s : List (List ℕ)) → old.start ≡ s →
-      Elapses (moment_of old) (length (old.steps ++ step ∷ [])) (images_of old n) (LeftSince s (old.steps ++ step ∷ []) n)
-      (IsImage (after_steps s (old.steps ++ step ∷ []) n)) = λ s same.
-      subst (λ (x : List (List ℕ)). Elapses (moment_of old) (length (old.steps ++ step ∷ [])) (images_of old n) (LeftSince x (old.steps ++ step ∷ []) n)
-      (IsImage (after_steps x (old.steps ++ step ∷ []) n))) same push in
-      subst (λ (x : List Step). Elapses (moment_of old) (length x) (images_of old n) (LeftSince new.start x n) (IsImage (after_steps new.start x n)))
-      (sym steps) (at_start new.start (sym start))
+  moment_step : moment_of new ≡ moment_of old + 1
+  moment_step = ap length steps ∙ length_push old.steps step
 
--- with no step
-module _ (old new : MemoryOf) (n : ℕ) (start : new.start ≡ old.start) (steps : new.steps ≡ old.steps) where
-  pub volume_same : volume_now new n ≡ volume_now old n
-  volume_same = cc
+  past_step : PastStays memory old new n
+  past_step moment image le =
+      let same : after_steps new.start (take moment new.steps) n ≡ after_steps old.start (take moment (old.steps ++ step ∷ [])) n = cc in
+      let before = left_before old.start old.steps step n moment image le in (
+        λ left. before.0 (subst (λ (v : Volume). IsImage v image) same left),
+        λ left. subst (λ (v : Volume). IsImage v image) (sym same) (before.1 left),
+      )
 
-  pub elapses_still : Elapses (moment_of old) (moment_of new) (images_of old n) (images_of new n) (IsImage (volume_now new n))
-  elapses_still =
-      let same = elapses_same old.start old.steps n in
-      let at_start : (s : List (List ℕ)) → old.start ≡ s →
-      Elapses (moment_of old) (moment_of old) (images_of old n) (LeftSince s old.steps n) (IsImage (after_steps s old.steps n)) = λ s is.
-      subst (λ (x : List (List ℕ)). Elapses (moment_of old) (moment_of old) (images_of old n) (LeftSince x old.steps n)
-      (IsImage (after_steps x old.steps n))) is same in
-      subst (λ (x : List Step). Elapses (moment_of old) (length x) (images_of old n) (LeftSince new.start x n) (IsImage (after_steps new.start x n)))
-      (sym steps) (at_start new.start (sym start))
+  now_step : (moment : ℕ) (image : List ℕ) → moment_of old < moment → moment ≤ moment_of new → LeftAt new.start new.steps n moment image →
+      IsImage (volume_now new n) image
+  now_step moment image after le left =
+      let here : moment ≡ moment_of new = omega (arith, moment_step, after, le) in
+      (left_now new.start new.steps n image).0 (subst (λ (m : ℕ). LeftAt new.start new.steps n m image) here left)
+
+  pub elapses_step : Elapses memory old new n
+  elapses_step = record { later = omega (arith, moment_step); past = past_step; now = now_step }
+
+-- a step of one volume leaves all others alone
+module _ (old new : MemoryOf) (step : Step) (n : ℕ) (own : n ≡ volume_of step) (start : new.start ≡ old.start)
+    (steps : new.steps ≡ old.steps ++ step ∷ []) where
+  known_other : (m : ℕ) → m ≢ n → volume_now new m ≡ volume_now old m
+  known_other m other = volume_step old new step m start steps ∙ after_step-other m _ step (λ is. other (is ∙ sym own))
+
+  stays_other : (m : ℕ) → m ≢ n → StaysAs memory old new m
+  stays_other m other = record {
+    known = known_other m other;
+    past = past_step old new step m start steps;
+    still = λ moment image least most left. elim (cases_lt (moment_of old) moment) [
+      | inl after ↦ (left_now old.start old.steps m image).1 (subst (λ (v : Volume). IsImage v image) (known_other m other)
+          (now_step old new step m start steps moment image after most left))
+      | inr before ↦
+          let here : moment ≡ moment_of old = omega (arith, least, before) in
+          subst (λ (t : ℕ). LeftAt old.start old.steps m t image) here ((past_step old new step m start steps moment image before).0 left)
+    ];
+  }
+
+  pub others_stay : KeepsOthers memory old new n
+  others_stay = record { each = stays_other }

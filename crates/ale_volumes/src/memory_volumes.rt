@@ -253,23 +253,22 @@ impl Volumes for MemoryVolumes {
     ghost use Rattle.ale_volumes.specs.Clock.{Elapses, KeepsOthers};
     ghost use Rattle.ale_volumes.specs.Faults.{CountsFault};
     ghost use Rattle.ale_volumes.specs.Calls.{CountsCall, NextFails};
-    ghost use Rattle.ale_volumes.specs.MemoryLemmas.{memory, volume_now, moment_of, images_of, counts_now, only_now, after_steps-read};
+    ghost use Rattle.ale_volumes.specs.MemoryLemmas.{memory, volume_now, counts_now, only_now, after_steps-read};
 
     ghost disk = { memory };
 
     ghost read_is_image = { λ told memory n. after_steps-read memory.start memory.steps n };
 
-    ghost counts_now = { λ told memory n t image. counts_now memory.start memory.steps n t image };
+    ghost counts_now = { λ told memory n t image. counts_now memory n t image };
 
-    ghost only_now = { λ told memory n image. only_now memory.start memory.steps n image };
+    ghost only_now = { λ told memory n image. only_now memory n image };
 
     fn length(&mut self, n: u8) -> Result<u64, VolumeFailed>
         requires { n < 16 }
         ensures length { IfOk result (λ len. len ≡ length (volume_now self.old n).contents) }
         ensures same { volume_now self.new n ≡ volume_now self.old n }
         ensures kept { self.new ≡ record self.old { calls = self.new.calls } }
-        ensures time { Elapses (moment_of self.old) (moment_of self.new)
-            (images_of self.old n) (images_of self.new n) (IsImage (volume_now self.new n)) }
+        ensures time { Elapses memory self.old self.new n }
         ensures others { KeepsOthers memory self.old self.new n }
         ensures faults { CountsFault (IsErr result)
             (slice_index self.old.calls.faults) (slice_index self.new.calls.faults) n }
@@ -290,8 +289,7 @@ impl Volumes for MemoryVolumes {
         ensures read { OnOk result (into.new ≡ take (length into.old) (drop at (volume_now self.old n).contents)) }
         ensures same { volume_now self.new n ≡ volume_now self.old n }
         ensures kept { self.new ≡ record self.old { calls = self.new.calls } }
-        ensures time { Elapses (moment_of self.old) (moment_of self.new)
-            (images_of self.old n) (images_of self.new n) (IsImage (volume_now self.new n)) }
+        ensures time { Elapses memory self.old self.new n }
         ensures others { KeepsOthers memory self.old self.new n }
         ensures faults { CountsFault (IsErr result)
             (slice_index self.old.calls.faults) (slice_index self.new.calls.faults) n }
@@ -316,8 +314,7 @@ impl Volumes for MemoryVolumes {
         ensures torn { IsErrOf result VolumeEnd.Failed →
             FailsToWrite (volume_now self.old n) at bytes.now (volume_now self.new n) }
         ensures unwritten { IsErrOf result VolumeEnd.OutOfMemory → volume_now self.new n ≡ volume_now self.old n }
-        ensures time { Elapses (moment_of self.old) (moment_of self.new)
-            (images_of self.old n) (images_of self.new n) (IsImage (volume_now self.new n)) }
+        ensures time { Elapses memory self.old self.new n }
         ensures others { KeepsOthers memory self.old self.new n }
         ensures faults { CountsFault (IsErrOf result VolumeEnd.Failed)
             (slice_index self.old.calls.faults) (slice_index self.new.calls.faults) n }
@@ -349,8 +346,7 @@ impl Volumes for MemoryVolumes {
         requires { n < 16 }
         ensures durable { OnOk result (volume_now self.new n ≡ settled (volume_now self.old n).contents) }
         ensures err { OnErr result (volume_now self.new n ≡ volume_now self.old n) }
-        ensures time { Elapses (moment_of self.old) (moment_of self.new)
-            (images_of self.old n) (images_of self.new n) (IsImage (volume_now self.new n)) }
+        ensures time { Elapses memory self.old self.new n }
         ensures others { KeepsOthers memory self.old self.new n }
         ensures faults { CountsFault (IsErr result)
             (slice_index self.old.calls.faults) (slice_index self.new.calls.faults) n }

@@ -14,7 +14,7 @@ use crate::{VolumeEnd, VolumeFailed};
 /// an error of the system, which it counts and answers as `Failed`.
 pub trait Volumes {
     ghost use Rattle.std.specs.Prelude.{◌≡◌, ◌≢◌, ◌↔◌, ℕ, List, ◌+◌, ◌<◌, ◌≤◌, length, take, drop, IfOk, OnOk, OnErr, IsErr, IsErrOf};
-    ghost use Rattle.ale_volumes.specs.Disk.{Disk};
+    ghost use Rattle.ale_volumes.specs.Disk.{Disk, LeftSince};
     ghost use Rattle.ale_volumes.specs.Volume.{IsImage, settled, written, FailsToWrite};
     ghost use Rattle.ale_volumes.specs.Clock.{Elapses, KeepsOthers};
     ghost use Rattle.ale_volumes.specs.Faults.{CountsFault};
@@ -28,8 +28,7 @@ pub trait Volumes {
         ensures length { disk.told → IfOk result (λ len. len ≡ length (disk.volume self.old n).contents) }
         ensures same { disk.told → disk.volume self.new n ≡ disk.volume self.old n }
 
-        ensures time { disk.told → Elapses (disk.moment self.old) (disk.moment self.new)
-            (disk.images_since self.old n) (disk.images_since self.new n) (IsImage (disk.volume self.new n)) }
+        ensures time { disk.told → Elapses disk self.old self.new n }
         ensures others { disk.told → KeepsOthers disk self.old self.new n }
         ensures faults { CountsFault (IsErr result) (disk.faults self.old) (disk.faults self.new) n };
 
@@ -42,8 +41,7 @@ pub trait Volumes {
             (into.new ≡ take (length into.old) (drop at (disk.volume self.old n).contents)) }
         ensures same { disk.told → disk.volume self.new n ≡ disk.volume self.old n }
 
-        ensures time { disk.told → Elapses (disk.moment self.old) (disk.moment self.new)
-            (disk.images_since self.old n) (disk.images_since self.new n) (IsImage (disk.volume self.new n)) }
+        ensures time { disk.told → Elapses disk self.old self.new n }
         ensures others { disk.told → KeepsOthers disk self.old self.new n }
         ensures faults { CountsFault (IsErr result) (disk.faults self.old) (disk.faults self.new) n };
 
@@ -57,8 +55,7 @@ pub trait Volumes {
             FailsToWrite (disk.volume self.old n) at bytes.now (disk.volume self.new n) }
         ensures unwritten { disk.told → IsErrOf result VolumeEnd.OutOfMemory → disk.volume self.new n ≡ disk.volume self.old n }
 
-        ensures time { disk.told → Elapses (disk.moment self.old) (disk.moment self.new)
-            (disk.images_since self.old n) (disk.images_since self.new n) (IsImage (disk.volume self.new n)) }
+        ensures time { disk.told → Elapses disk self.old self.new n }
         ensures others { disk.told → KeepsOthers disk self.old self.new n }
         ensures faults { CountsFault (IsErrOf result VolumeEnd.Failed) (disk.faults self.old) (disk.faults self.new) n };
 
@@ -68,8 +65,7 @@ pub trait Volumes {
         ensures durable { disk.told → OnOk result (disk.volume self.new n ≡ settled (disk.volume self.old n).contents) }
         ensures err { disk.told → OnErr result (disk.volume self.new n ≡ disk.volume self.old n) }
 
-        ensures time { disk.told → Elapses (disk.moment self.old) (disk.moment self.new)
-            (disk.images_since self.old n) (disk.images_since self.new n) (IsImage (disk.volume self.new n)) }
+        ensures time { disk.told → Elapses disk self.old self.new n }
         ensures others { disk.told → KeepsOthers disk self.old self.new n }
         ensures faults { CountsFault (IsErr result) (disk.faults self.old) (disk.faults self.new) n };
 
@@ -78,9 +74,9 @@ pub trait Volumes {
 
     // This moment is one of those since an earlier one.
     ghost counts_now: { disk.told → (vols : Self) (n t : ℕ) (image : List ℕ) →
-        t ≤ disk.moment vols → IsImage (disk.volume vols n) image → disk.images_since vols n t image };
+        t ≤ disk.moment vols → IsImage (disk.volume vols n) image → LeftSince disk vols n t image };
 
     // Since this moment there is no other.
     ghost only_now: { disk.told → (vols : Self) (n : ℕ) (image : List ℕ) →
-        disk.images_since vols n (disk.moment vols) image → IsImage (disk.volume vols n) image };
+        LeftSince disk vols n (disk.moment vols) image → IsImage (disk.volume vols n) image };
 }

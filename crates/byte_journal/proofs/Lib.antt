@@ -18,3 +18,5 @@ pub mod AppendLemmas
 mod BytesLemmas
 -- Journals through calls on other volumes, for who builds on them.
 pub mod SettledLemmas
+-- What a crash leaves of a volume while it is read.
+mod ReadOnlyLemmas

@@ -5,11 +5,11 @@ use Rattle.ale_volumes.specs.Disk.{Disk}
 use Rattle.ale_volumes.specs.declared.volume.Volume.{Volume}
 use Rattle.ale_volumes.specs.Volume.{IsImage, settled}
 use Rattle.ale_volumes.specs.Clock.{LeavesOnly}
-use Rattle.ale_volumes.proofs.ClockLemmas.{joined, weaker}
+use Rattle.ale_volumes.proofs.ClockLemmas.{joined, weaker, LeavesOnly-before}
 use Rattle.byte_journal.specs.declared.fault.OpenFault.{OpenFault}
 use Rattle.byte_journal.specs.declared.fault.OpenFault.TheVariants.{Damaged, Volume as VolumeFault, OutOfMemory}
 use Rattle.byte_journal.specs.Log.{front_of, Stands, DamagedAt, ReadsAs}
-use Rattle.byte_journal.specs.Settled.{Answers, LeavesOnlyLater}
+use Rattle.byte_journal.specs.Settled.{Answers, LeavesOnlyFromSync, LeavesOnlyLater}
 use Rattle.byte_journal.specs.Bytes.{IsAsBeforeButForTheGate}
 use Rattle.byte_journal.specs.steps.Reading.{ReadsTo, Reads}
 use Rattle.byte_journal.proofs.FrontLemmas.{ReadsTo-front, DamagedAt-front}
@@ -34,7 +34,7 @@ module _ {D : Type 0} (disk : Disk D) (old mid new : D) (n : ℕ)
       from = first.from;
       not_before = first.not_before;
       not_after = omega (arith, first.not_after, closes.later);
-      each = λ image left. ⊎_elim (λ past. inl (first.each image past)) (reads image) (closes.before first.from image first.not_after left);
+      each = λ image left. ⊎_elim (λ past. inl (first.each image past)) (reads image) (LeavesOnly-before disk mid new n _ closes first.from image left);
     }
 
     pub open-from_sync : {T : Type 0} (result : Result T OpenFault) (value : T) → result ≡ Ok value
@@ -42,6 +42,18 @@ module _ {D : Type 0} (disk : Disk D) (old mid new : D) (n : ℕ)
         LeavesOnlyLater disk old new n (ReadsAs before)
     open-from_sync result value is (inl failed) = let refused = failed.0 in absurd (cc)
     open-from_sync result value is (inr first) = later first
+
+-- what was read and not closed leaves, from the first sync on, what reads as it
+pub unclosed-from_sync : {D : Type 0} (disk : Disk D) (old mid : D) (n : ℕ) (failed refused : Type 0) → (failed → refused)
+    → LeavesOnlyFromSync disk old mid n failed (λ image. image ≡ (disk.volume old n).contents) →
+    LeavesOnlyFromSync disk old mid n refused (ReadsAs (disk.volume old n).contents)
+unclosed-from_sync disk old mid n failed refused so (inl first) = inl (so first.0, first.1)
+unclosed-from_sync disk old mid n failed refused so (inr later) = inr (record {
+  from = later.from;
+  not_before = later.not_before;
+  not_after = later.not_after;
+  each = λ image left. inl (later.each image left);
+})
 
 -- a fault of reading the front is the answer for all
 pub answers-unread : (bytes front : List ℕ) (fault : OpenFault) → front ≡ front_of bytes → Reads front (Err fault) → Answers bytes (Err fault)

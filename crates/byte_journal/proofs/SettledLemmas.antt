@@ -1,6 +1,6 @@
 -- Journals through calls on other volumes, for who builds on them.
 use Rattle.std.proofs.Common.{◌≡◌, ◌+◌, ℕ, List, [], ◌∷◌, ◌++◌, length, sym, ◌∙◌, ap, subst, arith}
-use Rattle.ale_volumes.specs.Disk.{Disk}
+use Rattle.ale_volumes.specs.Disk.{Disk, LeftSince}
 use Rattle.ale_volumes.specs.declared.volume.Volume.{Volume}
 use Rattle.ale_volumes.specs.Volume.{IsImage, settled}
 use Rattle.ale_volumes.specs.Clock.{LeavesOnly, KeepsVolume}
@@ -36,7 +36,7 @@ module _ {D : Type 0} (disk : Disk D) where
 
   -- While other volumes are called, a crash leaves of a settled journal's volume bytes that stand for its log.
   pub IsSettled-any_moment : (old new : D) (journal : Journal) (log : List (List ℕ)) →
-      ((image : List ℕ) → disk.images_since old journal.volume (disk.moment old) image → IsImage (disk.volume old journal.volume) image)
+      ((image : List ℕ) → LeftSince disk old journal.volume (disk.moment old) image → IsImage (disk.volume old journal.volume) image)
       → KeepsVolume disk old new journal.volume → IsSettled disk old journal log →
       LeavesOnly disk old new journal.volume (λ image. Stands image log)
   IsSettled-any_moment old new journal log only_now kept s =

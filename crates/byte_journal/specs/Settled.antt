@@ -1,6 +1,6 @@
 -- A journal that is ready for appends, and what opening one answers.
 use Rattle.std.specs.Prelude.{◌≡◌, ◌≢◌, ◌⊎◌, ℕ, ◌<◌, ◌≤◌, List, [], ◌∷◌, ◌++◌, length, Result, Ok, Err}
-use Rattle.ale_volumes.specs.Disk.{Disk}
+use Rattle.ale_volumes.specs.Disk.{Disk, LeftSince}
 use Rattle.ale_volumes.specs.declared.volume.Volume.{Volume}
 use Rattle.ale_volumes.specs.Volume.{IsImage, settled}
 use Rattle.byte_journal.specs.declared.journal.Journal.{Journal}
@@ -55,7 +55,7 @@ pub record LeavesOnlyLater {D : Type 0} (disk : Disk D) (old new : D) (n : ℕ) 
   pub from : ℕ
   pub not_before : disk.moment old ≤ from
   pub not_after : from ≤ disk.moment new
-  pub each : (image : List ℕ) → disk.images_since new n from image → P image
+  pub each : (image : List ℕ) → LeftSince disk new n from image → P image
 
 -- The first call failed, and volume n is as before; or from some moment on a crash leaves of it only what has P.
 abbrev pub LeavesOnlyFromSync : {D : Type 0} → Disk D → D → D → ℕ → Type 0 → (List ℕ → Type 0) → Type 0

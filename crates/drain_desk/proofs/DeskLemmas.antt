@@ -69,12 +69,10 @@ module _ {V : Type 0} (disk : Disk V) (began now next : KeptOf ModelRules Docume
 module _ {V : Type 0} (disk : Disk V) (began now : KeptOf ModelRules DocumentTables V) (lines lines_now : Lines) (n : ℕ) where
   -- a desk at which no memory was wanting
   pub keeps-going : (is_short : Bool) → is_short ≡ false → Keeps disk began now lines lines_now is_short n → AreGoingOn disk began now lines lines_now n
-  keeps-going false is keeps = keeps
-  keeps-going true is keeps = cc
+  keeps-going is_short is keeps = subst (λ short. Keeps disk began now lines lines_now short n) is keeps
 
   pub going-keeps : (is_short : Bool) → is_short ≡ false → AreGoingOn disk began now lines lines_now n → Keeps disk began now lines lines_now is_short n
-  going-keeps false is going = going
-  going-keeps true is going = cc
+  going-keeps is_short is going = subst (λ short. Keeps disk began now lines lines_now short n) (sym is) going
 
 module _ {V : Type 0} (disk : Disk V) (began : Began V) where
   -- what is known of a unit that was claimed since the workers began was so then

@@ -1,6 +1,6 @@
 -- Workers begin and end: claims are given up, and what is still offered is shipped and executed.
 use Rattle.std.specs.List.{list_all}
-use Rattle.std.proofs.Common.{◌≡◌, ◌+◌, ℕ, not, Bool, true, false, [], ◌++◌, Result, Ok, Err, inl, inr, refl, sym, ap, subst, ◌∙◌, arith}
+use Rattle.std.proofs.Common.{◌≡◌, ◌+◌, ℕ, not, true, false, [], ◌++◌, Result, Ok, Err, inl, inr, refl, sym, ap, subst, ◌∙◌, arith}
 use Rattle.std.proofs.lemmas.Bool.{and_from}
 use Rattle.std.proofs.lemmas.List.Folds.{list_all-append}
 use Rattle.ale_volumes.specs.Disk.{Disk}
@@ -28,7 +28,7 @@ use Rattle.unit_works.proofs.StateLemmas.{happens-step}
 use Rattle.unit_works.proofs.WentLemmas.{went-happened}
 use Rattle.unit_works.proofs.WorkedLemmas.{is_lawful, meaning, on, part, still}
 use Rattle.landscape.specs.Crashes.{LeavesSoundLogs}
-use Rattle.drain_desk.specs.Desk.{AreGoingOn, Keeps}
+use Rattle.drain_desk.specs.Desk.{AreGoingOn}
 use Rattle.drain_desk.specs.steps.Closing.{ClosedAs, IsAdded}
 
 module _ {V : Type 0} (disk : Disk V) (before after : KeptOf ModelRules DocumentTables V) (is : IsLandscape meaning before.world)
@@ -117,12 +117,6 @@ rounds-work disk before last lines lines_last (Ok m) rounds =
     let worked = gone.worked in
     part disk is_work before last worked.went
 rounds-work disk before last lines lines_last (Err short) rounds = rounds
-
--- what a desk keeps is works
-pub keeps-work : {V : Type 0} (disk : Disk V) (began now : KeptOf ModelRules DocumentTables V) (lines lines_now : Lines) (is_short : Bool) (n : ℕ)
-    → Keeps disk began now lines lines_now is_short n → Worked disk began now is_work false
-keeps-work disk began now lines lines_now false n keeps = part disk is_work began now keeps.went
-keeps-work disk began now lines lines_now true n keeps = keeps
 
 -- claims were given up, and what was still offered was shipped and executed
 pub closed : {V : Type 0} (disk : Disk V) (now revoked last : KeptOf ModelRules DocumentTables V) (lines_now lines_last : Lines) (n : ℕ)

@@ -7,12 +7,12 @@ use Rattle.std.proofs.lemmas.List.{length-replicate, replicate_more}
 use Rattle.std.specs.List.{range_with_len}
 use Rattle.std.specs.Option.{unwrap_or}
 use Rattle.ale_base.specs.Faults.{Rose}
-use Rattle.ale_volumes.specs.Disk.{Disk}
+use Rattle.ale_volumes.specs.Disk.{Disk, LeftSince}
 use Rattle.ale_volumes.specs.declared.volume.Volume.{Volume as OneVolume}
 use Rattle.ale_volumes.specs.Clock.{KeepsOthers, KeepsVolume, LeavesOnly}
 use Rattle.ale_volumes.specs.Faults.{CountsFault}
 use Rattle.ale_volumes.specs.Volume.{IsImage}
-use Rattle.ale_volumes.proofs.ClockLemmas.{KeepsVolume-joined, KeepsVolume-other, LeavesOnly-then_kept, joined, started, weaker}
+use Rattle.ale_volumes.proofs.ClockLemmas.{KeepsVolume-joined, KeepsVolume-other, LeavesOnly-then_kept, StaysAs-none, joined, started, weaker}
 use Rattle.byte_journal.specs.Log.{DamagedAt}
 use Rattle.byte_journal.specs.Settled.{IsLeftByOpening}
 use Rattle.dist_model.specs.declared.lists.Lists.{Lists}
@@ -154,10 +154,10 @@ module _ {V : Type 0} (disk : Disk V) (many : ℕ)
   Left now = LeavesOpening disk many text set before now
 
   untouched-none : disk.told → (place : ℕ) → KeepsVolume disk before before place
-  untouched-none tells place = record { later = omega arith; known = refl; images = λ t image le. (λ left. left, λ left. left) }
+  untouched-none tells place = record { later = omega arith; stays = StaysAs-none disk before place }
 
   -- nothing was done yet
-  left-none : (disk.told → (vols : V) (n : ℕ) (image : List ℕ) → disk.images_since vols n (disk.moment vols) image → IsImage (disk.volume vols n) image) →
+  left-none : (disk.told → (vols : V) (n : ℕ) (image : List ℕ) → LeftSince disk vols n (disk.moment vols) image → IsImage (disk.volume vols n) image) →
       disk.told → Left before
   left-none only tells = record {
     leaves = λ place. started disk before place (IsLeft disk many text set before before place)
@@ -165,7 +165,7 @@ module _ {V : Type 0} (disk : Disk V) (many : ℕ)
     beyond = λ place behind. untouched-none tells place;
   }
 
-  pub AreOpened-none : (disk.told → (vols : V) (n : ℕ) (image : List ℕ) → disk.images_since vols n (disk.moment vols) image →
+  pub AreOpened-none : (disk.told → (vols : V) (n : ℕ) (image : List ℕ) → LeftSince disk vols n (disk.moment vols) image →
       IsImage (disk.volume vols n) image)
       → (now : Kept) → now.world.rules.systems ≡ many → length now.world.systems ≡ 0 → count_of now.journals ≡ 0 → moment_of now.journals ≡ set → now.vols
       ≡ before
@@ -181,10 +181,6 @@ module _ {V : Type 0} (disk : Disk V) (many : ℕ)
     empty = λ tells place less. absurd (omega arith);
     none_failed = λ place. ap (λ v. disk.faults v place) vols;
   }
-
-  -- memory was wanting before the next step
-  pub ended-short : (now : V) → (disk.told → Left now) → NoneFailed many disk before now → Ended (record { why = OutOfMemory; vols = now })
-  ended-short now left none = record { why = tt; leaves = left; faulted = none }
 
   -- a call on the volume at a place, which leaves of it what an opening may
   module _ (now after : V) (n : ℕ) where
@@ -219,7 +215,7 @@ module _ {V : Type 0} (disk : Disk V) (many : ℕ)
 
   module _ (count : ℕ) (now : Kept) (is : Opened count now) (less : count < many) where
     known : disk.told → disk.volume now.vols (length now.world.systems) ≡ disk.volume before (length now.world.systems)
-    known tells = (is.untouched tells (length now.world.systems) (let here = is.opened in omega arith)).known
+    known tells = (is.untouched tells (length now.world.systems) (let here = is.opened in omega arith)).stays.known
 
     only-here : disk.told → (after : V) → LeavesOnly disk now.vols after (length now.world.systems)
         (IsLeftByOpening (disk.volume now.vols (length now.world.systems)))

@@ -21,12 +21,14 @@ use Rattle.runs.specs.declared.turns.TurnEnd.{TurnEnd}
 use Rattle.runs.specs.declared.turns.TurnEnd.TheVariants as turn
 use Rattle.runs.specs.Does.{IsCarriedOut}
 use Rattle.runs.specs.Complete.{AllGoThrough, HoldNothing, IsComplete, IsFree, OfferAll}
-use Rattle.runs.specs.Run.{AreAsked, Ends, Follow, Run}
+use Rattle.runs.specs.Run.{AreAsked, Ends, Follow, IsSoundFromEach, Run}
 use Rattle.runs.specs.Turns.{Turn, at_moment, commands_of, moments_of, text_of, last_stage, first_down, first_faulted, length_at}
 use Rattle.runs.specs.Text.{shown}
 use Rattle.runs.specs.steps.Keeping.{KeepsFree}
 use Rattle.runs.specs.Put.{IsPut, IsPart, IsCut, IsPutAt}
 use Rattle.runs.specs.steps.Put.{IsReported, IsTurn, GivesOne, down_end_of, end_behind}
+use Rattle.landscape.specs.Crashes.{GoesSoundly, LeavesSoundLogs}
+use Rattle.landscape.proofs.SoundLemmas.{goes-none, goes-on}
 use Rattle.unit_landscape.specs.Kept.{IsLandscape}
 use Rattle.unit_works.proofs.WorkedLemmas.{meaning}
 use Rattle.runs.proofs.CompleteLemmas.{hold-first, keeps-free, offer-first, through-last}
@@ -58,6 +60,26 @@ Follow-push : {V : Type 0} (disk : Disk V) (inputs : Inputs) (before : Stage V) 
     (turns ++ next ∷ [])
 Follow-push disk inputs before [] next follow up does = (up, does, tt)
 Follow-push disk inputs before (first ∷ turns) next follow up does = (follow.0, follow.1, Follow-push disk inputs first.after turns next follow.2 up does)
+
+-- ---- what a crash leaves, from each stage on
+
+-- a run goes on behind its turns
+IsSoundFromEach-on : {V : Type 0} (disk : Disk V) (inputs : Inputs) (before : Stage V) (turns : List (Turn V)) (mid after : Stage V)
+    → IsSoundFromEach disk inputs before turns mid → GoesSoundly disk mid.landscape after.landscape → IsSoundFromEach disk inputs before turns after
+IsSoundFromEach-on disk inputs before [] mid after so_far more = (so_far.0, goes-on disk before.landscape mid.landscape after.landscape so_far.1 more)
+IsSoundFromEach-on disk inputs before (turn ∷ turns) mid after so_far more = (
+  (so_far.0.0, goes-on disk before.landscape mid.landscape after.landscape so_far.0.1 more),
+  IsSoundFromEach-on disk inputs turn.after turns mid after so_far.1 more,
+)
+
+-- by one turn more
+IsSoundFromEach-push : {V : Type 0} (disk : Disk V) (inputs : Inputs) (before : Stage V) (turns : List (Turn V)) (next : Turn V)
+    → IsSoundFromEach disk inputs before turns next.after → LeavesSoundLogs disk next.after.landscape next.after.landscape
+    → IsSoundFromEach disk inputs before (turns ++ next ∷ []) next.after
+IsSoundFromEach-push disk inputs before [] next sound now =
+    (sound, (now, goes-none disk next.after.landscape next.after.landscape refl refl))
+IsSoundFromEach-push disk inputs before (turn ∷ turns) next sound now =
+    (sound.0, IsSoundFromEach-push disk inputs turn.after turns next sound.1 now)
 
 -- ---- what was put
 
@@ -123,6 +145,7 @@ pub record SoFar {V : Type 0} (disk : Disk V) (inputs : Inputs) (commands : List
   pub asked : told → given_now ≡ given ++ moments_of turns
   pub up : first_down now.landscape.world ≡ None
   pub free : IsFree before → HoldNothing turns → OfferAll turns → IsFree now × AllGoThrough turns
+  pub sound : IsSoundFromEach disk inputs before turns now
 
 abbrev turned : {V : Type 0} → Command → ℕ → Answered → Stage V → Turn V
 turned command moment answered after = record { command = command; moment = moment; answered = answered; after = after }
@@ -136,8 +159,9 @@ HasRun {V} disk inputs commands before after its old new put put_new told given 
 
 module _ {V : Type 0} (disk : Disk V) (inputs : Inputs) (commands : List Command) (before : Stage V) (old : Option (List ℕ)) (put : ℕ) (given : List ℕ)
   where
-    pub SoFar-start : (told : Type 0) → first_down before.landscape.world ≡ None → SoFar disk inputs commands 0 before before old old put put told given given
-    SoFar-start told up = record {
+    pub SoFar-start : (told : Type 0) → first_down before.landscape.world ≡ None → LeavesSoundLogs disk before.landscape before.landscape
+        → SoFar disk inputs commands 0 before before old old put put told given given
+    SoFar-start told up now = record {
       turns = [];
       these = refl;
       follow = tt;
@@ -146,6 +170,7 @@ module _ {V : Type 0} (disk : Disk V) (inputs : Inputs) (commands : List Command
       asked = λ tells. sym (append-nil given);
       up = up;
       free = λ free hold offer. (free, tt);
+      sound = (now, goes-none disk before.landscape before.landscape refl refl);
     }
 
     pub Run-whole : (i : ℕ) (after : Stage V) (new : Option (List ℕ)) (put_new : ℕ) (told : Type 0) (given_new : List ℕ)
@@ -160,6 +185,7 @@ module _ {V : Type 0} (disk : Disk V) (inputs : Inputs) (commands : List Command
         halted = [];
         ends = (refl, refl, so_far.last, so_far.up);
         complete = λ free hold offer. (so_far.free free hold offer).1;
+        sound = so_far.sound;
       },
       so_far.put_is,
       λ tells. so_far.asked tells ∙ ap (λ moments. given ++ moments) (sym (append-nil (moments_of so_far.turns))),
@@ -169,7 +195,14 @@ module _ {V : Type 0} (disk : Disk V) (inputs : Inputs) (commands : List Command
         (given_mid given_new : List ℕ)
         (so_far : SoFar disk inputs commands i before mid old mid_put put put_mid told_mid given given_mid) (below : i < length commands)
         (is : command ≡ get_or commands i d)
-        (still : told → told_mid) (moment : ℕ) (gives : GivesOne told given_mid given_new moment) where
+        (still : told → told_mid) (moment : ℕ) (gives : GivesOne told given_mid given_new moment)
+        (goes : GoesSoundly disk mid.landscape after.landscape) (now : LeavesSoundLogs disk after.landscape after.landscape) where
+      sound_on : IsSoundFromEach disk inputs before so_far.turns after
+      sound_on = IsSoundFromEach-on disk inputs before so_far.turns mid after so_far.sound goes
+
+      sound_pushed : (answered : Answered) → IsSoundFromEach disk inputs before (so_far.turns ++ turned command moment answered after ∷ []) after
+      sound_pushed answered = IsSoundFromEach-push disk inputs before so_far.turns (turned command moment answered after) sound_on now
+
       asked_more : told → given_new ≡ given ++ (moments_of so_far.turns ++ moment ∷ [])
       asked_more tells =
           gives tells ∙ ap (λ those. those ++ moment ∷ []) (so_far.asked (still tells)) ∙ append_assoc given (moments_of so_far.turns) (moment ∷ [])
@@ -225,6 +258,7 @@ module _ {V : Type 0} (disk : Disk V) (inputs : Inputs) (commands : List Command
             let offers = offer-first (turned command moment answered after) so_far.turns offer in
             let kept = keeps holds.1 up offers.1 (so_far.free free holds.0 offers.0).0 in
             (kept.0, completed answered keeps free hold offer);
+        sound = sound_pushed answered;
       }
 
       asked_done : (answered : Answered) → AreAsked told given given_new (so_far.turns ++ turned command moment answered after ∷ []) []
@@ -257,6 +291,7 @@ module _ {V : Type 0} (disk : Disk V) (inputs : Inputs) (commands : List Command
         halted = [];
         ends = ends;
         complete = completed answered keeps;
+        sound = sound_pushed answered;
       }
 
       -- a system went down in the command
@@ -320,6 +355,7 @@ module _ {V : Type 0} (disk : Disk V) (inputs : Inputs) (commands : List Command
             ),
           );
           complete = λ free hold offer. (so_far.free free hold offer).1;
+          sound = sound_on;
         },
         subst (IsPut old new put put_new) (append-nil (text_of so_far.turns))
             (IsPut-then old mid_put new put put_mid put_new (text_of so_far.turns) [] so_far.put_is none),

@@ -107,7 +107,7 @@ shown_gathered made = reply.Gathered made.masters made.documents made.units
 
 -- ---- what commands do
 
--- a command is done by one call at most, and whatever a crash leaves inside it is sound
+-- nothing is done to a landscape, or a crash leaves no more of it than of one call, and that is sound
 abbrev pub IsOneCall : {V : Type 0} → Disk V → Stage V → Stage V → Type 0
 IsOneCall disk before after = (after.landscape ≡ before.landscape) ⊎ LeavesSoundLogs disk before.landscape after.landscape
 
@@ -198,7 +198,7 @@ module _ {V : Type 0} (disk : Disk V) where
     Does (form.ShowQueues sys) = named sys (λ system. Shows before answer after (show.Queues system))
     Does (form.ShowObjects sys) = named sys (λ system. Shows before answer after (show.Objects system))
 
-    -- how a command goes: a drain by calls one behind the other, any other by one call at most; whatever a crash leaves inside each is sound
+    -- how a command goes: a drain so that what a crash leaves at each moment after its first is sound; any other command as one call at most
     abbrev pub Goes : Form → Type 0
     Goes form.Drain = GoesSoundly disk before.landscape after.landscape
     Goes asked = IsOneCall disk before after

@@ -2,6 +2,7 @@
 use Rattle.std.specs.Prelude.{◌≡◌, ⊤, ℕ, List, [], ◌∷◌, ◌++◌, Some, None, Result, Ok}
 use Rattle.ale_volumes.specs.Disk.{Disk}
 use Rattle.ale_base.specs.declared.out_of_memory.OutOfMemory.{OutOfMemory as Short}
+use Rattle.landscape.specs.Crashes.{GoesSoundly, LeavesSoundLogs}
 use Rattle.script_text.specs.declared.command.Command.{Command}
 use Rattle.runs.specs.declared.answered.Answered.{Answered}
 use Rattle.runs.specs.declared.inputs.Inputs.{Inputs}
@@ -38,6 +39,16 @@ module _ {V : Type 0} (disk : Disk V) (inputs : Inputs) where
   Ends WriteFailed left halted before turns after = (halted ≡ []) × (after ≡ last_stage before turns)
   Ends OutOfMemory left halted before turns after = (moment : ℕ) × (halted ≡ moment ∷ []) × IsHalted left moment (last_stage before turns) after
 
+  -- from a stage on, whatever a crash leaves of all volumes then or at any later moment stands for logs that are sound, and that have all records
+  -- of that stage
+  abbrev pub IsSoundFrom : Stage V → Stage V → Type 0
+  IsSoundFrom before after = LeavesSoundLogs disk before.landscape before.landscape × GoesSoundly disk before.landscape after.landscape
+
+  -- So it is from the first stage of a run, and from what each turn left: no record is lost once its command has ended.
+  abbrev pub IsSoundFromEach : Stage V → List (Turn V) → Stage V → Type 0
+  IsSoundFromEach before [] after = IsSoundFrom before after
+  IsSoundFromEach before (turn ∷ turns) after = IsSoundFrom before after × IsSoundFromEach turn.after turns after
+
   -- a run of commands
   pub record Run (commands : List Command) (before after : Stage V) (end : RunEnd) (turns : List (Turn V)) : Type 0 where
     pub left : List Command
@@ -46,6 +57,7 @@ module _ {V : Type 0} (disk : Disk V) (inputs : Inputs) where
     pub halted : List ℕ
     pub ends : Ends end left halted before turns after
     pub complete : IsComplete before turns
+    pub sound : IsSoundFromEach before turns after
 
 -- a clock, where it tells what it gave, gave the moments of the turns, and behind them that of the command in which memory ran out
 abbrev pub AreAsked : {V : Type 0} → Type 0 → List ℕ → List ℕ → List (Turn V) → List ℕ → Type 0

@@ -1,8 +1,9 @@
 //! A command is carried out. Its forms are, by file: in `committing` those that commit documents, in `changing` those that change
 //! objects and pass documents to the application again, in `operating` those of an operator, in `showing` the listings.
 
-ghost use Rattle.std.specs.Prelude.{◌≡◌, IfOk};
+ghost use Rattle.std.specs.Prelude.{◌≡◌, ◌≢◌, IfOk};
 ghost use Rattle.script_text.specs.declared.form.Form.TheVariants as form;
+ghost use Rattle.script_text.specs.declared.form.Form.TheVariants.{Drain};
 ghost use Rattle.runs.specs.declared.inputs.Inputs.{Inputs as InputsOf};
 ghost use Rattle.landscape.specs.Crashes.{GoesSoundly};
 ghost use Rattle.runs.specs.Does.{Does, Goes, drained_as};
@@ -92,18 +93,20 @@ fn finished(end: Result<u64, OutOfMemory>) -> Result<Answered, OutOfMemory>
     }
 }
 
-/// Carries out a command that is no drain. A drain, which takes what it works on whole, is not carried out here.
+/// Carries out a command that is no drain, which takes what it works on whole.
 fn carry_out<V: Volumes>(
     stage: &mut Stage<V>,
     inputs: &Inputs,
     form: &Form,
 ) -> Result<Answered, OutOfMemory>
+    requires { form.now ≢ Drain }
     ensures does { Does V.disk inputs.now stage.old result stage.new form.now }
     ensures calls { Goes V.disk inputs.now stage.old result stage.new form.now }
     ensures printable { IfOk result IsPrintable }
 {
     match form {
-        Form::Drain => Err(OutOfMemory),
+        // `perform` hands on no drain.
+        Form::Drain => unreachable!(),
         Form::Send { sys, number } => send(stage, inputs, sys.as_slice(), *number),
         Form::Put { sys, change } => put(stage, inputs, sys.as_slice(), change),
         Form::Gather { sys, message } => {

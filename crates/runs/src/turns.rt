@@ -1,6 +1,10 @@
 //! The commands of a script, one after the other.
 
 ghost use Rattle.std.specs.Prelude.{◌≡◌, ◌≤◌, ℕ, List, None, IfOk};
+ghost use Rattle.document_state.specs.declared.model_rules.ModelRules.{ModelRules};
+ghost use Rattle.document_state.specs.Meaning.{model_meaning};
+ghost use Rattle.landscape.specs.Crashes.{GoesSoundly, LeavesSoundLogs};
+ghost use Rattle.unit_landscape.specs.Kept.{IsLandscape};
 ghost use Rattle.runs.specs.Run.{AreAsked, Run};
 ghost use Rattle.runs.specs.Turns.{Turn, at_moment, first_down, first_faulted, length_at};
 ghost use Rattle.runs.specs.Text.{IsPrintable, shown};
@@ -43,6 +47,9 @@ pub(crate) enum TurnEnd {
 /// command the clock is asked, and its records are written with that moment. A system that goes down ends the run behind the command, and so
 /// does a text that the sink did not take, and want of memory.
 ///
+/// Whatever a crash leaves of all volumes at one moment of the run stands for logs that are sound. No record is missing that a log had before the
+/// run, or when a command ended before that moment.
+///
 /// Where nothing holds units up at first, no command does, and what is sent is offered by its receiver, each unit that was committed went its
 /// whole way behind each drain that left all systems up.
 pub fn run_script<R: Threads + Wait + Sync, V: Volumes + Send, G: Gate + Sync, K: Sink, C: Clock>(
@@ -61,6 +68,7 @@ pub fn run_script<R: Threads + Wait + Sync, V: Volumes + Send, G: Gate + Sync, K
     ensures told { C.told clock.new → C.told clock.old }
     ensures counted { K.faults out.old ≤ K.faults out.new }
 {
+    let _ = stage.landscape.world();
     let mut stage = stage;
     for command in commands {
         let Turned { stage: after, end } = turn(crew, alloc, stage, inputs, command, out, clock);
@@ -93,9 +101,13 @@ fn turn<R: Threads + Wait + Sync, V: Volumes + Send, G: Gate + Sync, K: Sink, C:
     out: &mut K,
     clock: &mut C,
 ) -> Turned<V>
+    requires safe { IsLandscape (λ (rules : ModelRules). model_meaning rules.systems) stage.landscape.world }
     ensures turn { (moment : ℕ) × IsTurn V.disk inputs.now result.end moment command.now stage result.stage
         (K.contents out.old) (K.contents out.new) (K.faults out.old) (K.faults out.new)
         × GivesOne (C.told clock.new) (C.given clock.old) (C.given clock.new) moment }
+    ensures sound { GoesSoundly V.disk stage.landscape result.stage.landscape }
+    ensures now { LeavesSoundLogs V.disk result.stage.landscape result.stage.landscape }
+    ensures safe { IsLandscape (λ (rules : ModelRules). model_meaning rules.systems) result.stage.landscape.world }
     ensures told { C.told clock.new → C.told clock.old }
     ensures counted { K.faults out.old ≤ K.faults out.new }
 {

@@ -1,7 +1,7 @@
 -- What is on disk stays so through calls on other volumes, and what a crash leaves meanwhile, for who builds on it.
 use Rattle.std.specs.Option.{unwrap_or}
-use Rattle.std.proofs.Common.{◌≡◌, ◌≢◌, inl, inr, ℕ, Option, Some, None, List, [], ◌∷◌, ◌++◌, length, refl, sym, ap, ◌∙◌, subst, arith}
-use Rattle.ale_volumes.specs.Disk.{Disk}
+use Rattle.std.proofs.Common.{◌≡◌, ◌≢◌, inl, inr, ℕ, Option, Some, None, List, [], ◌∷◌, ◌++◌, length, refl, sym, ap, ◌∙◌, subst}
+use Rattle.ale_volumes.specs.Disk.{Disk, LeftSince}
 use Rattle.ale_volumes.specs.declared.volume.Volume.{Volume}
 use Rattle.ale_volumes.specs.Volume.{IsImage}
 use Rattle.ale_volumes.specs.Clock.{LeavesOnly, KeepsOthers, KeepsVolume}
@@ -115,17 +115,17 @@ module _ {D : Type 0} (disk : Disk D) where
   pub IsOnDisk-kept : (old new : D) (place n : ℕ) (before after : SystemJournals) (log : List Record) → place ≢ n
       → (disk.told → KeepsOthers disk old new n) → SameAt place before after
       → IsOnDisk disk old place before log → IsOnDisk disk new place after log
-  IsOnDisk-kept old new place n before after log apart others = IsOnDisk-same old new place before after log (λ tells. (others tells).known place apart)
+  IsOnDisk-kept old new place n before after log apart others = IsOnDisk-same old new place before after log (λ tells. ((others tells).each place apart).known)
 
   pub IsLeftOnDisk-kept : (old new : D) (place n : ℕ) (before after : SystemJournals) (log : List Record) (rest : Option Record) → place ≢ n
       → (disk.told → KeepsOthers disk old new n) → SameAt place before after
       → IsLeftOnDisk disk old place before log rest → IsLeftOnDisk disk new place after log rest
   IsLeftOnDisk-kept old new place n before after log rest apart others = IsLeftOnDisk-same old new place before after log rest
-      (λ tells. (others tells).known place apart)
+      (λ tells. ((others tells).each place apart).known)
 
   -- While other volumes are called, a crash leaves of the volume of a system that is up bytes that stand for its log.
   pub IsOnDisk-any_moment : (old new : D) (place : ℕ) (all : SystemJournals) (log : List Record) → disk.told
-      → ((image : List ℕ) → disk.images_since old place (disk.moment old) image → IsImage (disk.volume old place) image)
+      → ((image : List ℕ) → LeftSince disk old place (disk.moment old) image → IsImage (disk.volume old place) image)
       → KeepsVolume disk old new place → IsOnDisk disk old place all log
       → LeavesOnly disk old new place (λ image. Stands image (entries_at all place log))
   IsOnDisk-any_moment old new place all log tells only_now kept on_disk =
@@ -134,7 +134,7 @@ module _ {D : Type 0} (disk : Disk D) where
 
   -- And of one that is down, bytes that stand for its log, perhaps with one record more.
   pub IsLeftOnDisk-any_moment : (old new : D) (place : ℕ) (all : SystemJournals) (log : List Record) (rest : Option Record) → disk.told
-      → ((image : List ℕ) → disk.images_since old place (disk.moment old) image → IsImage (disk.volume old place) image)
+      → ((image : List ℕ) → LeftSince disk old place (disk.moment old) image → IsImage (disk.volume old place) image)
       → KeepsVolume disk old new place → IsLeftOnDisk disk old place all log rest
       → LeavesOnly disk old new place (λ image. StandsFound image (entries_at all place log) (rest_at all place) rest)
   IsLeftOnDisk-any_moment old new place all log rest tells only_now kept on_disk =

@@ -50,7 +50,7 @@ AreInOrder-more (m ∷ n ∷ moments) moment order follows =
     )
 
 -- the moments of the entries of a log are its moments
-moments-entries : (moments : List (Option ℕ)) (log : List Record) → length moments ≡ length log → moments_of (entries_of moments log) ≡ moments
+pub moments-entries : (moments : List (Option ℕ)) (log : List Record) → length moments ≡ length log → moments_of (entries_of moments log) ≡ moments
 moments-entries [] log each = refl
 moments-entries (moment ∷ moments) [] each = absurd (omega arith)
 moments-entries (moment ∷ moments) (what ∷ log) each = ap (λ (l : List (Option ℕ)). moment ∷ l) (moments-entries moments log (omega arith))

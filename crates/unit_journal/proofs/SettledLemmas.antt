@@ -2,7 +2,7 @@
 use Rattle.std.proofs.Common.{◌≡◌, inl, inr, ℕ, List, [], ◌∷◌, ◌++◌, sym, subst}
 use Rattle.std.proofs.lemmas.List.{map-append}
 use Rattle.ale_base.proofs.ListLemmas.{AllByRecursion-append}
-use Rattle.ale_volumes.specs.Disk.{Disk}
+use Rattle.ale_volumes.specs.Disk.{Disk, LeftSince}
 use Rattle.ale_volumes.specs.Volume.{IsImage}
 use Rattle.ale_volumes.specs.Clock.{LeavesOnly, KeepsVolume}
 use Rattle.ale_volumes.proofs.ClockLemmas.{started, weaker, LeavesOnly-kept}
@@ -46,7 +46,7 @@ module _ {D : Type 0} (disk : Disk D) where
 
   -- While other volumes are called, a crash leaves of a settled journal's volume bytes that stand for its log.
   pub IsSettled-any_moment : (old new : D) (journal : UnitJournal) (log : List Entry) →
-      ((image : List ℕ) → disk.images_since old (bodies journal).volume (disk.moment old) image → IsImage (disk.volume old (bodies journal).volume) image)
+      ((image : List ℕ) → LeftSince disk old (bodies journal).volume (disk.moment old) image → IsImage (disk.volume old (bodies journal).volume) image)
       → KeepsVolume disk old new (bodies journal).volume → IsSettled disk old journal log →
       LeavesOnly disk old new (bodies journal).volume (λ image. Stands image log)
   IsSettled-any_moment old new journal log only_now kept s =
@@ -55,7 +55,7 @@ module _ {D : Type 0} (disk : Disk D) where
 
   -- Where nothing is called, a crash leaves the log from before an append.
   pub unappended : (vols : D) (journal : UnitJournal) (log : List Entry) (entry : Entry) →
-      ((image : List ℕ) → disk.images_since vols (bodies journal).volume (disk.moment vols) image → IsImage (disk.volume vols (bodies journal).volume) image)
+      ((image : List ℕ) → LeftSince disk vols (bodies journal).volume (disk.moment vols) image → IsImage (disk.volume vols (bodies journal).volume) image)
       → IsSettled disk vols journal log → LeavesOnly disk vols vols (bodies journal).volume (IsBeforeOrAfter log entry)
   unappended vols journal log entry only_now s =
       started disk vols (bodies journal).volume (IsBeforeOrAfter log entry)

@@ -1,11 +1,11 @@
 -- What the write of a record leaves, from what its append to the journal at the place does.
-use Rattle.std.specs.Prelude.{Result, Ok, Err, slice_get, slice_set, slice_index_or}
+use Rattle.std.specs.Prelude.{Err, slice_get, slice_set, slice_index_or}
 use Rattle.std.specs.Option.{unwrap_or}
 use Rattle.std.proofs.Common.{◌≡◌, ◌↔◌, ◌+◌, ◌<◌, ◌≤◌, ℕ, Option, Some, None, List, [], ◌∷◌, ◌++◌, length, refl, sym, ap, ◌∙◌, subst, arith, length-append}
 use Rattle.std.proofs.lemmas.List.{get_or-set_other, length-set}
 use Rattle.std.proofs.lemmas.Option.{same_Some, slice_get_within}
 use Rattle.ale_base.proofs.ListLemmas.{AllByRecursion-append}
-use Rattle.ale_volumes.specs.Disk.{Disk}
+use Rattle.ale_volumes.specs.Disk.{Disk, LeftSince}
 use Rattle.ale_volumes.specs.Volume.{IsImage}
 use Rattle.ale_volumes.specs.Clock.{LeavesOnly}
 use Rattle.byte_journal.specs.Log.{most_bytes}
@@ -149,7 +149,7 @@ module _ {D : Type 0} (disk : Disk D) (old : D) (place : ℕ) (all : SystemJourn
   pub IsLeft-torn : (new : D) (next : Record) (written : Option ℕ)
       → written ≡ next_moment all place
       → (disk.told → (image : List ℕ) → disk.moment old ≤ disk.moment new → IsImage (disk.volume new place) image →
-      disk.images_since new place (disk.moment old) image)
+      LeftSince disk new place (disk.moment old) image)
       → (disk.told → LeavesOnly disk old new place (IsBeforeOrAfter (entries_at all place log) (entry_with written next)))
       → (rests : List (Option ℕ)) → slice_index_or rests place None ≡ written
       → IsLeftOnDisk disk new place (record all { rests = rests }) log (Some next)

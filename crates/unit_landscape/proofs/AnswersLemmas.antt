@@ -1,5 +1,5 @@
 -- What the tables answer, said by the logs and the claims of the world.
-use Rattle.std.specs.Prelude.{find, slice_get, is_some, is_none, Result, Ok, Err}
+use Rattle.std.specs.Prelude.{find, slice_get, is_some}
 use Rattle.std.specs.Option.{option_map, option_map_or}
 use Rattle.std.proofs.Common.{◌≡◌, ℕ, suc, ◌-◌, ◌<◌, ◌≤◌, true, false, Some, List, length, refl, sym, ap, subst, ◌∙◌, arith}
 use Rattle.ale_base.specs.Tid.{TidOf}

@@ -1,6 +1,6 @@
 -- The first unit that is offered is found, and claimed.
 use Rattle.std.specs.Prelude.{IfOk, OnErr, Result, Ok, Err}
-use Rattle.std.proofs.Common.{◌≡◌, ℕ, true, false, Option, Some, None, inr, refl, sym, ap, subst, ◌∙◌}
+use Rattle.std.proofs.Common.{◌≡◌, ℕ, true, Option, Some, None, inr, refl, sym, ap, subst, ◌∙◌}
 use Rattle.std.proofs.lemmas.Option.{none-some}
 use Rattle.ale_volumes.specs.Disk.{Disk}
 use Rattle.ale_base.specs.Tid.{TidOf}

@@ -1,19 +1,23 @@
 -- What a crash inside a call leaves is sound: it is a choice of what systems find that are down, of the world before the call, or of the one in
 -- which the call's system falls as it writes the call's record.
 use Rattle.std.specs.Prelude.{slice_get}
-use Rattle.std.proofs.Common.{◌≡◌, ◌≢◌, ◌⊎◌, ◌≤◌, ◌-◌, ℕ, zero, suc, Bool, true, false, Option, Some, None, List, [], ◌∷◌, ◌++◌, length, map, inl, inr, refl}
-use Rattle.std.proofs.Common.{sym}
-use Rattle.std.proofs.Common.{ap, subst, ◌∙◌, arith}
-use Rattle.std.proofs.lemmas.Bool.{cases_Bool, cases_eq}
-use Rattle.std.proofs.lemmas.List.{append-nil, append_assoc, map-append}
-use Rattle.std.proofs.lemmas.Option.{slice_get_past, same_Some}
-use Rattle.ale_volumes.specs.Disk.{Disk}
+use Rattle.std.proofs.Common.{◌≡◌, ◌≢◌, ◌≤◌, ◌-◌, ℕ, zero, suc, Bool, true, false, Option, Some, None, List, [], ◌∷◌, ◌++◌, ◌⊎◌, length, inl, inr, refl}
+use Rattle.std.proofs.Common.{sym, ap, subst, ◌∙◌, arith}
+use Rattle.std.proofs.lemmas.Bool.{cases_Bool, cases_eq, cases_lt}
+use Rattle.std.proofs.lemmas.List.{map-append}
+use Rattle.ale_base.specs.Prefix.{IsPrefix}
+use Rattle.ale_base.proofs.PrefixLemmas.{IsPrefix-same, IsPrefix-trans}
+use Rattle.ale_volumes.specs.Disk.{Disk, LeftSince}
 use Rattle.ale_volumes.specs.Volume.{IsImage}
+use Rattle.ale_volumes.specs.Clock.{KeepsVolume, PastStays}
+use Rattle.ale_volumes.proofs.ClockLemmas.{KeepsVolume-now, PastStays-joined}
 use Rattle.unit_core.specs.declared.records.Record.{Record}
 use Rattle.unit_codec.specs.declared.entry.Entry.{Entry}
 use Rattle.unit_codec.specs.Entries.{entry_with}
 use Rattle.unit_journal.specs.Log.{Stands}
-use Rattle.unit_journal.specs.OnDisk.{StandsFound, entries_at, entries_of, moments_at, next_moment, rest_at}
+use Rattle.unit_journal.specs.OnDisk.{AreInOrder, MayFollow, StandsFound, entries_at, entries_of, last_moment, moments_at, moments_of, next_moment, rest_at}
+use Rattle.unit_journal.specs.Settled.{IsBeforeOrAfter}
+use Rattle.unit_journal.proofs.OrderLemmas.{AreInOrder-more, moments-entries, next-follows}
 use Rattle.unit_journal.proofs.KeptLemmas.{IsOnDisk-stands}
 use Rattle.unit_journal.proofs.PlaceLemmas.{entries_of-records}
 use Rattle.trfc_protocol.specs.declared.event.Event.{Event}
@@ -28,11 +32,12 @@ use Rattle.trfc_protocol.proofs.FallLemmas.{Safe-fallen}
 use Rattle.trfc_protocol.proofs.RecordLemmas.{MayWrite-record}
 use Rattle.trfc_protocol.proofs.SafeLemmas.{MayWrite}
 use Rattle.trfc_protocol.proofs.WorldLemmas.{at_each_state, state_of-elsewhere, state_of-here, state_of-least, state_of-most}
-use Rattle.unit_landscape.specs.Crashes.{AreCalls, AreFound, GoesByCalls, IsCall, LeavesSound, StandsFor, StandsForLog}
+use Rattle.unit_landscape.specs.Crashes.{AreFound, AreFoundSince, HasGrown, IsBetween, LeavesSound, StandsFor, StandsForLog, StaysSound}
 use Rattle.unit_landscape.specs.Kept.{IsLandscape}
 use Rattle.unit_landscape.specs.KeptWorlds.{KeptOf}
 use Rattle.unit_landscape.specs.OnVolumes.{AreOnVolumes}
 use Rattle.unit_landscape.specs.Writes.{DiskAs, WritesOnly}
+use Rattle.unit_landscape.proofs.GrownLemmas.{grown-joined, grown-none}
 use Rattle.unit_landscape.proofs.InStepLemmas.{StandsUp, stands_up}
 
 -- a system that is known has its state at the place of its number
@@ -57,21 +62,36 @@ found-whole false found = (None, refl)
 found-whole true None = (None, refl)
 found-whole true (Some state) = (state.rest, refl)
 
+-- bytes that stand for the entries of a log stand for the log
+stands-as : (image : List ℕ) (moments : List (Option ℕ)) (log : List Record) → length moments ≡ length log → AreInOrder moments
+    → Stands image (entries_of moments log) → StandsForLog image log
+stands-as image moments log each order stands =
+    (entries_of moments log, stands, entries_of-records moments log each, subst AreInOrder (sym (moments-entries moments log each)) order)
+
+-- so do those that stand for one entry more
+stands-more : (image : List ℕ) (moments : List (Option ℕ)) (log : List Record) (moment : Option ℕ) (next : Record) → length moments ≡ length log
+    → AreInOrder moments → MayFollow (last_moment (moments_of (entries_of moments log))) moment
+    → Stands image (entries_of moments log ++ entry_with moment next ∷ []) → StandsForLog image (log ++ next ∷ [])
+stands-more image moments log moment next each order follows stands =
+    let here : moments_of (entries_of moments log) ≡ moments = moments-entries moments log each in (
+      entries_of moments log ++ entry_with moment next ∷ [],
+      stands,
+      map-append (λ (entry : Entry). entry.what) (entries_of moments log) (entry_with moment next ∷ [])
+          ∙ ap (λ records. records ++ next ∷ []) (entries_of-records moments log each),
+      subst AreInOrder (sym (map-append (λ (entry : Entry). entry.moment) (entries_of moments log) (entry_with moment next ∷ [])))
+          (AreInOrder-more (moments_of (entries_of moments log)) moment (subst AreInOrder (sym here) order) follows),
+    )
+
 -- bytes that stand for a log, perhaps with what its system may find, stand for the log under a choice
 rested : (image : List ℕ) (moments : List (Option ℕ)) (moment : Option ℕ) (state : SystemState) (rest : Option Record)
-    → length moments ≡ length state.log → state.rest ≡ rest → StandsFound image (entries_of moments state.log) moment rest
+    → length moments ≡ length state.log → AreInOrder moments → state.rest ≡ rest → StandsFound image (entries_of moments state.log) moment rest
     → (choice : Bool) × StandsForLog image (log_found choice (Some state))
-rested image moments moment state None each is stands = (false, (entries_of moments state.log, stands, entries_of-records moments state.log each))
-rested image moments moment state (Some next) each is (inl stands) =
-    (false, (entries_of moments state.log, stands, entries_of-records moments state.log each))
-rested image moments moment state (Some next) each is (inr stands) = (
+rested image moments moment state None each order is stands = (false, stands-as image moments state.log each order stands)
+rested image moments moment state (Some next) each order is (inl stands) = (false, stands-as image moments state.log each order stands)
+rested image moments moment state (Some next) each order is (inr stands) = (
   true,
-  (
-    entries_of moments state.log ++ entry_with moment next ∷ [],
-    stands.1,
-    map-append (λ (entry : Entry). entry.what) (entries_of moments state.log) (entry_with moment next ∷ [])
-        ∙ ap (λ log. log ++ next ∷ []) (entries_of-records moments state.log each) ∙ ap (log_with state.log) (sym is),
-  ),
+  subst (StandsForLog image) (ap (log_with state.log) (sym is))
+      (stands-more image moments state.log moment next each order stands.0 stands.1),
 )
 
 module _ {R A V : Type 0} (meaning : R → Meaning) (disk : Disk V) (before : KeptOf R A V) where
@@ -102,12 +122,12 @@ module _ {R A V : Type 0} (meaning : R → Meaning) (disk : Disk V) (before : Ke
       stand system None is least most = absurd (not-unknown before.world.systems system least most is)
       stand system (Some state) is least most = (each system state is).1
 
-  module _ (only_now : disk.told → (vols : V) (n : ℕ) (image : List ℕ) → disk.images_since vols n (disk.moment vols) image → IsImage (disk.volume vols n) image)
+  module _ (only_now : disk.told → (vols : V) (n : ℕ) (image : List ℕ) → LeftSince disk vols n (disk.moment vols) image → IsImage (disk.volume vols n) image)
       (on_volumes : AreOnVolumes disk before.vols before.world.systems before.journals) (lawful : IsLawful (meaning before.world.rules))
       (safe : Safe (meaning before.world.rules) before.world) (tells : disk.told) where
     -- an image of now stands for the log of its system, perhaps with what that may find
     image-found : (system : ℕ) (state : SystemState) → state_of before.world.systems system ≡ Some state → (image : List ℕ)
-        → disk.images_since before.vols (system - 1) (disk.moment before.vols) image
+        → LeftSince disk before.vols (system - 1) (disk.moment before.vols) image
         → (choice : Bool) × StandsForLog image (log_found choice (state_of before.world.systems system))
     image-found system state known image left =
         let place = system - 1 in
@@ -118,17 +138,26 @@ module _ {R A V : Type 0} (meaning : R → Meaning) (disk : Disk V) (before : Ke
           | inl up ↦
               let on_disk = on_volumes.up place state at up in (
                 false,
-                (
-                  entries_at before.journals place state.log,
-                  IsOnDisk-stands disk before.vols place before.journals state.log tells on_disk image is,
-                  entries_of-records (moments_at before.journals place) state.log on_disk.each,
-                ),
+                stands-as image (moments_at before.journals place) state.log on_disk.each (on_volumes.order place)
+                    (IsOnDisk-stands disk before.vols place before.journals state.log tells on_disk image is),
               )
           | inr down ↦
               let left_on = on_volumes.down place state at down in
-              rested image (moments_at before.journals place) (rest_at before.journals place) state state.rest left_on.each refl
+              rested image (moments_at before.journals place) (rest_at before.journals place) state state.rest left_on.each
+              (on_volumes.order place) refl
               (left_on.left tells image is)
         ])
+
+    -- an image of now by itself stands for the log of its system, perhaps with one record more
+    alone-found : (system : ℕ) (image : List ℕ) → 1 ≤ system → system ≤ length before.world.systems
+        → LeftSince disk before.vols (system - 1) (disk.moment before.vols) image → StandsFor before system image
+    alone-found system image least most left = of (state_of before.world.systems system) refl
+      where
+        of : (found : Option SystemState) → state_of before.world.systems system ≡ found → StandsFor before system image
+        of None is = absurd (not-unknown before.world.systems system least most is)
+        of (Some state) is =
+            let found = image-found system state is image left in
+            let whole = found-whole found.0 (state_of before.world.systems system) in (whole.0, subst (StandsForLog image) whole.1 found.1)
 
     -- a call that calls no volume leaves what there is
     pub leaves-still : (after : KeptOf R A V) → after.vols ≡ before.vols → LeavesSound meaning disk before after
@@ -137,9 +166,14 @@ module _ {R A V : Type 0} (meaning : R → Meaning) (disk : Disk V) (before : Ke
       each = λ images left.
           found-by before.world safe (λ choice system. found-whole choice (state_of before.world.systems system)) images
           (λ system state known. image-found system state known (images system)
-          (subst (λ vols. disk.images_since vols (system - 1) (disk.moment before.vols) (images system)) same
+          (subst (λ vols. LeftSince disk vols (system - 1) (disk.moment before.vols) (images system)) same
           (left system (state_of-least before.world.systems system state known) (state_of-most before.world.systems system state known))));
-      adds = λ system t image least most le left. inl (subst (λ vols. disk.images_since vols (system - 1) t image) same left);
+      past = λ system least most moment image le. (
+        λ left. subst (λ vols. disk.left_at vols (system - 1) moment image) same left,
+        λ left. subst (λ vols. disk.left_at vols (system - 1) moment image) (sym same) left,
+      );
+      alone = λ system image least most left.
+          alone-found system image least most (subst (λ vols. LeftSince disk vols (system - 1) (disk.moment before.vols) image) same left);
     }
 
     -- a call that writes a record leaves it or not at its system, and what there is at others
@@ -169,54 +203,44 @@ module _ {R A V : Type 0} (meaning : R → Meaning) (disk : Disk V) (before : Ke
           its false = (None, sym log_is)
           its true = (Some it.next, ap (λ log. log ++ it.next ∷ []) (sym log_is))
 
-      here-found : (image : List ℕ) → disk.images_since after.vols (it.system - 1) (disk.moment before.vols) image
+      -- an image of its system's volume stands for the log there, or for that and the record
+      here-stands : (image : List ℕ) → IsBeforeOrAfter (entries_at before.journals (it.system - 1) (log_of before.world it.system))
+          (entry_with (next_moment before.journals (it.system - 1)) it.next) image
+          → StandsForLog image (log_of before.world it.system) ⊎ StandsForLog image (log_of before.world it.system ++ it.next ∷ [])
+      here-stands image is =
+          let place = it.system - 1 in
+          let moments = moments_at before.journals place in
+          let log = log_of before.world it.system in
+          let on_disk = on_volumes.up place standing.state standing.at standing.up in
+          let each : length moments ≡ length log = on_disk.each ∙ ap length (sym log_is) in
+          elim is [
+            | inl stands ↦ inl (stands-as image moments log each (on_volumes.order place) stands)
+            | inr stands ↦
+                inr (stands-more image moments log (next_moment before.journals place) it.next each (on_volumes.order place)
+                (next-follows place before.journals log each) stands)
+          ]
+
+      here-found : (image : List ℕ) → LeftSince disk after.vols (it.system - 1) (disk.moment before.vols) image
           → (choice : Bool) × StandsForLog image (log_found choice (state_of fallen.systems it.system))
       here-found image left =
-          let place = it.system - 1 in
-          let moments = moments_at before.journals place in
-          let log = log_of before.world it.system in
-          let entry = entry_with (next_moment before.journals place) it.next in
-          let on_disk = on_volumes.up place standing.state standing.at standing.up in
-          let each : length moments ≡ length log = on_disk.each ∙ ap length (sym log_is) in
           subst (λ found. (choice : Bool) × StandsForLog image (log_found choice found))
           (sym (state_of-here base it.system (state_down (Some it.next)) standing.state standing.known))
-          (elim ((writes.any_moment tells).each image left) [
-            | inl stands ↦ (false, (entries_of moments log, stands, entries_of-records moments log each ∙ log_is))
-            | inr stands ↦ (
-              true,
-              (
-                entries_of moments log ++ entry ∷ [],
-                stands,
-                map-append (λ (one : Entry). one.what) (entries_of moments log) (entry ∷ [])
-                    ∙ ap (λ l. l ++ it.next ∷ []) (entries_of-records moments log each ∙ log_is),
-              ),
-            )
+          (elim (here-stands image ((writes.any_moment tells).each image left)) [
+            | inl stands ↦ (false, subst (StandsForLog image) log_is stands)
+            | inr stands ↦ (true, subst (λ log. StandsForLog image (log ++ it.next ∷ [])) log_is stands)
           ])
 
-      here-adds : (t : ℕ) (image : List ℕ) → t ≤ disk.moment before.vols → disk.images_since after.vols (it.system - 1) t image
-          → disk.images_since before.vols (it.system - 1) t image ⊎ StandsFor before it.system image
-      here-adds t image le left =
-          let place = it.system - 1 in
-          let moments = moments_at before.journals place in
-          let log = log_of before.world it.system in
-          let entry = entry_with (next_moment before.journals place) it.next in
-          let on_disk = on_volumes.up place standing.state standing.at standing.up in
-          let each : length moments ≡ length log = on_disk.each ∙ ap length (sym log_is) in
-          elim ((writes.any_moment tells).before t image le left) [
-            | inl was ↦ inl was
-            | inr either ↦ elim either [
-              | inl stands ↦ inr (None, (entries_of moments log, stands, entries_of-records moments log each))
-              | inr stands ↦ inr (
-                Some it.next,
-                (
-                  entries_of moments log ++ entry ∷ [],
-                  stands,
-                  map-append (λ (one : Entry). one.what) (entries_of moments log) (entry ∷ [])
-                      ∙ ap (λ l. l ++ it.next ∷ []) (entries_of-records moments log each),
-                ),
-              )
-            ]
-          ]
+      here-alone : (image : List ℕ) → LeftSince disk after.vols (it.system - 1) (disk.moment before.vols) image → StandsFor before it.system image
+      here-alone image left = elim (here-stands image ((writes.any_moment tells).each image left)) [
+        | inl stands ↦ (None, stands)
+        | inr stands ↦ (Some it.next, stands)
+      ]
+
+      keeps-other : (system : ℕ) → 1 ≤ system → system ≢ it.system → KeepsVolume disk before.vols after.vols (system - 1)
+      keeps-other system least differs = record {
+        later = (writes.any_moment tells).later;
+        stays = (writes.others tells).each (system - 1) (λ same. differs (let lowest = standing.least in omega (arith, same)));
+      }
 
       pub leaves-written : LeavesSound meaning disk before after
       leaves-written = record {
@@ -229,18 +253,21 @@ module _ {R A V : Type 0} (meaning : R → Meaning) (disk : Disk V) (before : Ke
               | inr differs ↦
                   let least = state_of-least before.world.systems system state known in
                   let most = state_of-most before.world.systems system state known in
-                  let apart : system - 1 ≢ it.system - 1 = λ same. differs (let lowest = standing.least in omega (arith, same)) in
                   subst (λ found. (choice : Bool) × StandsForLog (images system) (log_found choice found))
                   (sym (state_of-elsewhere base it.system (state_down (Some it.next)) standing.state standing.known system differs))
                   (image-found system state known (images system)
-                  (((writes.others tells).images (system - 1) (disk.moment before.vols) (images system) apart (omega arith)).0 (left system least most)))
+                  (KeepsVolume-now disk before.vols after.vols (system - 1) (images system) (keeps-other system least differs) (left system least most)))
             ]);
-        adds = λ system t image least most le left. elim (cases_eq system it.system) [
-          | inl same ↦ subst (λ s. disk.images_since before.vols (s - 1) t image ⊎ StandsFor before s image) (sym same)
-              (here-adds t image le (subst (λ s. disk.images_since after.vols (s - 1) t image) same left))
+        past = λ system least most. elim (cases_eq system it.system) [
+          | inl same ↦ subst (λ s. PastStays disk before.vols after.vols (s - 1)) (sym same) (writes.any_moment tells).past
+          | inr differs ↦ (keeps-other system least differs).stays.past
+        ];
+        alone = λ system image least most left. elim (cases_eq system it.system) [
+          | inl same ↦ subst (λ s. StandsFor before s image) (sym same)
+              (here-alone image (subst (λ s. LeftSince disk after.vols (s - 1) (disk.moment before.vols) image) same left))
           | inr differs ↦
-              let apart : system - 1 ≢ it.system - 1 = λ same. differs (let lowest = standing.least in omega (arith, same)) in
-              inl (((writes.others tells).images (system - 1) t image apart le).0 left)
+              alone-found system image least most
+              (KeepsVolume-now disk before.vols after.vols (system - 1) image (keeps-other system least differs) left)
         ];
       }
 
@@ -260,7 +287,7 @@ module _ {R A V : Type 0} (meaning : R → Meaning) (disk : Disk V) (before : Ke
 
 -- where nothing has changed, a crash leaves what is sound; as callers see it
 pub leaves-seen : {R A V : Type 0} (meaning : R → Meaning) → ((rules : R) → IsLawful (meaning rules)) → (disk : Disk V)
-    → (disk.told → (vols : V) (n : ℕ) (image : List ℕ) → disk.images_since vols n (disk.moment vols) image → IsImage (disk.volume vols n) image)
+    → (disk.told → (vols : V) (n : ℕ) (image : List ℕ) → LeftSince disk vols n (disk.moment vols) image → IsImage (disk.volume vols n) image)
     → (kept seen : KeptOf R A V) → kept ≡ seen → IsLandscape meaning kept.world → AreOnVolumes disk kept.vols (kept.world).systems kept.journals
     → disk.told → LeavesSound meaning disk seen seen
 leaves-seen meaning lawful disk only_now kept seen same is on_volumes tells =
@@ -275,8 +302,8 @@ leaves-same meaning disk before begun last after vols systems rules still leaves
   later = let first = ap disk.moment vols in let second = ap disk.moment still in let later = leaves.later in omega arith;
   each = λ images left.
       let found = leaves.each images (λ system least most.
-      subst (λ v. disk.images_since last.vols (system - 1) (disk.moment v) (images system)) (sym vols)
-      (subst (λ v. disk.images_since v (system - 1) (disk.moment before.vols) (images system)) still
+      subst (λ v. LeftSince disk last.vols (system - 1) (disk.moment v) (images system)) (sym vols)
+      (subst (λ v. LeftSince disk v (system - 1) (disk.moment before.vols) (images system)) still
       (left system least (subst (λ (all : List SystemState). system ≤ length all) systems most)))) in
       record {
         logs = found.logs;
@@ -286,70 +313,132 @@ leaves-same meaning disk before begun last after vols systems rules still leaves
             (its.0, its.1 ∙ ap (λ (all : List SystemState). log_with (log_or_none (state_of all system)) its.0) systems);
         sound = subst (λ r. Sound (meaning r) found.logs) rules found.sound;
       };
-  adds = λ system t image least most le left.
+  past = λ system least most moment image le.
       let most_begun = subst (λ (all : List SystemState). system ≤ length all) (sym systems) most in
-      elim (leaves.adds system t image least most_begun (let first = ap disk.moment vols in omega (arith, le))
-      (subst (λ v. disk.images_since v (system - 1) t image) still left)) [
-        | inl was ↦ inl (subst (λ v. disk.images_since v (system - 1) t image) vols was)
-        | inr stands ↦ inr (
-          stands.0,
-          subst (λ (all : List SystemState). StandsForLog image (log_with (log_or_none (state_of all system)) stands.0)) systems stands.1,
-        )
-      ];
+      let stays = leaves.past system least most_begun moment image (let first = ap disk.moment vols in omega (arith, le)) in (
+        λ left.
+            subst (λ v. disk.left_at v (system - 1) moment image) vols
+            (stays.0 (subst (λ v. disk.left_at v (system - 1) moment image) still left)),
+        λ left.
+            subst (λ v. disk.left_at v (system - 1) moment image) (sym still)
+            (stays.1 (subst (λ v. disk.left_at v (system - 1) moment image) (sym vols) left)),
+      );
+  alone = λ system image least most left.
+      let most_begun = subst (λ (all : List SystemState). system ≤ length all) (sym systems) most in
+      let stands = leaves.alone system image least most_begun
+      (subst (λ v. LeftSince disk last.vols (system - 1) (disk.moment v) image) (sym vols)
+      (subst (λ v. LeftSince disk v (system - 1) (disk.moment before.vols) image) still left)) in (
+        stands.0,
+        subst (λ (all : List SystemState). StandsForLog image (log_with (log_or_none (state_of all system)) stands.0)) systems stands.1,
+      );
 }
 
+-- a log between two states is between earlier and later ones
+between-wider : {R : Type 0} (before early late after : World R) (system : ℕ) (log : List Record) → IsPrefix (log_of before system) (log_of early system)
+    → IsPrefix (log_of late system) (log_of after system) → IsBetween early late system log → IsBetween before after system log
+between-wider before early late after system log first last is = (
+  is.0,
+  is.1,
+  IsPrefix-trans (log_of before system) (log_of early system) is.0 first is.2,
+  IsPrefix-trans is.0 (log_of late system) (log_of after system) is.3 last,
+  is.4,
+)
+
 module _ {R A V : Type 0} (meaning : R → Meaning) (disk : Disk V) where
-  -- no call was made
-  pub calls-none : (before after : KeptOf R A V) → after ≡ before → GoesByCalls meaning disk before after
-  calls-none before after same = ([], same)
+  -- no volume was called
+  pub stays-none : (before after : KeptOf R A V) → after.world ≡ before.world → after.vols ≡ before.vols → StaysSound meaning disk before after
+  stays-none before after world vols = record {
+    grown = grown-none before.world after.world world;
+    later = let moment = ap disk.moment vols in omega (arith, moment);
+    past = λ system least most moment image le. (
+      λ left. subst (λ v. disk.left_at v (system - 1) moment image) vols left,
+      λ left. subst (λ v. disk.left_at v (system - 1) moment image) (sym vols) left,
+    );
+    each = λ moment after_it most images left. let now = ap disk.moment vols in absurd (omega (arith, now, after_it, most));
+    alone = λ system moment image least few after_it most left. let now = ap disk.moment vols in absurd (omega (arith, now, after_it, most));
+  }
 
-  -- one was
-  pub calls-one : (before after : KeptOf R A V) → IsCall meaning disk before after → GoesByCalls meaning disk before after
-  calls-one before after is = (after ∷ [], (is, refl))
-
-  -- calls, and more of them behind
-  pub calls-on : (before between after : KeptOf R A V) → GoesByCalls meaning disk before between → GoesByCalls meaning disk between after
-      → GoesByCalls meaning disk before after
-  calls-on before between after first second = (first.0 ++ second.0, behind before first.0 first.1)
+  -- one call was made
+  pub stays-one : (before after : KeptOf R A V) → HasGrown before.world after.world → LeavesSound meaning disk before after
+      → StaysSound meaning disk before after
+  stays-one before after grown leaves = record {
+    grown = grown;
+    later = leaves.later;
+    past = leaves.past;
+    each = λ moment after_it most images left.
+        let found = leaves.each images
+        (λ system least few. record { moment = moment; least = omega (arith, after_it); most = most; left = left system least few }) in
+        record {
+          logs = found.logs;
+          stand = found.stand;
+          between = λ system. let whole = found.whole system in with-more system whole.0 (found.logs system) whole.1;
+          sound = found.sound;
+        };
+    alone = λ system moment image least few after_it most left.
+        let stands = leaves.alone system image least few
+        (record { moment = moment; least = omega (arith, after_it); most = most; left = left }) in
+        let log = log_with (log_of before.world system) stands.0 in (log, with-more system stands.0 log refl, stands.1);
+  }
     where
-      behind : (start : KeptOf R A V) (ends : List (KeptOf R A V)) → AreCalls meaning disk start ends between
-          → AreCalls meaning disk start (ends ++ second.0) after
-      behind start [] same = subst (λ k. AreCalls meaning disk k second.0 after) same second.1
-      behind start (next ∷ others) calls = (calls.0, behind next others calls.1)
+      -- the log from before, perhaps with one record more
+      with-more : (system : ℕ) (more : Option Record) (log : List Record) → log ≡ log_with (log_of before.world system) more
+          → IsBetween before.world after.world system log
+      with-more system more log is =
+          (log_of before.world system, more, IsPrefix-same (log_of before.world system), grown.logs system, is)
 
-  -- What a crash leaves of a volume from some state on, while calls are made, stands for a log that has all records that its system's log had in
-  -- that state, or it is what a crash would have left before. So nothing that stood in a log is lost by what comes after.
-  pub calls-stand : (before : KeptOf R A V) (ends : List (KeptOf R A V)) (after : KeptOf R A V) → AreCalls meaning disk before ends after
-      → (system t : ℕ) (image : List ℕ) → 1 ≤ system → system ≤ length before.world.systems → t ≤ disk.moment before.vols
-      → disk.images_since after.vols (system - 1) t image
-      → disk.images_since before.vols (system - 1) t image
-      ⊎ ((added : List Record) × StandsForLog image (log_of before.world system ++ added))
-  calls-stand before [] after same system t image least most le left =
-      inl (subst (λ (k : KeptOf R A V). disk.images_since k.vols (system - 1) t image) same left)
-  calls-stand before (next ∷ others) after calls system t image least most le left =
-      let call = calls.0 in
-      let leaves = call.leaves in
-      let grows = call.grows system in
-      elim (calls-stand next others after calls.1 system t image least (let many = call.many in omega (arith, most))
-      (let later = leaves.later in omega (arith, le)) left) [
-        | inl was ↦ elim (leaves.adds system t image least most le was) [
-          | inl before_it ↦ inl before_it
-          | inr stands ↦ inr (
-            one_more (log_of before.world system) stands.0,
-            subst (StandsForLog image) (with-more (log_of before.world system) stands.0)
-                stands.1,
+  -- what was found between two states is found between earlier and later ones
+  found-wider : (before early late after : KeptOf R A V) (images : ℕ → List ℕ) → HasGrown before.world early.world → HasGrown late.world after.world
+      → AreFoundSince meaning early late images → AreFoundSince meaning before after images
+  found-wider before early late after images first last found = record {
+    logs = found.logs;
+    stand = λ system least few. found.stand system least (let many = first.many in omega (arith, many, few));
+    between = λ system.
+        between-wider before.world early.world late.world after.world system (found.logs system) (first.logs system) (last.logs system)
+        (found.between system);
+    sound = subst (λ r. Sound (meaning r) found.logs) first.rules found.sound;
+  }
+
+  -- more calls after that
+  pub stays-on : (before between after : KeptOf R A V) → StaysSound meaning disk before between → StaysSound meaning disk between after
+      → StaysSound meaning disk before after
+  stays-on before between after first second = record {
+    grown = grown-joined before.world between.world after.world first.grown second.grown;
+    later = omega (arith, first.later, second.later);
+    past = λ system least few.
+        PastStays-joined disk before.vols between.vols after.vols (system - 1) first.later (first.past system least few)
+        (second.past system least (still-few system few));
+    each = λ moment after_it most images left. elim (cases_lt (disk.moment between.vols) moment) [
+      | inl behind ↦
+          found-wider before between after after images first.grown (grown-none after.world after.world refl)
+          (second.each moment behind most images (λ system least few. left system least (now-few system few)))
+      | inr ahead ↦
+          found-wider before before between after images (grown-none before.world before.world refl) second.grown
+          (first.each moment after_it ahead images
+          (λ system least few. (second.past system least (still-few system few) moment (images system) ahead).0 (left system least few)))
+    ];
+    alone = λ system moment image least few after_it most left. elim (cases_lt (disk.moment between.vols) moment) [
+      | inl behind ↦
+          let stands = second.alone system moment image least (still-few system few) behind most left in
+          let grown = first.grown in (
+            stands.0,
+            between-wider before.world between.world after.world after.world system stands.0 (grown.logs system)
+                (IsPrefix-same (log_of after.world system)) stands.1,
+            stands.2,
           )
-        ]
-        | inr stands ↦ inr (
-          grows.0 ++ stands.0,
-          subst (StandsForLog image) (ap (λ log. log ++ stands.0) grows.1 ∙ append_assoc (log_of before.world system) grows.0 stands.0) stands.1,
-        )
-      ]
+      | inr ahead ↦
+          let stands = first.alone system moment image least few after_it ahead
+          ((second.past system least (still-few system few) moment image ahead).0 left) in
+          let grown = second.grown in (
+            stands.0,
+            between-wider before.world before.world between.world after.world system stands.0 (IsPrefix-same (log_of before.world system))
+                (grown.logs system) stands.1,
+            stands.2,
+          )
+    ];
+  }
     where
-      one_more : List Record → Option Record → List Record
-      one_more log None = []
-      one_more log (Some next) = next ∷ []
+      still-few : (system : ℕ) → system ≤ length before.world.systems → system ≤ length between.world.systems
+      still-few system few = let grown = first.grown in let many = grown.many in omega (arith, many, few)
 
-      with-more : (log : List Record) (more : Option Record) → log_with log more ≡ log ++ one_more log more
-      with-more log None = sym (append-nil log)
-      with-more log (Some next) = refl
+      now-few : (system : ℕ) → system ≤ length between.world.systems → system ≤ length before.world.systems
+      now-few system few = let grown = first.grown in let many = grown.many in omega (arith, many, few)

@@ -1,7 +1,7 @@
 -- Calls that append nothing, and what a call leaves on the volumes.
 use Rattle.std.proofs.Common.{◌≡◌, ℕ, ◌-◌, true, Option, Some, None, List, inl, refl, sym, ap, subst, ◌∙◌}
 use Rattle.std.proofs.lemmas.Option.{none-some}
-use Rattle.ale_volumes.specs.Disk.{Disk}
+use Rattle.ale_volumes.specs.Disk.{Disk, LeftSince}
 use Rattle.ale_volumes.specs.Volume.{IsImage}
 use Rattle.ale_volumes.specs.Clock.{LeavesOnly, KeepsOthers}
 use Rattle.ale_volumes.proofs.ClockLemmas.{started, others_kept}
@@ -65,7 +65,7 @@ module _ {R A V : Type 0} (disk : Disk V)
   disk-some found it some writes = subst (DiskAs disk before after) (sym some) writes
 
   -- a call that was to append a record, and called no volume, leaves what it found
-  pub writes-nothing : (disk.told → (vols : V) (n : ℕ) (image : List ℕ) → disk.images_since vols n (disk.moment vols) image →
+  pub writes-nothing : (disk.told → (vols : V) (n : ℕ) (image : List ℕ) → LeftSince disk vols n (disk.moment vols) image →
       IsImage (disk.volume vols n) image)
       → AreOnVolumes disk before.vols (before.world).systems before.journals → (it : Writing) → is_up before.world it.system ≡ true →
       KeepsVolumes before after
@@ -86,7 +86,7 @@ module _ {R A V : Type 0} (disk : Disk V)
       }
 
   -- whatever an event was to append: where no volume was called all are as they were
-  pub disk-still : (disk.told → (vols : V) (n : ℕ) (image : List ℕ) → disk.images_since vols n (disk.moment vols) image → IsImage (disk.volume vols n) image)
+  pub disk-still : (disk.told → (vols : V) (n : ℕ) (image : List ℕ) → LeftSince disk vols n (disk.moment vols) image → IsImage (disk.volume vols n) image)
       → AreOnVolumes disk before.vols (before.world).systems before.journals → (rules : Meaning) → IsLawful rules → Safe rules before.world →
       (e : Event) → KeepsVolumes before after
       → DiskAs disk before after (record_of rules before.world e)
@@ -98,7 +98,7 @@ module _ {R A V : Type 0} (disk : Disk V)
 
 -- the same of a call of a landscape, as its callers see it
 pub disk-seen : {R A V : Type 0} (disk : Disk V)
-    → (disk.told → (vols : V) (n : ℕ) (image : List ℕ) → disk.images_since vols n (disk.moment vols) image → IsImage (disk.volume vols n) image)
+    → (disk.told → (vols : V) (n : ℕ) (image : List ℕ) → LeftSince disk vols n (disk.moment vols) image → IsImage (disk.volume vols n) image)
     → (meaning : R → Meaning) → ((rules : R) → IsLawful (meaning rules)) → (kept seen : KeptOf R A V) → kept ≡ seen → IsLandscape meaning kept.world
     → AreOnVolumes disk kept.vols (kept.world).systems kept.journals → (event : World R → Event)
     → DiskAs disk seen seen (record_of (meaning seen.world.rules) seen.world (event seen.world))

@@ -1,10 +1,9 @@
 -- A record of an event joins the log of its system: it may follow, and the claim that it ends is one of the world.
-use Rattle.std.specs.Prelude.{Contains, ⊤, find}
+use Rattle.std.specs.Prelude.{Contains, find}
 use Rattle.std.specs.Option.{option_map}
 use Rattle.std.proofs.Common.{◌≡◌, ℕ, ◌==◌, true, false, ◌&&◌, Option, Some, None, List, [], ◌∷◌, ◌++◌, inl, inr, refl, sym, ap, subst, ◌∙◌}
 use Rattle.std.proofs.lemmas.Bool.{and_parts, both_ways, eqb-true}
 use Rattle.ale_base.specs.Tid.{TidOf, is_tid}
-use Rattle.ale_base.specs.declared.way.Way.TheVariants.{Outgoing, Incoming}
 use Rattle.ale_base.proofs.MemberLemmas.{find-Some}
 use Rattle.ale_base.proofs.OptionLemmas.{none_or_some}
 use Rattle.unit_core.specs.declared.ale_unit.AleUnit.{AleUnit}

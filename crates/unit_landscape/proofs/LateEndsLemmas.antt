@@ -6,7 +6,7 @@ use Rattle.std.proofs.Common.{◌∙◌}
 use Rattle.std.proofs.lemmas.Bool.{cases_Bool}
 use Rattle.ale_base.specs.Tid.{TidOf}
 use Rattle.ale_base.proofs.MemberLemmas.{Contains-here, Contains-there}
-use Rattle.ale_volumes.specs.Disk.{Disk}
+use Rattle.ale_volumes.specs.Disk.{Disk, LeftSince}
 use Rattle.ale_volumes.specs.Volume.{IsImage}
 use Rattle.unit_core.specs.declared.ale_unit.AleUnit.{AleUnit}
 use Rattle.unit_core.specs.declared.records.Record.{Record}
@@ -108,7 +108,7 @@ module _ {R : Type 0} (rules : Meaning) (lawful : IsLawful rules) (world : World
 -- where no volume was called all are as they were, whatever may come late
 pub late-still : {R A V : Type 0} (disk : Disk V)
     (before : KeptOf R A V)
-    → (disk.told → (vols : V) (n : ℕ) (image : List ℕ) → disk.images_since vols n (disk.moment vols) image → IsImage (disk.volume vols n) image)
+    → (disk.told → (vols : V) (n : ℕ) (image : List ℕ) → LeftSince disk vols n (disk.moment vols) image → IsImage (disk.volume vols n) image)
     → AreOnVolumes disk before.vols (before.world).systems before.journals → (rules : Meaning) (tid : TidOf)
     → DiskAs disk before before (late_record rules before.world tid)
 late-still disk before only_now on_volumes rules tid = by_unit (committed_unit rules before.world tid)

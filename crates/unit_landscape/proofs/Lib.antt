@@ -42,10 +42,10 @@ pub mod ClaimEndsLemmas
 pub mod JoinsLemmas
 -- how the appending of a record ends
 pub mod EndsLemmas
+-- however a call ends, logs have only grown
+pub mod GrownLemmas
 -- what a crash inside a call leaves is sound
 pub mod CrashLemmas
--- however a call ends, no sum has fallen
-pub mod CallTotals
 -- the arrival of a unit
 pub mod ArrivingLemmas
 -- the end of a claim's work

@@ -32,7 +32,6 @@ use Rattle.unit_landscape.specs.Kept.{IsLandscape}
 use Rattle.landscape.specs.Shown.{AreUnconfirmedAt}
 use Rattle.document_state.specs.declared.document_tables.DocumentTables.{DocumentTables}
 use Rattle.document_state.specs.declared.model_rules.ModelRules.{ModelRules}
-use Rattle.landscape.specs.Crashes.{GoesSoundly}
 use Rattle.unit_works.specs.declared.letter.Letter.{Letter}
 use Rattle.unit_works.specs.Wires.{letters_left, next_letter, rest_letters}
 use Rattle.unit_works.specs.Acts.{Act, HaveActed, confirm, each_but_last_cut, execute, is_cut, loses, ship, takes}
@@ -806,14 +805,3 @@ found-idle {V} disk before after lines lines_after None is did = (
   idle-all before.world (subst (λ (k : KeptOf ModelRules DocumentTables V). IsLandscape meaning k.world) did.0 is) did.2,
 )
 found-idle disk before after lines lines_after (Some n) is did = did
-
--- a drain that gave up at once did no works
-pub drained-none : {V : Type 0} (disk : Disk V) (kept : KeptOf ModelRules DocumentTables V) (lines : Lines)
-    → DrainedAs disk kept lines kept lines (Err (record {}))
-drained-none disk kept lines = still disk is_work false kept kept refl
-
--- a drain goes by calls, inside each of which a crash leaves sound logs
-pub drained-goes : {V : Type 0} (disk : Disk V) (before : KeptOf ModelRules DocumentTables V) (lines : Lines) (after : KeptOf ModelRules DocumentTables V)
-    (lines_after : Lines) (result : Result ℕ OutOfMemory) → DrainedAs disk before lines after lines_after result → GoesSoundly disk before after
-drained-goes disk before lines after lines_after (Ok n) did = let worked = did.worked in let went = worked.went in went.calls
-drained-goes disk before lines after lines_after (Err short) went = went.calls

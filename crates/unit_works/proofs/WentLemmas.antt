@@ -2,7 +2,7 @@
 use Rattle.std.specs.Prelude.{slice_get}
 use Rattle.std.specs.List.{list_all}
 use Rattle.std.specs.Option.{unwrap_or}
-use Rattle.std.proofs.Common.{◌≡◌, ◌≢◌, ◌≤◌, ◌-◌, ◌^◌, ℕ, Bool, true, false, ◌&&◌, Option, Some, None, List, [], ◌∷◌, ◌++◌, length, inl, inr, refl, sym, ap}
+use Rattle.std.proofs.Common.{◌≡◌, ◌≢◌, ◌≤◌, ◌-◌, ◌^◌, ℕ, Bool, true, false, ◌&&◌, Option, Some, None, List, [], ◌∷◌, ◌++◌, inl, inr, refl, sym, ap}
 use Rattle.std.proofs.Common.{subst, ◌∙◌}
 use Rattle.std.proofs.Common.{zero, suc, ◌+◌, arith}
 use Rattle.std.proofs.lemmas.Bool.{and_parts, and_from, both_ways, cases_Bool, cases_eq}
@@ -32,10 +32,11 @@ use Rattle.unit_landscape.specs.declared.cause.Cause.{Cause}
 use Rattle.unit_landscape.specs.declared.cause.Cause.TheVariants.{Up, Faulted, Overran, Short}
 use Rattle.unit_landscape.specs.Causes.{cause_in, with_cause, causes_after}
 use Rattle.unit_landscape.specs.Ends.{NoFaults, Happened, Failed, FellBehind, Stays, FellInstead, IsShort, Overflowed}
-use Rattle.unit_landscape.specs.Crashes.{GoesByCalls, LeavesSound}
+use Rattle.unit_landscape.specs.Crashes.{HasGrown, LeavesSound, StaysSound}
 use Rattle.unit_landscape.specs.Kept.{IsLandscape}
 use Rattle.unit_landscape.specs.Writes.{MomentsAs}
-use Rattle.unit_landscape.proofs.CrashLemmas.{calls-none, calls-on, calls-one}
+use Rattle.unit_landscape.proofs.CrashLemmas.{stays-none, stays-on, stays-one}
+use Rattle.unit_landscape.proofs.GrownLemmas.{grown-behind, grown-event, grown-stays}
 use Rattle.unit_landscape.proofs.EndsLemmas.{falls-up, too_long-same}
 use Rattle.unit_works.specs.Events.{is_works_record, is_works_rest}
 use Rattle.unit_works.specs.Went.{AreStamped, HasCause, HasNotFallen, HasRisen, HaveWorksBehind, IsUnfit, StaysDown, WentOn, with_more}
@@ -178,7 +179,7 @@ module _ {R A V : Type 0} (meaning : R → Meaning) (disk : Disk V) (may : Event
     unharmed = λ system least up. refl;
     stays = λ system least down. record { down = down; rest = refl; log = refl; moments = refl; moment = refl; rest_moment = refl; cause = refl };
     falls = λ is system up down. absurd (both_ways (is_up kept.world system) down up);
-    calls = λ tells. calls-none meaning disk kept kept refl;
+    sound = λ tells. stays-none meaning disk kept kept refl refl;
   }
 
   pub went-same : (whole : Bool) (before after : KeptOf R A V) → after ≡ before → WentOn meaning disk may whole before after
@@ -199,7 +200,7 @@ module _ {R A V : Type 0} (meaning : R → Meaning) (disk : Disk V) (may : Event
     unharmed = went.unharmed;
     stays = went.stays;
     falls = λ is. went.falls refl;
-    calls = went.calls;
+    sound = went.sound;
   }
 
   -- on and on
@@ -245,7 +246,7 @@ module _ {R A V : Type 0} (meaning : R → Meaning) (disk : Disk V) (may : Event
           (cause-first meaning disk before between after system (rest_of between.world system) second.rules second.committed (second.counts (system - 1))
           stays (first.falls refl system up fell))
     ];
-    calls = λ tells. calls-on meaning disk before between after (first.calls tells) (second.calls tells);
+    sound = λ tells. stays-on meaning disk before between after (first.sound tells) (second.sound tells);
   }
 
   -- where more may happen
@@ -264,7 +265,7 @@ module _ {R A V : Type 0} (meaning : R → Meaning) (disk : Disk V) (may : Event
     unharmed = went.unharmed;
     stays = went.stays;
     falls = went.falls;
-    calls = went.calls;
+    sound = went.sound;
   }
 
 -- ---- what became of an event
@@ -323,19 +324,8 @@ module _ {R A V : Type 0} (meaning : R → Meaning) (lawful : (r : R) → IsLawf
     (before after : KeptOf R A V)
     (is : IsLandscape meaning before.world) (leaves : disk.told → LeavesSound meaning disk before after) where
   -- one call, of which it is known what it leaves
-  linked : disk.told → after.world.rules ≡ before.world.rules → HaveWorksBehind before.world after.world
-      → length after.world.systems ≡ length before.world.systems → GoesByCalls meaning disk before after
-  linked tells rules logs many = calls-one meaning disk before after (record {
-    leaves = leaves tells;
-    rules = rules;
-    many = many;
-    grows = λ system. let its = logs system in (its.0, its.1);
-  })
-
-  -- a safe landscape by the same rules has as many systems
-  as-many : after.world.rules ≡ before.world.rules → Safe (meaning after.world.rules) after.world
-      → length after.world.systems ≡ length before.world.systems
-  as-many rules safe = safe.systems ∙ ap (λ (r : R). (meaning r).systems) rules ∙ sym is.safe.systems
+  linked : disk.told → HasGrown before.world after.world → StaysSound meaning disk before after
+  linked tells grown = stays-one meaning disk before after grown (leaves tells)
 
   counted-same : NoFaults (meaning before.world.rules) disk before after → (place : ℕ) →
       HasNotFallen (disk.faults before.vols place) (disk.faults after.vols place)
@@ -433,11 +423,7 @@ module _ {R A V : Type 0} (meaning : R → Meaning) (lawful : (r : R) → IsLawf
         absurd (both_ways (is_up before.world other)
         (sym (step-up (meaning before.world.rules) (lawful before.world.rules) before.world is.safe e step other)
         ∙ sym (ap (λ (w : World R). is_up w other) did.world) ∙ down) up);
-    calls = λ tells. linked tells (Safe-step meaning lawful before.world after.world e is.safe did.world).0
-        (subst (HaveWorksBehind before.world) (sym did.world)
-        (works-event (meaning before.world.rules) (lawful before.world.rules) before.world is.safe e step))
-        (as-many (Safe-step meaning lawful before.world after.world e is.safe did.world).0
-        (Safe-step meaning lawful before.world after.world e is.safe did.world).1);
+    sound = λ tells. linked tells (grown-event meaning lawful before.world after.world is.safe e did.world);
   }
 
   -- memory was wanting before
@@ -457,9 +443,7 @@ module _ {R A V : Type 0} (meaning : R → Meaning) (lawful : (r : R) → IsLawf
         same-state other down (ap (λ (w : World R). state_of w.systems other) did.world)
         (still-same before.journals after.journals (other - 1) did.journals) (same-cause did.causes other);
     falls = λ is_whole other up down. absurd (both_ways (is_up before.world other) (sym (ap (λ (w : World R). is_up w other) did.world) ∙ down) up);
-    calls = λ tells. linked tells (ap (λ (w : World R). w.rules) did.world)
-        (works-same before.world after.world (λ system. ap (λ (w : World R). log_of w system) did.world))
-        (ap (λ (w : World R). length w.systems) did.world);
+    sound = λ tells. linked tells (grown-stays meaning lawful disk before after is.safe did);
   }
 
   module _ (falls : (system : ℕ) (kept : Option Record) → is_works_rest kept ≡ true → may (Fall system kept) ≡ true) where
@@ -493,11 +477,7 @@ module _ {R A V : Type 0} (meaning : R → Meaning) (lawful : (r : R) → IsLawf
           subst (λ s. HasCause meaning disk before after s (rest_of after.world s)) (sym its)
           (subst (HasCause meaning disk before after system) (sym (ap (λ (w : World R). rest_of w system) fall ∙ fall-rest before.world system up rest))
           cause);
-      calls = λ tells. linked tells (Safe-step meaning lawful before.world after.world (Fall system rest) is.safe world).0
-          (works-same before.world after.world
-          (λ other. ap (λ (w : World R). log_of w other) fall ∙ fall-log before.world system up rest other))
-          (as-many (Safe-step meaning lawful before.world after.world (Fall system rest) is.safe world).0
-          (Safe-step meaning lawful before.world after.world (Fall system rest) is.safe world).1);
+      sound = λ tells. linked tells (grown-event meaning lawful before.world after.world is.safe (Fall system rest) world);
     }
 
     failed-counts : (it : Writing) → Failed (meaning before.world.rules) disk before after it → (place : ℕ)
@@ -618,11 +598,7 @@ module _ {R A V : Type 0} (meaning : R → Meaning) (lawful : (r : R) → IsLawf
               ∙ fall-down between it.system still None other (step-up rules law before.world is.safe e step other ∙ down)
               ∙ step-down rules law before.world is.safe e step other down) journals (other-cause it.system Short up did.causes other least down);
           falls = λ is_whole. absurd (cc);
-          calls = λ tells. linked tells ((Safe-step meaning lawful between after.world (Fall it.system None) first.1 by).0 ∙ first.0)
-              (works-on before.world between after.world (works-event rules law before.world is.safe e step)
-              (works-same between after.world (λ other. ap (λ (w : World R). log_of w other) fall ∙ fall-log between it.system still None other)))
-              (as-many ((Safe-step meaning lawful between after.world (Fall it.system None) first.1 by).0 ∙ first.0)
-              (Safe-step meaning lawful between after.world (Fall it.system None) first.1 by).1);
+          sound = λ tells. linked tells (grown-behind meaning lawful disk before after is.safe e it did);
         }
 
     pub went-short : (e : Event) → is_step e ≡ true → may e ≡ true → IsShort (meaning before.world.rules) disk before after e

@@ -14,7 +14,7 @@ use Rattle.trfc_protocol.specs.Legal.{may_follow}
 use Rattle.trfc_protocol.specs.Worlds.{committed_unit, is_up, log_of, rest_of}
 use Rattle.unit_journal.specs.OnDisk.{last_moment, later, moment_of, moments_at, next_moment, rest_at}
 use Rattle.unit_landscape.specs.declared.cause.Cause.TheVariants.{Faulted, Overran}
-use Rattle.unit_landscape.specs.Crashes.{GoesByCalls}
+use Rattle.unit_landscape.specs.Crashes.{StaysSound}
 use Rattle.unit_landscape.specs.KeptWorlds.{KeptOf, cause_at}
 use Rattle.unit_landscape.specs.Writes.{IsTooLong}
 use Rattle.unit_works.specs.Events.{is_works_record}
@@ -71,8 +71,8 @@ AreStamped set before after = (n : ℕ) × (after ≡ with_more set n before)
 -- A landscape went on by events that may happen: its world is the one that these make of the one before, by the same rules. Each log is the
 -- one before with records of works behind it, and the units that are committed are those that were. The moment that is set is as before,
 -- and the records behind have it, or the last of their log where that is later. No count of faults fell, and that of a system that is up has
--- not changed. Systems that were down stay so; and where the work is whole, those that fell had a cause. It went on by calls, and whatever a
--- crash leaves inside any of them is sound.
+-- not changed. Systems that were down stay so; and where the work is whole, those that fell had a cause. What a crash leaves of all volumes at one
+-- moment after the first is sound, and has all records from before.
 pub record WentOn {R A V : Type 0} (meaning : R → Meaning) (disk : Disk V) (may : Event → Bool) (whole : Bool) (before after : KeptOf R A V) : Type 0
   where
     pub events : List Event
@@ -88,4 +88,4 @@ pub record WentOn {R A V : Type 0} (meaning : R → Meaning) (disk : Disk V) (ma
     pub stays : (system : ℕ) → 1 ≤ system → is_up before.world system ≡ false → StaysDown before after system
     pub falls : whole ≡ true → (system : ℕ) → is_up before.world system ≡ true → is_up after.world system ≡ false
         → HasCause meaning disk before after system (rest_of after.world system)
-    pub calls : disk.told → GoesByCalls meaning disk before after
+    pub sound : disk.told → StaysSound meaning disk before after

@@ -1,10 +1,11 @@
-use Rattle.std.proofs.Common.{inr, ℕ, List, ◌∙◌, sym, subst}
+use Rattle.std.proofs.Common.{rules, inl, inr, ℕ, List, ◌∙◌, sym, subst}
 use Rattle.std.proofs.lemmas.Result.{err_from_is_err_and}
 use Rattle.byte_journal.specs.declared.fault.OpenFault.TheVariants.{Volume as VolumeFault}
 use Rattle.byte_journal.specs.steps.Reading.{ReadsTo}
-use Rattle.byte_journal.proofs.OpenLemmas.{open-any_moment, open-from_sync, answers-unread, reads-front, opened-closed}
+use Rattle.byte_journal.proofs.OpenLemmas.{open-any_moment, open-from_sync, unclosed-from_sync, answers-unread, reads-front, opened-closed}
 use Rattle.byte_journal.proofs.BytesLemmas.{opened-unread, opened-unclosed, same_fault, not_err}
 use Rattle.byte_journal.proofs.OneAnswer.{has_one_answer}
+use Rattle.ale_volumes.proofs.ClockLemmas.{others_joined, weaker}
 use Rattle.byte_journal.proofs.opening.open.Goals as goal
 
 -- ---- reading failed
@@ -115,3 +116,31 @@ returns-clause-from_sync g c = λ told.
     (subst (λ (b : List ℕ). ReadsTo b c.in_ok-log.log c.in_ok-log.gate) (c.deref.ensures.value ∙ sym c.deref-2.ensures.value) c.in_ok-log.ensures) in
     inr (open-from_sync V.disk c.args.vols.now c.read_durable.new.vols c.close_gate.new.vols c.args.n c.in_ok-log.log reads.stands
     closes c.read_durable.result c.in_ok-bytes.bytes c.in_ok-bytes.was (c.read_durable.ensures.from_sync told))
+
+pub returns-in_err-bytes-clause-any_moment : goal.returns-in_err-bytes-clause-any_moment
+returns-in_err-bytes-clause-any_moment g c = λ told.
+    weaker g.V.Volumes.disk c.args.vols.now c.read_durable.new.vols c.args.n _ _ (λ image is. inl is) (c.read_durable.ensures.any_moment told)
+
+pub returns-in_err-log-clause-any_moment : goal.returns-in_err-log-clause-any_moment
+returns-in_err-log-clause-any_moment g c = λ told.
+    weaker g.V.Volumes.disk c.args.vols.now c.read_durable.new.vols c.args.n _ _ (λ image is. inl is) (c.read_durable.ensures.any_moment told)
+
+pub returns-in_err-close_gate-clause-others : goal.returns-in_err-close_gate-clause-others
+returns-in_err-close_gate-clause-others g c = λ told.
+    others_joined g.V.Volumes.disk c.args.vols.now c.read_durable.new.vols c.close_gate.new.vols c.args.n (c.read_durable.ensures.any_moment told).later
+    (c.read_durable.ensures.others told) (c.close_gate.ensures.others told)
+
+pub returns-clause-others : goal.returns-clause-others
+returns-clause-others g c = λ told.
+    others_joined g.V.Volumes.disk c.args.vols.now c.read_durable.new.vols c.close_gate.new.vols c.args.n (c.read_durable.ensures.any_moment told).later
+    (c.read_durable.ensures.others told) (c.close_gate.ensures.others told)
+
+pub returns-in_err-bytes-clause-from_sync : goal.returns-in_err-bytes-clause-from_sync
+returns-in_err-bytes-clause-from_sync g c = λ told.
+    unclosed-from_sync g.V.Volumes.disk c.args.vols.now c.read_durable.new.vols c.args.n _ _ (λ is. let failed = is in search rules)
+    (c.read_durable.ensures.from_sync told)
+
+pub returns-in_err-log-clause-from_sync : goal.returns-in_err-log-clause-from_sync
+returns-in_err-log-clause-from_sync g c = λ told.
+    unclosed-from_sync g.V.Volumes.disk c.args.vols.now c.read_durable.new.vols c.args.n _ _ (λ is. let failed = is in search rules)
+    (c.read_durable.ensures.from_sync told)

@@ -6,7 +6,9 @@ pub loop-command-init : goal.loop-command-init
 loop-command-init g c = record {
   so_far =
       SoFar-start g.V.Volumes.disk c.args.inputs.now c.args.commands.now c.args.stage (g.K.Sink.contents c.args.out.now) (g.K.Sink.faults c.args.out.now)
-      (g.C.Clock.given c.args.clock.now) (g.C.Clock.told c.args.clock.now) c.requires.up;
+      (g.C.Clock.given c.args.clock.now) (g.C.Clock.told c.args.clock.now) c.requires.up
+      c.world.ensures.sound;
+  safe = c.world.ensures.safe;
   still = λ tells. tells;
 }
 
@@ -20,8 +22,10 @@ loop-command-preserved g c = record {
       (g.C.Clock.told c.turn-after.new.clock)
       (g.C.Clock.given c.loop-command.clock) (g.C.Clock.given c.turn-after.new.clock) c.loop-command.invariant.so_far c.loop-command-test.true
       c.command-item.is
-      c.turn-after.ensures.told c.turn-after.ensures.turn.0 c.turn-after.ensures.turn.2 c.turn-after.result.end c.turn-after.ensures.turn.1
+      c.turn-after.ensures.told c.turn-after.ensures.turn.0 c.turn-after.ensures.turn.2 c.turn-after.ensures.sound
+      c.turn-after.ensures.now c.turn-after.result.end c.turn-after.ensures.turn.1
       (sym c.behind.ensures ∙ c.in-None.is);
+  safe = c.turn-after.ensures.safe;
   still = λ tells. c.loop-command.invariant.still (c.turn-after.ensures.told tells);
 }
 
@@ -32,7 +36,8 @@ returns-in-Some-clause-run g c =
     c.command-item.result _ c.loop-command.stage c.turn-after.result.stage (g.K.Sink.contents c.loop-command.out) (g.K.Sink.contents c.turn-after.new.out)
     (g.K.Sink.faults c.loop-command.out) (g.K.Sink.faults c.turn-after.new.out) (g.C.Clock.told c.loop-command.clock) (g.C.Clock.told c.turn-after.new.clock)
     (g.C.Clock.given c.loop-command.clock) (g.C.Clock.given c.turn-after.new.clock) c.loop-command.invariant.so_far c.loop-command-test.true c.command-item.is
-    c.turn-after.ensures.told c.turn-after.ensures.turn.0 c.turn-after.ensures.turn.2 c.turn-after.result.end c.turn-after.ensures.turn.1
+    c.turn-after.ensures.told c.turn-after.ensures.turn.0 c.turn-after.ensures.turn.2 c.turn-after.ensures.sound
+    c.turn-after.ensures.now c.turn-after.result.end c.turn-after.ensures.turn.1
     c.in-Some.end (sym c.behind.ensures ∙ c.in-Some.is)
 
 pub returns-clause-run : goal.returns-clause-run

@@ -34,7 +34,7 @@ returns-clause-wrote g c = λ next log last on_disk.
       left = c.write.ensures.left;
       one = c.write.ensures.one;
       grown = c.write.ensures.grown;
-      others = λ other differs tells. (c.write.ensures.others tells).known other differs;
+      others = λ other differs tells. ((c.write.ensures.others tells).each other differs).known;
     })
 
 pub returns-clause-any_moment : goal.returns-clause-any_moment

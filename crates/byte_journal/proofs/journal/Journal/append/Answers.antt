@@ -1,13 +1,14 @@
 use Rattle.std.specs.Prelude.{Err, IsErrOf}
-use Rattle.std.proofs.Common.{◌<◌, ◌≤◌, ◌+◌, ℕ, List, [], ◌∷◌, length, refl, ◌∙◌, ap, arith, rules}
+use Rattle.std.proofs.Common.{inl, ◌<◌, ◌≤◌, ◌+◌, ℕ, List, [], ◌∷◌, length, refl, ◌∙◌, ap, arith, rules}
 use Rattle.std.proofs.lemmas.Result.{err_from_is_err_and}
 use Rattle.ale_volumes.specs.declared.volume.Volume.{Volume}
 use Rattle.ale_volumes.specs.Volume.{overwritten}
 use Rattle.ale_volumes.specs.declared.volume_end.VolumeEnd.TheVariants.{OutOfMemory}
-use Rattle.ale_volumes.proofs.ClockLemmas.{joined, weaker}
+use Rattle.ale_volumes.proofs.ClockLemmas.{joined, weaker, started, others_joined}
 use Rattle.byte_journal.specs.Log.{open_gate, most_bytes}
 use Rattle.byte_journal.proofs.AppendLemmas.{long_enough, first_before, second_torn, mid_durable, still_settled, added}
 use Rattle.byte_journal.proofs.BytesLemmas.{appended-none, appended-first, appended-second, appended-done}
+use Rattle.byte_journal.proofs.SettledLemmas.{IsSettled-stands}
 use Rattle.byte_journal.proofs.journal.Journal.append.Goals as goal
 
 -- the first write leaves the log as it was
@@ -118,3 +119,33 @@ returns-clause-leaves g c = λ told.
     ap (λ (v : Volume). v.contents) (c.in_ok-write_synced-2.ensures.written told)
     ∙ ap (λ (b : List ℕ). overwritten b gate (open_gate ∷ [])) wrote
     ∙ appended-done old gate c.args.body.now within
+
+-- nothing was written
+pub returns-then-next-ge-MOST_BYTES-clause-any_moment : goal.returns-then-next-ge-MOST_BYTES-clause-any_moment
+returns-then-next-ge-MOST_BYTES-clause-any_moment g c = λ told log s.
+    let V = g.V.Volumes in
+    let journal = c.args.self.now in
+    let old = c.args.vols.now in
+    started V.disk old journal.volume _
+    (λ image left. inl (IsSettled-stands V.disk old journal log s image (g.met.V.Volumes.only_now told old journal.volume image left)))
+
+pub returns-in_err-block-clause-any_moment : goal.returns-in_err-block-clause-any_moment
+returns-in_err-block-clause-any_moment g c = λ told log s.
+    let V = g.V.Volumes in
+    let journal = c.args.self.now in
+    let old = c.args.vols.now in
+    started V.disk old journal.volume _
+    (λ image left. inl (IsSettled-stands V.disk old journal log s image (g.met.V.Volumes.only_now told old journal.volume image left)))
+
+-- both writes keep all other volumes
+pub returns-in_err-write_synced-2-clause-others : goal.returns-in_err-write_synced-2-clause-others
+returns-in_err-write_synced-2-clause-others g c = λ told.
+    let durable = (c.requires.settled told).1.durable in
+    others_joined g.V.Volumes.disk c.args.vols.now c.write_synced.new.vols c.write_synced-2.new.vols c.args.self.now.volume
+    (c.write_synced.ensures.any_moment told durable).later (c.write_synced.ensures.others told) (c.write_synced-2.ensures.others told)
+
+pub returns-clause-others : goal.returns-clause-others
+returns-clause-others g c = λ told.
+    let durable = (c.requires.settled told).1.durable in
+    others_joined g.V.Volumes.disk c.args.vols.now c.write_synced.new.vols c.write_synced-2.new.vols c.args.self.now.volume
+    (c.write_synced.ensures.any_moment told durable).later (c.write_synced.ensures.others told) (c.write_synced-2.ensures.others told)

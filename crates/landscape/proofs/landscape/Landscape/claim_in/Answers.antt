@@ -1,11 +1,13 @@
-use Rattle.landscape.proofs.BegunLemmas.{begun-claimed_in}
+use Rattle.unit_landscape.proofs.GrownLemmas.{grown-claimed_in}
+use Rattle.landscape.proofs.BegunLemmas.{begun-grown, is_lawful, meaning}
 use Rattle.landscape.proofs.SoundLemmas.{sound-still}
 use Rattle.landscape.proofs.landscape.Landscape.claim_in.Goals as goal
 
 pub invariant_of-self : goal.invariant_of-self
 invariant_of-self g c =
-    begun-claimed_in g.V.Volumes.disk c.self.inside.units c.claim_in.new.self c.world.ensures.safe c.self.invariant c.args.system c.claim_in.result
-    c.claim_in.ensures.event c.claim_in.ensures.err
+    begun-grown c.self.inside.units.world c.claim_in.new.self.world c.self.invariant
+    (grown-claimed_in meaning is_lawful g.V.Volumes.disk c.self.inside.units c.claim_in.new.self c.world.ensures.safe.safe c.args.system c.claim_in.result
+    c.claim_in.ensures.event c.claim_in.ensures.err)
 
 pub returns-clause-sound : goal.returns-clause-sound
 returns-clause-sound g c =

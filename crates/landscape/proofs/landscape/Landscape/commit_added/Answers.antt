@@ -9,7 +9,8 @@ use Rattle.unit_landscape.specs.Appending.{at}
 use Rattle.unit_landscape.specs.KeptWorlds.{KeptOf}
 use Rattle.document_state.specs.declared.document_tables.DocumentTables.{DocumentTables}
 use Rattle.document_state.specs.declared.model_rules.ModelRules.{ModelRules}
-use Rattle.landscape.proofs.BegunLemmas.{begun-appends}
+use Rattle.unit_landscape.proofs.GrownLemmas.{grown-appends}
+use Rattle.landscape.proofs.BegunLemmas.{begun-grown, is_lawful, meaning}
 use Rattle.landscape.proofs.CarriedLemmas.{commit-commits}
 use Rattle.landscape.proofs.SoundLemmas.{sound-event, sound-none}
 use Rattle.landscape.proofs.landscape.Landscape.commit_added.Goals as goal
@@ -26,8 +27,9 @@ commit-requires-clause-commits g c =
 
 pub invariant_of-self : goal.invariant_of-self
 invariant_of-self g c =
-    begun-appends g.V.Volumes.disk c.self.inside.units c.commit.new.self c.world.ensures.safe c.self.invariant (event.Commit c.args.system c.args.next)
-    (at c.args.system c.args.next) c.commit.result c.commit.ensures.ends
+    begun-grown c.self.inside.units.world c.commit.new.self.world c.self.invariant
+    (grown-appends meaning is_lawful g.V.Volumes.disk c.self.inside.units c.commit.new.self c.world.ensures.safe.safe (event.Commit c.args.system c.args.next)
+    (at c.args.system c.args.next) c.commit.result c.commit.ensures.ends)
 
 pub returns-in-Err-clause-sound : goal.returns-in-Err-clause-sound
 returns-in-Err-clause-sound g c =

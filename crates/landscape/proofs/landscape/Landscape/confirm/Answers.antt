@@ -1,12 +1,14 @@
-use Rattle.landscape.proofs.BegunLemmas.{begun-confirmed}
+use Rattle.unit_landscape.proofs.GrownLemmas.{grown-confirmed}
+use Rattle.landscape.proofs.BegunLemmas.{begun-grown, is_lawful, meaning}
 use Rattle.trfc_protocol.specs.declared.event.Event.TheVariants as event
 use Rattle.landscape.proofs.SoundLemmas.{sound-event}
 use Rattle.landscape.proofs.landscape.Landscape.confirm.Goals as goal
 
 pub invariant_of-self : goal.invariant_of-self
 invariant_of-self g c =
-    begun-confirmed g.V.Volumes.disk c.self.inside.units c.confirm.new.self c.world.ensures.safe c.self.invariant c.args.tid c.confirm.result
-    c.confirm.ensures.event c.confirm.ensures.short
+    begun-grown c.self.inside.units.world c.confirm.new.self.world c.self.invariant
+    (grown-confirmed meaning is_lawful g.V.Volumes.disk c.self.inside.units c.confirm.new.self c.world.ensures.safe.safe c.args.tid c.confirm.result
+    c.confirm.ensures.event c.confirm.ensures.short)
 
 pub returns-clause-sound : goal.returns-clause-sound
 returns-clause-sound g c =

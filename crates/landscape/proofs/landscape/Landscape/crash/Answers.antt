@@ -1,11 +1,13 @@
-use Rattle.landscape.proofs.BegunLemmas.{begun-crashed}
+use Rattle.unit_landscape.proofs.GrownLemmas.{grown-crashed}
+use Rattle.landscape.proofs.BegunLemmas.{begun-grown, is_lawful, meaning}
 use Rattle.landscape.proofs.SoundLemmas.{sound-still}
 use Rattle.landscape.proofs.landscape.Landscape.crash.Goals as goal
 
 pub invariant_of-self : goal.invariant_of-self
 invariant_of-self g c =
-    begun-crashed g.V.Volumes.disk c.self.inside.units c.crash.new.self c.world.ensures.safe c.self.invariant c.args.system c.crash.result
-    c.crash.ensures.event c.crash.ensures.same
+    begun-grown c.self.inside.units.world c.crash.new.self.world c.self.invariant
+    (grown-crashed meaning is_lawful g.V.Volumes.disk c.self.inside.units c.crash.new.self c.world.ensures.safe.safe c.args.system c.crash.result
+    c.crash.ensures.event c.crash.ensures.same)
 
 pub returns-clause-sound : goal.returns-clause-sound
 returns-clause-sound g c =

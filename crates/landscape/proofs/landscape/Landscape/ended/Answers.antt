@@ -1,4 +1,5 @@
-use Rattle.landscape.proofs.BegunLemmas.{begun-closed}
+use Rattle.unit_landscape.proofs.GrownLemmas.{grown-closed}
+use Rattle.landscape.proofs.BegunLemmas.{begun-grown, is_lawful, meaning}
 use Rattle.trfc_protocol.specs.declared.event.Event.TheVariants as event
 use Rattle.trfc_protocol.specs.declared.event.ReplyTo.TheVariants.{Forgotten}
 use Rattle.landscape.proofs.SoundLemmas.{sound-event}
@@ -6,8 +7,10 @@ use Rattle.landscape.proofs.landscape.Landscape.ended.Goals as goal
 
 pub invariant_of-self : goal.invariant_of-self
 invariant_of-self g c =
-    begun-closed g.V.Volumes.disk c.self.inside.units c.ended.new.self c.world.ensures.safe c.self.invariant c.args.tid c.ended.result c.ended.ensures.event
-    c.ended.ensures.short
+    begun-grown c.self.inside.units.world c.ended.new.self.world c.self.invariant
+    (grown-closed meaning is_lawful g.V.Volumes.disk c.self.inside.units c.ended.new.self c.world.ensures.safe.safe c.args.tid c.ended.result
+    c.ended.ensures.event
+    c.ended.ensures.short)
 
 pub returns-clause-sound : goal.returns-clause-sound
 returns-clause-sound g c =

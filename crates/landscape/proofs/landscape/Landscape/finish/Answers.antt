@@ -14,7 +14,8 @@ use Rattle.document_state.specs.declared.document_tables.DocumentTables.{Documen
 use Rattle.document_state.specs.declared.model_rules.ModelRules.{ModelRules}
 use Rattle.landscape.specs.Begun.{AreBegun}
 use Rattle.landscape.specs.Working.{IsMadeFor}
-use Rattle.landscape.proofs.BegunLemmas.{meaning, is_lawful, begun-finished}
+use Rattle.unit_landscape.proofs.GrownLemmas.{grown-finished}
+use Rattle.landscape.proofs.BegunLemmas.{begun-grown, is_lawful, meaning}
 use Rattle.landscape.proofs.WorkingLemmas.{finish-goes, finish-offered}
 use Rattle.landscape.proofs.SoundLemmas.{sound-event, sound-none}
 use Rattle.landscape.proofs.landscape.Landscape.finish.Goals as goal
@@ -50,8 +51,9 @@ finish-requires-clause-goes g c stands it writes its there =
 
 pub invariant_of-self : goal.invariant_of-self
 invariant_of-self g c =
-    begun-finished g.V.Volumes.disk c.self.inside.units c.finish.new.self c.world.ensures.safe c.self.invariant c.args.claim c.finish.result
-    c.finish.ensures.ends
+    begun-grown c.self.inside.units.world c.finish.new.self.world c.self.invariant
+    (grown-finished meaning is_lawful g.V.Volumes.disk c.self.inside.units c.finish.new.self c.world.ensures.safe.safe c.args.claim c.finish.result
+    c.finish.ensures.ends)
 
 pub returns-in-Err-clause-disk : goal.returns-in-Err-clause-disk
 returns-in-Err-clause-disk g c =

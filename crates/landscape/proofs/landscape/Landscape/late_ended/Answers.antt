@@ -5,14 +5,16 @@ use Rattle.unit_landscape.proofs.LateEndsLemmas.{late-still}
 use Rattle.unit_landscape.specs.KeptWorlds.{KeptOf}
 use Rattle.document_state.specs.declared.document_tables.DocumentTables.{DocumentTables}
 use Rattle.document_state.specs.declared.model_rules.ModelRules.{ModelRules}
-use Rattle.landscape.proofs.BegunLemmas.{meaning, begun-late}
+use Rattle.unit_landscape.proofs.GrownLemmas.{grown-late}
+use Rattle.landscape.proofs.BegunLemmas.{begun-grown, is_lawful, meaning}
 use Rattle.unit_landscape.specs.Crashes.{LeavesSound}
 use Rattle.landscape.proofs.SoundLemmas.{sound-none}
 use Rattle.landscape.proofs.landscape.Landscape.late_ended.Goals as goal
 
 pub invariant_of-self : goal.invariant_of-self
 invariant_of-self g c =
-    begun-late g.V.Volumes.disk c.self.inside.units c.late.new.self c.world.ensures.safe c.self.invariant c.args.tid c.late.result c.late.ensures.ends
+    begun-grown c.self.inside.units.world c.late.new.self.world c.self.invariant
+    (grown-late meaning is_lawful g.V.Volumes.disk c.self.inside.units c.late.new.self c.world.ensures.safe.safe c.args.tid c.late.result c.late.ensures.ends)
 
 pub returns-in-Err-clause-disk : goal.returns-in-Err-clause-disk
 returns-in-Err-clause-disk g c =

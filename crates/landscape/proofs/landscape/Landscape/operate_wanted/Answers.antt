@@ -1,15 +1,17 @@
 use Rattle.trfc_protocol.specs.declared.event.Event.TheVariants as event
 use Rattle.trfc_protocol.specs.declared.event.Action.TheVariants.{Append}
 use Rattle.unit_landscape.specs.Appending.{at}
-use Rattle.landscape.proofs.BegunLemmas.{begun-appends}
+use Rattle.unit_landscape.proofs.GrownLemmas.{grown-appends}
+use Rattle.landscape.proofs.BegunLemmas.{begun-grown, is_lawful, meaning}
 use Rattle.landscape.proofs.SoundLemmas.{sound-event}
 use Rattle.landscape.proofs.landscape.Landscape.operate_wanted.Goals as goal
 
 pub invariant_of-self : goal.invariant_of-self
 invariant_of-self g c =
-    begun-appends g.V.Volumes.disk c.self.inside.units c.operate.new.self c.world.ensures.safe c.self.invariant
+    begun-grown c.self.inside.units.world c.operate.new.self.world c.self.invariant
+    (grown-appends meaning is_lawful g.V.Volumes.disk c.self.inside.units c.operate.new.self c.world.ensures.safe.safe
     (event.Operator (Append c.args.system c.args.wanted.next)) (at c.args.system c.args.wanted.next) c.operate.result
-    c.operate.ensures.ends
+    c.operate.ensures.ends)
 
 pub returns-clause-sound : goal.returns-clause-sound
 returns-clause-sound g c =

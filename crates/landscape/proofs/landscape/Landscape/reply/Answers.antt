@@ -2,7 +2,8 @@ use Rattle.trfc_protocol.specs.declared.world.World.{World}
 use Rattle.unit_landscape.proofs.HappenedLemmas.{disk-seen}
 use Rattle.unit_landscape.specs.Calls.{reply_event}
 use Rattle.document_state.specs.declared.model_rules.ModelRules.{ModelRules}
-use Rattle.landscape.proofs.BegunLemmas.{meaning, is_lawful, begun-replied}
+use Rattle.unit_landscape.proofs.GrownLemmas.{grown-replied}
+use Rattle.landscape.proofs.BegunLemmas.{begun-grown, is_lawful, meaning}
 use Rattle.landscape.proofs.SoundLemmas.{sound-event, sound-none}
 use Rattle.landscape.proofs.landscape.Landscape.reply.Goals as goal
 
@@ -14,8 +15,9 @@ returns-then-not-holds-clause-disk g c =
 
 pub invariant_of-self : goal.invariant_of-self
 invariant_of-self g c =
-    begun-replied g.V.Volumes.disk c.self.inside.units c.reply.new.self c.world.ensures.safe c.self.invariant c.args.claim c.args.given c.reply.result
-    c.reply.ensures.ends
+    begun-grown c.self.inside.units.world c.reply.new.self.world c.self.invariant
+    (grown-replied meaning is_lawful g.V.Volumes.disk c.self.inside.units c.reply.new.self c.world.ensures.safe.safe c.args.claim c.args.given c.reply.result
+    c.reply.ensures.ends)
 
 pub returns-in-Err-clause-disk : goal.returns-in-Err-clause-disk
 returns-in-Err-clause-disk g c =

@@ -6,7 +6,8 @@ use Rattle.document_state.specs.declared.model_rules.ModelRules.{ModelRules}
 use Rattle.unit_core.specs.declared.records.Record.TheVariants as log
 use Rattle.landscape.specs.Carried.{CarriedAs, DiskAsked, asked_at, operator_event}
 use Rattle.landscape.specs.Operator.{asked_retry}
-use Rattle.landscape.proofs.BegunLemmas.{begun-operated}
+use Rattle.unit_landscape.proofs.GrownLemmas.{grown-operated}
+use Rattle.landscape.proofs.BegunLemmas.{begun-grown, is_lawful, meaning}
 use Rattle.landscape.proofs.OperatorLemmas.{retry-carried, retry-disk}
 use Rattle.trfc_protocol.specs.declared.event.Event.TheVariants as event
 use Rattle.trfc_protocol.specs.declared.event.Action.TheVariants.{Append}
@@ -15,8 +16,9 @@ use Rattle.landscape.proofs.landscape.Landscape.retry.Goals as goal
 
 pub invariant_of-self : goal.invariant_of-self
 invariant_of-self g c =
-    begun-operated g.V.Volumes.disk c.self.inside.units c.retry.new.self c.world.ensures.safe c.self.invariant c.args.system
-    (log.Retry c.way_at.result c.args.tid) c.retry.result c.retry.ensures.ends
+    begun-grown c.self.inside.units.world c.retry.new.self.world c.self.invariant
+    (grown-operated meaning is_lawful g.V.Volumes.disk c.self.inside.units c.retry.new.self c.world.ensures.safe.safe c.args.system
+    (log.Retry c.way_at.result c.args.tid) c.retry.result c.retry.ensures.ends)
 
 pub returns-clause-ends : goal.returns-clause-ends
 returns-clause-ends g c =

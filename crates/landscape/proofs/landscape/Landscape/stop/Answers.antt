@@ -7,7 +7,8 @@ use Rattle.document_state.specs.declared.model_rules.ModelRules.{ModelRules}
 use Rattle.unit_core.specs.declared.records.Record.TheVariants as log
 use Rattle.landscape.specs.Carried.{CarriedAs, DiskAsked, asked_at, operator_event}
 use Rattle.landscape.specs.Operator.{asked_queue, stop_of}
-use Rattle.landscape.proofs.BegunLemmas.{begun-operated}
+use Rattle.unit_landscape.proofs.GrownLemmas.{grown-operated}
+use Rattle.landscape.proofs.BegunLemmas.{begun-grown, is_lawful, meaning}
 use Rattle.landscape.proofs.OperatorLemmas.{stop-carried, stop-disk}
 use Rattle.trfc_protocol.specs.declared.event.Event.TheVariants as event
 use Rattle.trfc_protocol.specs.declared.event.Action.TheVariants.{Append}
@@ -16,8 +17,9 @@ use Rattle.landscape.proofs.landscape.Landscape.stop.Goals as goal
 
 pub invariant_of-self : goal.invariant_of-self
 invariant_of-self g c =
-    begun-operated g.V.Volumes.disk c.self.inside.units c.stop.new.self c.world.ensures.safe c.self.invariant c.args.system
-    (log.Stop c.queue_to-way.result.0 c.queue_to-way.result.1 c.in-Ok.name) c.stop.result c.stop.ensures.ends
+    begun-grown c.self.inside.units.world c.stop.new.self.world c.self.invariant
+    (grown-operated meaning is_lawful g.V.Volumes.disk c.self.inside.units c.stop.new.self c.world.ensures.safe.safe c.args.system
+    (log.Stop c.queue_to-way.result.0 c.queue_to-way.result.1 c.in-Ok.name) c.stop.result c.stop.ensures.ends)
 
 pub returns-clause-ends : goal.returns-clause-ends
 returns-clause-ends g c =

@@ -1,12 +1,21 @@
-use Rattle.std.proofs.Common.{◌≡◌, [], suc, ◌+◌, arith, sym, subst}
+use Rattle.std.proofs.Common.{◌≡◌, [], suc, ◌+◌, ◌∙◌, ap, arith, length, sym, subst}
+use Rattle.trfc_protocol.specs.declared.world.World.{World}
+use Rattle.document_state.specs.declared.model_rules.ModelRules.{ModelRules}
 use Rattle.landscape.specs.steps.Opening.{AreBegunSoFar, AreOpened, OpensAs}
-use Rattle.landscape.proofs.OpeningLemmas.{begins-first, opens-at}
+use Rattle.landscape.proofs.OpeningLemmas.{AreOpened-none, begins-first, opens-at}
 use Rattle.landscape.proofs.landscape.opening.open_all.Goals as goal
 
 pub open_next-requires : goal.open_next-requires
 open_next-requires g c =
     let so_far = c.loop-number.invariant [] in
     record { next = (let all = so_far.all in let here = so_far.opened in let test = c.loop-number-test.true in omega arith) }
+
+pub loop-number-init : goal.loop-number-init
+loop-number-init g c text =
+    AreOpened-none g.V.Volumes.disk c.args.systems text c.args.moment c.args.vols g.met.V.Volumes.only_now c.new-opening.result
+    (ap (λ (w : World ModelRules). w.rules.systems) c.new-opening.ensures.world ∙ c.new.ensures)
+    (ap (λ (w : World ModelRules). length w.systems) c.new-opening.ensures.world) c.new-opening.ensures.count c.new-opening.ensures.moment
+    c.new-opening.ensures.vols
 
 pub returns-in-Err : goal.returns-in-Err
 returns-in-Err g c text =

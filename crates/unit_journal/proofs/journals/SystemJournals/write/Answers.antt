@@ -4,7 +4,7 @@ use Rattle.std.proofs.Common.{◌≡◌, ◌-◌, ◌<◌, inl, ℕ, Option, Som
 use Rattle.byte_journal.specs.declared.fault.AppendFault.TheVariants as AppendFault
 use Rattle.std.specs.Result.{result_err}
 use Rattle.std.proofs.lemmas.Option.{same_Some}
-use Rattle.ale_volumes.specs.Clock.{LeavesOnly}
+use Rattle.ale_volumes.specs.Clock.{KeepsOthers, LeavesOnly}
 use Rattle.ale_volumes.proofs.ClockLemmas.{started}
 use Rattle.unit_codec.specs.Entries.{entry_with}
 use Rattle.unit_journal.specs.declared.journal.UnitJournal.{UnitJournal}
@@ -209,3 +209,29 @@ returns-in-Err-clause-one g c =
     (c.take_back.ensures all.moments moment within c.in_ok-note.ensures.ok) c.keep_rest.ensures.kept in
     subst (λ (after : SystemJournals). OnlyAt place all after) (sym same)
     (OnlyAt-failed all place k moment at c.next_moment-moment.ensures c.in-Err.fault)
+
+pub returns-in-Ok-clause-others : goal.returns-in-Ok-clause-others
+returns-in-Ok-clause-others g c = λ tells.
+    let V = g.V.Volumes in
+    let old = c.args.vols.now in
+    let all = c.args.self.now in
+    let place = c.args.system - 1 in
+    let k = c.get.result - 1 in
+    let at : k ≡ place = ap (λ (n : ℕ). n - 1) c.get.ensures.number in
+    let was = c.at_mut.result.now in
+    let here : slice_get all.journals place ≡ Some was = ap (λ (i : ℕ). slice_get all.journals i) (sym at) ∙ c.at_mut.ensures.value in
+    subst (KeepsOthers V.disk old c.append.new.vols) (on-here V.disk old place all c.requires.on_disk.0 was here c.requires.on_disk.1).volume
+    (c.append.ensures.others tells)
+
+pub returns-in-Err-clause-others : goal.returns-in-Err-clause-others
+returns-in-Err-clause-others g c = λ tells.
+    let V = g.V.Volumes in
+    let old = c.args.vols.now in
+    let all = c.args.self.now in
+    let place = c.args.system - 1 in
+    let k = c.get.result - 1 in
+    let at : k ≡ place = ap (λ (n : ℕ). n - 1) c.get.ensures.number in
+    let was = c.at_mut.result.now in
+    let here : slice_get all.journals place ≡ Some was = ap (λ (i : ℕ). slice_get all.journals i) (sym at) ∙ c.at_mut.ensures.value in
+    subst (KeepsOthers V.disk old c.append.new.vols) (on-here V.disk old place all c.requires.on_disk.0 was here c.requires.on_disk.1).volume
+    (c.append.ensures.others tells)

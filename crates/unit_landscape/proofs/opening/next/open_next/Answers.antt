@@ -8,4 +8,4 @@ returns-in-Ok-clause-opening g c =
     IsOpening-opened g.R.Rules.meaning g.met.R.Rules.lawful g.A.Application.stands g.V.Volumes.disk
     (kept_of c.args.both.now c.args.journals.now c.args.vols.now) (kept_of c.add.new.both c.open_empty.new.journals c.open_empty.new.vols) c.args.application
     c.requires.opening c.requires.next c.requires.stands c.in-Ok.ensures.world c.in-Ok.ensures.tables c.in_ok-open_empty.ensures.next
-    (λ other differs tells. (c.open_empty.ensures.others tells).known other differs) c.in_ok-open_empty.ensures.opened refl refl
+    (λ other differs tells. ((c.open_empty.ensures.others tells).each other differs).known) c.in_ok-open_empty.ensures.opened refl refl

@@ -1,0 +1,6 @@
+use Rattle.landscape.proofs.SoundLemmas.{sound-none}
+use Rattle.landscape.proofs.landscape.Landscape.world.Goals as goal
+
+pub returns-clause-sound : goal.returns-clause-sound
+returns-clause-sound g c =
+    sound-none g.V.Volumes.disk g.met.V.Volumes.only_now c.self.inside.units c.args.self.now c.self.view_is c.world.ensures.safe c.world.ensures.kept.on_volumes
