@@ -1,26 +1,25 @@
 -- The ending of `pass` is one of the run.
 use Rattle.std.specs.Arc.{arc_value}
-use Rattle.std.proofs.Common.{◌≡◌, ◌≢◌, ◌∙◌, ℕ, Some, Result, Ok, Err, List, refl, sym, ap, subst, inl, inr}
+use Rattle.std.proofs.Common.{◌≡◌, ◌≢◌, ◌∙◌, ◌⊎◌, ℕ, Some, Ok, List, refl, sym, ap, subst, inl, inr}
 use Rattle.ale_base.specs.Lines.{lines_of}
-use Rattle.std.specs.Prelude.{IfErr, IfOk}
 use Rattle.ale_io.specs.Told.{Told}
 use Rattle.ale_host.specs.declared.words.Form.TheVariants.{Pass, Run}
 use Rattle.ale_host.specs.declared.ending.Ending.{Ending}
 use Rattle.ale_host.specs.declared.ending.Ending.TheVariants as ending
-use Rattle.ale_host.specs.Inputs.{EndsBehindDocuments, EndsBehindModel, EndsRun, SaysDocuments, SaysScript, StopsAtDocuments, StopsAtScript}
+use Rattle.ale_host.specs.Inputs.{EndsRun, SaysDocuments, SaysScript, StopsAtDocuments}
 use Rattle.idoc_file.specs.declared.raw_doc.RawDoc.{RawDoc}
 use Rattle.ale_host.specs.declared.inputs.ModelFile.{ModelFile}
 use Rattle.ale_host.specs.declared.prepared.Prepared.{Prepared}
 use Rattle.ale_host.specs.LoadModel.{load_model}
 use Rattle.ale_host.specs.Load as load
 use Rattle.ale_host.specs.Running.{masters_of}
-use Rattle.ale_host.specs.Prepared.{AreMasters, EndsAs, IsBehindDocuments, IsBehindModel, IsLoaded, IsPrepared, IsRead, SaysMasters, SaysModel, prepared_of}
+use Rattle.ale_host.specs.Prepared.{AreMasters, EndsAs, IsLoaded, IsPrepared, IsRead, SaysMasters, SaysModel, prepared_of}
 use Rattle.model_text.specs.Text.{answer_to}
 use Rattle.script_text.specs.declared.command.Command.{Command}
 use Rattle.script_text.specs.Script.{script_of}
 use Rattle.unit_core.specs.declared.raw_unit_doc.RawUnitDoc.{RawUnitDoc}
 use Rattle.ale_host.specs.Words.{form_of, document_file, documents_file, model_file, script_file}
-use Rattle.ale_host.specs.Ending.{IsFile, EndsFile, EndsPass, Ends, IsQuiet, status_of}
+use Rattle.ale_host.specs.Ending.{EndsPass, Ends, IsPrintable, IsQuiet, status_of}
 
 pub Ends-pass : (words : List (List ℕ)) (told : List ℕ → Told) (faults : Type 0) (end : Ending) → form_of words ≡ Some Pass
     → EndsPass (document_file words) (told (document_file words)) faults end → Ends words told faults end
@@ -46,6 +45,16 @@ Ends-run words told faults ending.Usage is_run ends = elim ends [
   | inr (lists, says, behind) ↦ elim behind [ inl stops ↦ absurd stops | inr (all, documents, last) ↦ absurd last ]
 ]
 
+-- an ending of these words can be printed: only `pass` prints documents, and a file has no more than are printed
+pub ends-printable : (words : List (List ℕ)) (told : List ℕ → Told) (faults : Type 0) (end : Ending) → Ends words told faults end → IsPrintable end
+ends-printable words told faults (ending.Passed documents) (inl passes) = passes.1.2.few
+ends-printable words told faults (ending.Passed documents) (inr (inl runs)) = elim runs.1 [
+  | inl stops ↦ absurd stops
+  | inr (lists, says, behind) ↦ elim behind [ inl stops ↦ absurd stops | inr (all, its, last) ↦ absurd last ]
+]
+ends-printable words told faults (ending.Passed documents) (inr (inr loads)) = absurd loads.2
+ends-printable words told faults _ ends = tt
+
 -- a status other than those of a file that is not read, and of memory, comes with no fault of the files
 pub quiet_by_status : (end : Ending) (before after : ℕ) → IsQuiet end before after → status_of end ≢ 5 → status_of end ≢ 9 → after ≡ before
 quiet_by_status (ending.Passed documents) before after quiet not_5 not_9 = quiet
@@ -56,71 +65,17 @@ quiet_by_status (ending.Unread name why) before after quiet not_5 not_9 = absurd
 quiet_by_status ending.OutOfMemory before after quiet not_5 not_9 = absurd (not_9 refl)
 quiet_by_status ending.Usage before after quiet not_5 not_9 = quiet
 
--- what follows of the value of an Ok
-pub if_ok : {T E : Type 0} {P Q : T → Type 0} (r : Result T E) → IfOk r P → ((v : T) → P v → Q v) → IfOk r Q
-if_ok (Ok v) here leads = leads v here
-if_ok (Err e) here leads = tt
+-- the file of `pass` was read, or it ended the call
+pub pass-read : (name : List ℕ) (told : Told) (faults : Type 0) (documents : List RawDoc) → SaysDocuments told documents
+    → EndsPass name told faults (ending.Passed documents)
+pass-read name told faults documents says = says
 
--- what follows of the value of an Err
-pub if_err : {T E : Type 0} {P Q : E → Type 0} (r : Result T E) → IfErr r P → ((e : E) → P e → Q e) → IfErr r Q
-if_err (Ok v) here leads = tt
-if_err (Err e) here leads = leads e here
-
--- the ending of a file is one of `pass` over it
-pub EndsPass-file : (name bytes : List ℕ) (told : Told) (faults : Type 0) (end : Ending) → IsFile told bytes → EndsFile bytes end → EndsPass name told faults
-    end
-EndsPass-file name bytes told faults (ending.Passed documents) is ends = (bytes, is, ends)
-EndsPass-file name bytes told faults (ending.Refused fault) is ends = (bytes, is, ends)
-EndsPass-file name bytes told faults _ is ends = absurd ends
-
--- a count that stayed is quiet at each ending
-pub IsQuiet-same : (end : Ending) (before after : ℕ) → after ≡ before → IsQuiet end before after
-IsQuiet-same (ending.Unread name why) before after same = tt
-IsQuiet-same ending.OutOfMemory before after same = tt
-IsQuiet-same _ before after same = same
-
--- what a call leaves of the files, by the name: what was told of one before is told of it afterwards
-same_told : (before after : List ℕ → Told) → ((name : List ℕ) → after name ≡ before name) → (P : Told → Type 0) (name : List ℕ) → P (after name) → P
-    (before name)
-same_told before after kept P name here = subst P (kept name) here
-
--- a call that let the count of faults be, and then one that ended the run at a later file
-pub EndsBehindDocuments-later : (before after : List ℕ → Told) (one two : Type 0) (script : List ℕ) (end : Ending) →
-    ((name : List ℕ) → after name ≡ before name) → one ≡ two
-    → EndsBehindDocuments after one script end → EndsBehindDocuments before two script end
-EndsBehindDocuments-later before after one two script end kept same stops =
-    subst (λ (faults : Type 0). StopsAtScript script (before script) faults end) same
-    (same_told before after kept (λ told. StopsAtScript script told one end) script stops)
-
-pub EndsBehindModel-later : (before after : List ℕ → Told) (one two : Type 0) (documents script : List ℕ) (end : Ending) →
-    ((name : List ℕ) → after name ≡ before name) → one ≡ two
-    → EndsBehindModel after one documents script end → EndsBehindModel before two documents script end
-EndsBehindModel-later before after one two documents script end kept same (inl stops) =
-    inl (subst (λ (faults : Type 0). StopsAtDocuments documents (before documents) faults end) same
-    (same_told before after kept (λ told. StopsAtDocuments documents told one end) documents stops))
-EndsBehindModel-later before after one two documents script end kept same (inr (all, says, behind)) =
-    inr (
-      all,
-      same_told before after kept (λ told. SaysDocuments told all) documents says,
-      EndsBehindDocuments-later before after one two script end kept same
-          behind,
-    )
-
--- what a run has, of which a file before was read
-pub behind-documents : (before after : List ℕ → Told) (file : ModelFile) (masters : List RawUnitDoc) (script : List ℕ) (prepared : Prepared)
-    → ((name : List ℕ) → after name ≡ before name) → IsBehindDocuments after file masters script prepared → IsBehindDocuments before file masters script
-    prepared
-behind-documents before after file masters script prepared kept read =
-    (read.0, same_told before after kept (λ told. SaysScript told read.0) script read.1, read.2)
-
-pub behind-model : (before after : List ℕ → Told) (file : ModelFile) (documents script : List ℕ) (prepared : Prepared)
-    → ((name : List ℕ) → after name ≡ before name) → IsBehindModel after file documents script prepared → IsBehindModel before file documents script prepared
-behind-model before after file documents script prepared kept read = (
-  read.0,
-  same_told before after kept (λ told. SaysMasters told read.0) documents read.1,
-  behind-documents before after file read.0 script prepared kept
-      read.2,
-)
+pub pass-ended : (name : List ℕ) (told : Told) (faults : Type 0) (end : Ending) → StopsAtDocuments name told faults end
+    → (end ≡ ending.OutOfMemory) ⊎ EndsPass name told faults end
+pass-ended name told faults (ending.Unread its_name why) stops = inr stops
+pass-ended name told faults (ending.Refused fault) stops = inr stops
+pass-ended name told faults ending.OutOfMemory stops = inl refl
+pass-ended name told faults _ stops = absurd stops
 
 -- what is had of a model with its text, masters and commands
 is-prepared : (file : ModelFile) (documents : List RawDoc) (masters : List RawUnitDoc) (commands : List Command) (prepared : Prepared)
@@ -152,18 +107,20 @@ is-loaded count file masters commands prepared text says names are says_commands
 )
 
 -- what a run has is what its three files say
-pub is-read : (told : List ℕ → Told) (file : ModelFile) (model documents script : List ℕ) (prepared : Prepared) → SaysModel (told model) file
-    → IsBehindModel told file documents script prepared → IsRead told model documents script prepared
-is-read told file model documents script prepared says read = (
+pub is-read : (told : List ℕ → Told) (file : ModelFile) (masters : List RawUnitDoc) (commands : List Command) (prepared : Prepared)
+    (model documents script : List ℕ)
+    → SaysModel (told model) file → SaysMasters (told documents) masters → SaysScript (told script) commands → prepared ≡ prepared_of file masters commands
+    → IsRead told model documents script prepared
+is-read told file masters commands prepared model documents script says_model says_masters says_script is = (
   file.text,
   (
     arc_value file.model,
     (
-      read.1.0,
+      says_masters.0,
       (
-        read.2.0,
-        record { in_file = says.in_file; says_model = says.says; says_documents = read.1.1; says_script = read.2.1 },
-        is-prepared file read.1.0 read.0 read.2.0 prepared says.names_are read.1.2 read.2.2,
+        commands,
+        record { in_file = says_model.in_file; says_model = says_model.says; says_documents = says_masters.1; says_script = says_script },
+        is-prepared file says_masters.0 masters commands prepared says_model.names_are says_masters.2 is,
       ),
     ),
   ),

@@ -6,6 +6,8 @@ pub mod FeedingLemmas
 pub mod OneEnding
 -- the ending of `pass` is one of the run
 pub mod EndingLemmas
+-- what reads leave of the files, and how a run ends at one of them
+pub mod ReadsLemmas
 -- the last line of a run, and the text before it
 pub mod ClosingLemmas
 -- a run from the systems that were opened on

@@ -14,6 +14,8 @@ pub mod Closing
 -- what is printed, and how a run ends
 pub mod PassText
 pub mod Ending
+-- what a call that reads leaves of the files
+pub mod Reads
 -- what the program does for its words
 pub mod EndsSo
 -- the texts of a load

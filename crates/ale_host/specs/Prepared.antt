@@ -11,7 +11,7 @@ use Rattle.script_text.specs.declared.command.Command.{Command}
 use Rattle.unit_core.specs.declared.raw_unit_doc.RawUnitDoc.{RawUnitDoc}
 use Rattle.ale_host.specs.declared.inputs.ModelFile.{ModelFile}
 use Rattle.ale_host.specs.declared.prepared.Prepared.{Prepared}
-use Rattle.ale_host.specs.Inputs.{IsFileWithin, SaysDocuments, SaysScript}
+use Rattle.ale_host.specs.Inputs.{IsFileWithin, SaysDocuments}
 use Rattle.ale_host.specs.declared.ending.Ending.{Ending}
 use Rattle.ale_host.specs.declared.ending.Ending.TheVariants as ending
 use Rattle.ale_host.specs.LoadModel.{load_model}
@@ -49,16 +49,6 @@ prepared_of file masters commands = record {
   inputs = record { model = file.names; masters = masters };
   commands = commands;
 }
-
--- behind the model and the masters, a script was read
-abbrev pub IsBehindDocuments : (List ℕ → Told) → ModelFile → List RawUnitDoc → List ℕ → Prepared → Type 0
-IsBehindDocuments told file masters script prepared =
-    (commands : List Command) × SaysScript (told script) commands × (prepared ≡ prepared_of file masters commands)
-
--- behind the model, documents and a script were read
-abbrev pub IsBehindModel : (List ℕ → Told) → ModelFile → List ℕ → List ℕ → Prepared → Type 0
-IsBehindModel told file documents script prepared =
-    (masters : List RawUnitDoc) × SaysMasters (told documents) masters × IsBehindDocuments told file masters script prepared
 
 -- what a run has is what its files say
 abbrev pub IsRead : (List ℕ → Told) → List ℕ → List ℕ → List ℕ → Prepared → Type 0

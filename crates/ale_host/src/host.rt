@@ -1,33 +1,30 @@
 //! The top call. Nothing else reads a file or puts a text.
 
-ghost use Rattle.std.specs.Prelude.{◌≡◌, ◌≢◌, ℕ, List, ◌≤◌, map, string_bytes, IfErr, IfOk, OnOk};
+ghost use Rattle.std.specs.Prelude.{◌≡◌, ◌≢◌, ◌⊎◌, ℕ, List, ◌≤◌, map, string_bytes, IfErr, IfOk};
+ghost use Rattle.std.specs.Result.{result_err};
 ghost use Rattle.std.specs.Io.KnownBytes.{Appends};
 ghost use Rattle.ale_base.specs.Faults.{Rose};
 ghost use Rattle.ale_io.specs.Written.{AppendsFront};
-ghost use Rattle.idoc_file.specs.Reading.{Stands};
 ghost use Rattle.runs.specs.Put.{IsPart, IsPut};
 ghost use Rattle.ale_host.specs.declared.ending.Ending.{Ending};
-ghost use Rattle.ale_host.specs.Inputs.{EndsBehindDocuments, EndsBehindModel, EndsRun};
-ghost use Rattle.ale_host.specs.Ending.{Ends, EndsPass, EndsFile, IsPrintable, IsQuiet, status_of, text_of};
+ghost use Rattle.ale_host.specs.Inputs.{EndsRun};
+ghost use Rattle.ale_host.specs.Ending.{Ends, EndsPass, EndsFile, IsPrintable, status_of, text_of};
 ghost use Rattle.ale_host.specs.EndsSo.{EndsSo, IsFront};
-ghost use Rattle.ale_host.specs.Prepared.{EndsAs, IsAsked, IsBehindDocuments, IsBehindModel, IsRead};
+ghost use Rattle.ale_host.specs.Prepared.{EndsAs, IsAsked, IsRead};
+ghost use Rattle.ale_host.specs.Reads.{ReadsOnly};
 
-use crate::document_file::read_document_file;
-use crate::ending::{Ending, NotRead, OUT_OF_MEMORY};
-use crate::inputs::{ModelFile, read_masters, read_model, read_script, refused};
+use crate::ending::{Ending, OUT_OF_MEMORY};
+use crate::inputs::{read_documents, read_masters, read_model, read_script};
 use crate::loading::read_load;
 use crate::prepared::{Prepared, prepared_from};
 use crate::running::{Report, run};
 use crate::words::{Form, form_of, workers_of};
-use ale_base::{Items, OutOfMemory};
-use ale_io::{Clock, FileEnd, Files, Gate, Sink};
+use ale_io::{Clock, Files, Gate, Sink};
 use ale_volumes::Volumes;
-use idoc_file::Reader;
 use runs::Crew;
 use std::alloc::Global;
 use std::sync::Wait;
 use std::thread::Threads;
-use unit_core::RawUnitDoc;
 
 /// The status where the sink did not take all of the text.
 pub(crate) const WRITE_FAULT: u8 = 6;
@@ -159,11 +156,7 @@ struct Order {
 fn asked<F: Files>(alloc: Global, words: &[String], files: &mut F) -> Result<Order, Ending>
     ensures ends { IfErr result (Ends (map string_bytes words.now) (F.told files.old) (Rose (F.faults files.old) (F.faults files.new))) }
     ensures runs { IfOk result (IsAsked (map string_bytes words.now) (F.told files.old)) }
-    ensures printable { IfErr result IsPrintable }
-    ensures kept { (name : List ℕ) → F.told files.new name ≡ F.told files.old name }
-    ensures counted { F.faults files.old ≤ F.faults files.new }
-    ensures still { OnOk result (F.faults files.new ≡ F.faults files.old) }
-    ensures quiet { IfErr result (λ ending. IsQuiet ending (F.faults files.old) (F.faults files.new)) }
+    ensures only { ReadsOnly (F.told files.old) (F.told files.new) (F.faults files.old) (F.faults files.new) (result_err result) }
 {
     match form_of(words) {
         None => Err(Ending::Usage),
@@ -184,10 +177,7 @@ fn asked<F: Files>(alloc: Global, words: &[String], files: &mut F) -> Result<Ord
             }),
             Err(ending) => Err(ending),
         },
-        Some(Form::Pass) => match pass(alloc, words[1].as_str(), files) {
-            Ok(ending) => Err(ending),
-            Err(OutOfMemory) => Err(Ending::OutOfMemory),
-        },
+        Some(Form::Pass) => Err(pass(alloc, words[1].as_str(), files)),
     }
 }
 
@@ -201,94 +191,22 @@ fn read_run<F: Files>(
 ) -> Result<Prepared, Ending>
     ensures ends { IfErr result (EndsRun (F.told files.old) (Rose (F.faults files.old) (F.faults files.new)) model.now documents.now script.now) }
     ensures says { IfOk result (IsRead (F.told files.old) model.now documents.now script.now) }
-    ensures printable { IfErr result IsPrintable }
-    ensures kept { (name : List ℕ) → F.told files.new name ≡ F.told files.old name }
-    ensures counted { F.faults files.old ≤ F.faults files.new }
-    ensures still { OnOk result (F.faults files.new ≡ F.faults files.old) }
-    ensures quiet { IfErr result (λ ending. IsQuiet ending (F.faults files.old) (F.faults files.new)) }
+    ensures only { ReadsOnly (F.told files.old) (F.told files.new) (F.faults files.old) (F.faults files.new) (result_err result) }
 {
-    match read_model(alloc, model, files) {
-        Ok(said) => read_behind_model(alloc, said, documents, script, files),
-        Err(ending) => Err(ending),
-    }
-}
-
-/// What `run` has where the model was read; or how it ends at the documents or the script.
-fn read_behind_model<F: Files>(
-    alloc: Global,
-    said: ModelFile,
-    documents: &str,
-    script: &str,
-    files: &mut F,
-) -> Result<Prepared, Ending>
-    ensures ends { IfErr result (EndsBehindModel (F.told files.old) (Rose (F.faults files.old) (F.faults files.new)) documents.now script.now) }
-    ensures says { IfOk result (IsBehindModel (F.told files.old) said documents.now script.now) }
-    ensures printable { IfErr result IsPrintable }
-    ensures kept { (name : List ℕ) → F.told files.new name ≡ F.told files.old name }
-    ensures counted { F.faults files.old ≤ F.faults files.new }
-    ensures still { OnOk result (F.faults files.new ≡ F.faults files.old) }
-    ensures quiet { IfErr result (λ ending. IsQuiet ending (F.faults files.old) (F.faults files.new)) }
-{
-    match read_masters(alloc, documents, files) {
-        Ok(masters) => read_behind_documents(alloc, said, masters, script, files),
-        Err(ending) => Err(ending),
-    }
-}
-
-/// What `run` has where the model and the documents were read; or how it ends at the script.
-fn read_behind_documents<F: Files>(
-    alloc: Global,
-    said: ModelFile,
-    masters: Items<RawUnitDoc>,
-    script: &str,
-    files: &mut F,
-) -> Result<Prepared, Ending>
-    ensures ends { IfErr result (EndsBehindDocuments (F.told files.old) (Rose (F.faults files.old) (F.faults files.new)) script.now) }
-    ensures says { IfOk result (IsBehindDocuments (F.told files.old) said masters script.now) }
-    ensures printable { IfErr result IsPrintable }
-    ensures kept { (name : List ℕ) → F.told files.new name ≡ F.told files.old name }
-    ensures counted { F.faults files.old ≤ F.faults files.new }
-    ensures still { OnOk result (F.faults files.new ≡ F.faults files.old) }
-    ensures quiet { IfErr result (λ ending. IsQuiet ending (F.faults files.old) (F.faults files.new)) }
-{
-    match read_script(alloc, script, files) {
-        Ok(commands) => Ok(prepared_from(said, masters, commands)),
-        Err(ending) => Err(ending),
-    }
+    let said = read_model(alloc, model, files)?;
+    let masters = read_masters(alloc, documents, files)?;
+    let commands = read_script(alloc, script, files)?;
+    Ok(prepared_from(said, masters, commands))
 }
 
 /// How `pass` over the file of this name ends.
-fn pass<F: Files>(alloc: Global, name: &str, files: &mut F) -> Result<Ending, OutOfMemory>
-    ensures ends { IfOk result (EndsPass name.now (F.told files.old name.now) (Rose (F.faults files.old) (F.faults files.new))) }
-    ensures printable { IfOk result IsPrintable }
-    ensures kept { (other : List ℕ) → F.told files.new other ≡ F.told files.old other }
-    ensures counted { F.faults files.old ≤ F.faults files.new }
-    ensures quiet { IfOk result (λ ending. IsQuiet ending (F.faults files.old) (F.faults files.new)) }
+fn pass<F: Files>(alloc: Global, name: &str, files: &mut F) -> Ending
+    ensures ends { (result ≡ Ending.OutOfMemory)
+        ⊎ EndsPass name.now (F.told files.old name.now) (Rose (F.faults files.old) (F.faults files.new)) result }
+    ensures only { ReadsOnly (F.told files.old) (F.told files.new) (F.faults files.old) (F.faults files.new) (Some result) }
 {
-    match read_document_file(alloc, name, files) {
-        Ok(reader) => file_ending(reader),
-        Err(FileEnd::Missing) => unread_ending(alloc, name, NotRead::Missing),
-        Err(FileEnd::TooLong) => unread_ending(alloc, name, NotRead::TooLong),
-        Err(FileEnd::Failed) => unread_ending(alloc, name, NotRead::Failed),
-        Err(FileEnd::OutOfMemory) => Err(OutOfMemory),
+    match read_documents(alloc, name, files) {
+        Ok(documents) => Ending::Passed(documents),
+        Err(ending) => ending,
     }
-}
-
-/// How `pass` over a file that was fed to this reader ends.
-fn file_ending(reader: Reader) -> Result<Ending, OutOfMemory>
-    ensures ends { IfOk result (λ ending. (bytes : List ℕ) → Stands reader bytes → EndsFile bytes ending) }
-    ensures printable { IfOk result (λ ending. (bytes : List ℕ) → Stands reader bytes → IsPrintable ending) }
-{
-    match reader.end() {
-        Ok(documents) => Ok(Ending::Passed(documents)),
-        Err(fault) => refused(fault),
-    }
-}
-
-/// The ending where the file of this name is not read.
-fn unread_ending(alloc: Global, name: &str, why: NotRead) -> Result<Ending, OutOfMemory>
-    ensures { IfOk result (λ ending. ending ≡ Ending.Unread name.now why) }
-{
-    let name = Vec::from_slice(alloc, name.as_bytes())?;
-    Ok(Ending::Unread(Items::from_vec(name), why))
 }

@@ -1,11 +1,12 @@
 //! What `run` reads: a model, documents and a script, each from a file of its own.
 
-ghost use Rattle.std.specs.Prelude.{◌≡◌, ◌≢◌, ℕ, ◌<◌, ◌≤◌, List, length, IsOk, OnOk, IfOk, IfErr};
+ghost use Rattle.std.specs.Prelude.{◌≡◌, ◌≢◌, OnOk, IfOk, IfErr};
 ghost use Rattle.std.specs.Arc.{arc_value};
+ghost use Rattle.std.specs.Result.{result_err};
 ghost use Rattle.ale_base.specs.Faults.{Rose};
 ghost use Rattle.idoc_file.specs.declared.file_fault.FileFault.{FileFault};
 ghost use Rattle.ale_host.specs.declared.ending.Ending.{Ending};
-ghost use Rattle.ale_host.specs.Ending.{IsPrintable, IsQuiet};
+ghost use Rattle.ale_host.specs.Reads.{ReadsOnly};
 ghost use Rattle.ale_host.specs.Prepared.{SaysMasters, SaysModel};
 ghost use Rattle.ale_host.specs.Inputs.{IsFileWithin, IsUnreadBecause, IsUnreadEnd, IsUnreadSo, SaysDocuments, SaysScript, StopsAtDocuments, StopsAtModel, StopsAtScript};
 
@@ -60,11 +61,7 @@ pub(crate) fn read_model<F: Files>(
 ) -> Result<ModelFile, Ending>
     ensures says { IfOk result (SaysModel (F.told files.old name.now)) }
     ensures stops { IfErr result (StopsAtModel name.now (F.told files.old name.now) (Rose (F.faults files.old) (F.faults files.new))) }
-    ensures printable { IfErr result IsPrintable }
-    ensures kept { (other : List ℕ) → F.told files.new other ≡ F.told files.old other }
-    ensures counted { F.faults files.old ≤ F.faults files.new }
-    ensures still { OnOk result (F.faults files.new ≡ F.faults files.old) }
-    ensures quiet { IfErr result (λ end. IsQuiet end (F.faults files.old) (F.faults files.new)) }
+    ensures only { ReadsOnly (F.told files.old) (F.told files.new) (F.faults files.old) (F.faults files.new) (result_err result) }
 {
     let bytes = read_whole(alloc, name, model_text::MAX_BYTES, files)?;
     match model_text::read(alloc, bytes.as_slice()) {
@@ -89,11 +86,7 @@ pub(crate) fn read_masters<F: Files>(
 ) -> Result<Items<RawUnitDoc>, Ending>
     ensures says { IfOk result (SaysMasters (F.told files.old name.now)) }
     ensures stops { IfErr result (StopsAtDocuments name.now (F.told files.old name.now) (Rose (F.faults files.old) (F.faults files.new))) }
-    ensures printable { IfErr result IsPrintable }
-    ensures kept { (other : List ℕ) → F.told files.new other ≡ F.told files.old other }
-    ensures counted { F.faults files.old ≤ F.faults files.new }
-    ensures still { OnOk result (F.faults files.new ≡ F.faults files.old) }
-    ensures quiet { IfErr result (λ end. IsQuiet end (F.faults files.old) (F.faults files.new)) }
+    ensures only { ReadsOnly (F.told files.old) (F.told files.new) (F.faults files.old) (F.faults files.new) (result_err result) }
 {
     match read_documents(alloc, name, files) {
         Ok(documents) => match masters_of(alloc, documents) {
@@ -105,18 +98,14 @@ pub(crate) fn read_masters<F: Files>(
 }
 
 /// The documents that the file of this name says, or the ending of the run at this file.
-fn read_documents<F: Files>(
+pub(crate) fn read_documents<F: Files>(
     alloc: Global,
     name: &str,
     files: &mut F,
 ) -> Result<Items<RawDoc>, Ending>
     ensures says { IfOk result (SaysDocuments (F.told files.old name.now)) }
     ensures stops { IfErr result (StopsAtDocuments name.now (F.told files.old name.now) (Rose (F.faults files.old) (F.faults files.new))) }
-    ensures printable { IfErr result IsPrintable }
-    ensures kept { (other : List ℕ) → F.told files.new other ≡ F.told files.old other }
-    ensures counted { F.faults files.old ≤ F.faults files.new }
-    ensures still { OnOk result (F.faults files.new ≡ F.faults files.old) }
-    ensures quiet { IfErr result (λ end. IsQuiet end (F.faults files.old) (F.faults files.new)) }
+    ensures only { ReadsOnly (F.told files.old) (F.told files.new) (F.faults files.old) (F.faults files.new) (result_err result) }
 {
     match read_document_file(alloc, name, files) {
         Err(end) => Err(unread(alloc, name, end)),
@@ -149,11 +138,7 @@ pub(crate) fn read_script<F: Files>(
 ) -> Result<Items<Command>, Ending>
     ensures says { IfOk result (SaysScript (F.told files.old name.now)) }
     ensures stops { IfErr result (StopsAtScript name.now (F.told files.old name.now) (Rose (F.faults files.old) (F.faults files.new))) }
-    ensures printable { IfErr result IsPrintable }
-    ensures kept { (other : List ℕ) → F.told files.new other ≡ F.told files.old other }
-    ensures counted { F.faults files.old ≤ F.faults files.new }
-    ensures still { OnOk result (F.faults files.new ≡ F.faults files.old) }
-    ensures quiet { IfErr result (λ end. IsQuiet end (F.faults files.old) (F.faults files.new)) }
+    ensures only { ReadsOnly (F.told files.old) (F.told files.new) (F.faults files.old) (F.faults files.new) (result_err result) }
 {
     let bytes = read_whole(alloc, name, script_text::MAX_BYTES, files)?;
     match script_text::read(alloc, bytes.as_slice()) {
@@ -172,9 +157,7 @@ fn read_whole<F: Files>(
 ) -> Result<Vec<u8>, Ending>
     ensures says { IfOk result (λ bytes. IsFileWithin most (F.told files.old name.now) bytes.items) }
     ensures stops { IfErr result (IsUnreadEnd most name.now (F.told files.old name.now) (Rose (F.faults files.old) (F.faults files.new))) }
-    ensures kept { (other : List ℕ) → F.told files.new other ≡ F.told files.old other }
-    ensures counted { F.faults files.old ≤ F.faults files.new }
-    ensures still { OnOk result (F.faults files.new ≡ F.faults files.old) }
+    ensures only { ReadsOnly (F.told files.old) (F.told files.new) (F.faults files.old) (F.faults files.new) (result_err result) }
 {
     let mut bytes = Vec::new(alloc);
     match files.read_file(name, most, &mut bytes) {

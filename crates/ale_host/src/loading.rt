@@ -10,7 +10,6 @@ ghost use Rattle.model_text.specs.Text.{answer_to};
 ghost use Rattle.script_text.specs.Script.{script_of};
 ghost use Rattle.ale_host.specs.LoadModel.{load_model};
 ghost use Rattle.ale_host.specs.Load.{documents, script};
-ghost use Rattle.ale_host.specs.Ending.{IsPrintable};
 ghost use Rattle.ale_host.specs.Loading.{EndsLoad, load_line};
 ghost use Rattle.ale_host.specs.Prepared.{AreMasters, IsLoaded};
 
@@ -36,7 +35,6 @@ pub(crate) fn read_load(alloc: Global, masters: u32) -> Result<Prepared, Ending>
     requires { masters ≤ MAX_MASTERS }
     ensures says { IfOk result (IsLoaded masters) }
     ensures ends { IfErr result (EndsLoad masters) }
-    ensures printable { IfErr result IsPrintable }
 {
     match said_model(alloc) {
         Ok(said) => read_behind_model(alloc, masters, said),
@@ -52,7 +50,6 @@ fn read_behind_model(alloc: Global, masters: u32, said: ModelFile) -> Result<Pre
     requires names { arc_value said.names ≡ arc_value said.model }
     ensures says { IfOk result (IsLoaded masters) }
     ensures ends { IfErr result (EndsLoad masters) }
-    ensures printable { IfErr result IsPrintable }
 {
     match said_masters(alloc, masters) {
         Ok(all) => match said_commands(alloc, masters) {
@@ -69,7 +66,6 @@ fn said_model(alloc: Global) -> Result<ModelFile, Ending>
     ensures says { IfOk result (λ file. answer_to load_model ≡ Ok (arc_value file.model)) }
     ensures names { IfOk result (λ file. arc_value file.names ≡ arc_value file.model) }
     ensures ends { (masters : ℕ) → IfErr result (EndsLoad masters) }
-    ensures printable { IfErr result IsPrintable }
 {
     match model_text::read(alloc, load_model()) {
         Ok(model) => match with_text(alloc, model) {
@@ -97,7 +93,6 @@ fn said_masters(alloc: Global, masters: u32) -> Result<Items<RawUnitDoc>, Ending
     requires { masters ≤ MAX_MASTERS }
     ensures says { IfOk result (AreMasters (lines_of (documents masters))) }
     ensures ends { IfErr result (EndsLoad masters) }
-    ensures printable { IfErr result IsPrintable }
 {
     match said_documents(alloc, masters) {
         Ok(documents) => match masters_of(alloc, documents) {
@@ -113,7 +108,6 @@ fn said_documents(alloc: Global, masters: u32) -> Result<Items<RawDoc>, Ending>
     requires { masters ≤ MAX_MASTERS }
     ensures says { IfOk result (AreDocuments (lines_of (documents masters))) }
     ensures ends { IfErr result (EndsLoad masters) }
-    ensures printable { IfErr result IsPrintable }
 {
     match fed(alloc, masters) {
         Ok(reader) => match reader.end() {
@@ -142,7 +136,6 @@ fn fed(alloc: Global, masters: u32) -> Result<Reader, OutOfMemory>
 fn said_commands(alloc: Global, masters: u32) -> Result<Items<Command>, Ending>
     ensures says { IfOk result (λ commands. script_of (script masters) ≡ Ok commands) }
     ensures ends { IfErr result (EndsLoad masters) }
-    ensures printable { IfErr result IsPrintable }
 {
     match load_script(alloc, masters) {
         Ok(text) => match script_text::read(alloc, text.as_slice()) {

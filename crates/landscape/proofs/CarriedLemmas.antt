@@ -1,7 +1,7 @@
 -- What a command asks for may be appended, and is carried out as it asks.
 use Rattle.std.specs.Prelude.{if◌then◌else◌, map, Result, Ok, Err}
 use Rattle.std.specs.Option.{option_map_or}
-use Rattle.std.proofs.Common.{◌≡◌, inl, inr, ℕ, ◌==◌, ◌&&◌, Bool, true, false, Option, Some, None, List, [], ◌∷◌, ◌++◌, length, refl, sym, ap, subst, ◌∙◌}
+use Rattle.std.proofs.Common.{◌≡◌, ◌⊎◌, inl, inr, ℕ, ◌==◌, ◌&&◌, Bool, true, false, Option, Some, None, List, [], ◌∷◌, ◌++◌, length, refl, sym, ap, subst, ◌∙◌}
 use Rattle.std.proofs.lemmas.Bool.{and_from, eq-eqb}
 use Rattle.ale_volumes.specs.Disk.{Disk}
 use Rattle.dist_model.specs.declared.lists.Lists.{Lists}
@@ -24,23 +24,28 @@ use Rattle.unit_landscape.specs.declared.append_end.AppendEnd.{AppendEnd}
 use Rattle.unit_landscape.specs.declared.append_end.AppendEnd.TheVariants as end
 use Rattle.unit_landscape.specs.KeptWorlds.{KeptOf}
 use Rattle.unit_landscape.specs.Appending.{at}
-use Rattle.unit_landscape.specs.Ends.{AppendsAs, Stays}
+use Rattle.unit_landscape.specs.Ends.{AppendsAs}
+use Rattle.unit_landscape.specs.LogAnswers.{KeepsVolumes}
+use Rattle.unit_landscape.specs.Writes.{WritesOnly}
 use Rattle.unit_landscape.specs.Kept.{IsLandscape}
 use Rattle.unit_landscape.proofs.OperatingLemmas.{up-others}
 use Rattle.document_state.specs.declared.document_tables.DocumentTables.{DocumentTables}
+use Rattle.document_state.specs.declared.made.Made.{Made}
 use Rattle.document_state.specs.declared.made.Made.TheVariants as made
 use Rattle.document_state.specs.Made.{GoesWith}
 use Rattle.document_state.specs.OfLog.{added_behind}
 use Rattle.document_state.specs.declared.model_rules.ModelRules.{ModelRules}
 use Rattle.document_state.specs.Allowed.{allowed, allowed_under}
 use Rattle.document_state.specs.LawfulLemmas.{committed-push}
-use Rattle.landscape.specs.declared.wanted.Wanted.{Wanted}
+use Rattle.landscape.specs.declared.wanted.Changes.{Changes}
+use Rattle.landscape.specs.declared.wanted.Commits.{Commits}
 use Rattle.landscape.specs.Asked.{Asked}
-use Rattle.landscape.specs.steps.Judged.{IsWanted, JudgedAs, JudgedOrNone}
+use Rattle.landscape.specs.steps.Judged.{IsOrNone, IsWanted, JudgedAs, JudgedChanges, JudgedCommits, JudgedCommitsOrNone, WantsChanges, WantsCommits}
+use Rattle.landscape.specs.steps.Judged.{is_applications}
 use Rattle.landscape.specs.declared.counts.Gathered.{Gathered}
-use Rattle.landscape.specs.Carried.{CarriedAs, DiskAsked, asked_at, counts_asked}
+use Rattle.landscape.specs.Carried.{CarriedAs, DiskAsked, asked_at, counts_asked, counts_of}
 use Rattle.landscape.specs.Standing.{StandAt}
-use Rattle.landscape.specs.steps.Ready.{CountsAs, DiskJudged, DoneAs, EndedAs, IsAsked, IsJudged, ReadyAs, ended_of}
+use Rattle.landscape.specs.steps.Ready.{AsksChanges, AsksCommits, EndedAs, FailedAs, IsAsked, ReadyChanges, ReadyCommits, ReadyCommitsOrNone, ended_of}
 use Rattle.landscape.proofs.BegunLemmas.{meaning, is_lawful}
 
 -- ---- what is asked for is ready
@@ -62,48 +67,59 @@ module _ (world : World ModelRules) (system : ℕ) where
   pub asked-down : (asked : List Record → Asked) → is_up world system ≡ false → asked_at world system asked ≡ Err refusal.N2
   asked-down asked down = ap (λ b. if b then asked (log_of world system) else Err refusal.N2) down
 
-  module _ (kind : Record → Bool) (asked : List Record → Asked) (tables : DocumentTables) (stand : StandAt world system tables)
+  -- one that is down refuses
+  pub judged-down : {W : Type 0} (wants : W → Type 0) (asked : List Record → Asked) (why : Refusal) → (why ≡ refusal.N2) × (is_up world system ≡ false)
+      → JudgedAs wants (asked_at world system asked) (Err why)
+  judged-down wants asked why down =
+      subst (λ (r : Refusal). JudgedAs wants (asked_at world system asked) (Err r)) (sym down.0) (asked-down asked down.1)
+
+  module _ (asked : List Record → Asked) (tables : DocumentTables) (stand : StandAt world system tables)
       (may : (next : Record) → asked (log_of world system) ≡ Ok (Some next) → allowed_under (log_of world system) stand.model next ≡ true) where
-    is-asked : (wanted : Wanted) → IsWanted (log_of world system) kind (asked (log_of world system)) wanted → IsAsked world system kind
-        (asked_at world system asked) wanted
-    is-asked wanted is = record {
+    is-asked : (kind : Record → Bool) (next : Record) (made : Made) → IsWanted (log_of world system) (asked (log_of world system)) kind next made
+        → IsAsked world system (asked_at world system asked) kind next made
+    is-asked kind next made is = record {
       record_asked = asked-up asked stand.up ∙ is.record_asked;
       ready = record {
         up = stand.up;
         its_kind = is.its_kind;
-        may = allowed-by tables stand wanted.next (may wanted.next is.record_asked);
+        may = allowed-by tables stand next (may next is.record_asked);
         goes = is.goes;
         writable = is.writable;
       };
     }
 
-    -- what was judged by the tables of a system that is up is ready
-    pub ready-by : (judged : Result (Option Wanted) Refusal) → JudgedOrNone (log_of world system) kind (asked (log_of world system)) judged
-        → ReadyAs world system kind (asked_at world system asked) judged
-    ready-by (Ok None) is = asked-up asked stand.up ∙ is
-    ready-by (Ok (Some wanted)) is = is-asked wanted is
-    ready-by (Err refusal.OutOfMemory) is = tt
-    ready-by (Err refusal.Volume) is = is
-    ready-by (Err (refusal.N10 size)) is = is
-    ready-by (Err why) is = asked-up asked stand.up ∙ is
+    -- what was judged by the tables of a system that is up is judged so at the system
+    lifted : {W : Type 0} (wants asks : W → Type 0) → ((wanted : W) → wants wanted → asks wanted) → (judged : Result W Refusal)
+        → JudgedAs wants (asked (log_of world system)) judged → JudgedAs asks (asked_at world system asked) judged
+    lifted wants asks each (Ok wanted) is = each wanted is
+    lifted wants asks each (Err refusal.OutOfMemory) is = tt
+    lifted wants asks each (Err refusal.Volume) is = is
+    lifted wants asks each (Err (refusal.N10 size)) is = is
+    lifted wants asks each (Err why) is = asked-up asked stand.up ∙ is
 
-    pub ready-ok : (wanted : Wanted) → JudgedAs (log_of world system) kind (asked (log_of world system)) (Ok wanted)
-        → ReadyAs world system kind (asked_at world system asked) (Ok (Some wanted))
-    ready-ok wanted is = is-asked wanted is
+    -- and is ready
+    pub commits-ready : (judged : Result Commits Refusal) → JudgedCommits (log_of world system) (asked (log_of world system)) judged
+        → ReadyCommits world system (asked_at world system asked) judged
+    commits-ready judged is =
+        lifted (WantsCommits (log_of world system) (asked (log_of world system))) (AsksCommits world system (asked_at world system asked))
+        (λ wanted wants. is-asked is_commit wanted.next (made.Sent wanted.added) wants) judged is
 
-    pub ready-err : (why : Refusal) → JudgedAs (log_of world system) kind (asked (log_of world system)) (Err why)
-        → ReadyAs world system kind (asked_at world system asked) (Err why)
-    ready-err refusal.OutOfMemory is = tt
-    ready-err refusal.Volume is = is
-    ready-err (refusal.N10 size) is = is
-    ready-err why is = asked-up asked stand.up ∙ is
+    pub commits_or_none-ready : (judged : Result (Option Commits) Refusal) → JudgedCommitsOrNone (log_of world system) (asked (log_of world system)) judged
+        → ReadyCommitsOrNone world system (asked_at world system asked) judged
+    commits_or_none-ready judged is =
+        lifted (IsOrNone (WantsCommits (log_of world system) (asked (log_of world system))) (asked (log_of world system)))
+        (IsOrNone (AsksCommits world system (asked_at world system asked)) (asked_at world system asked)) each judged is
+      where
+        each : (wanted : Option Commits) → IsOrNone (WantsCommits (log_of world system) (asked (log_of world system))) (asked (log_of world system)) wanted
+            → IsOrNone (AsksCommits world system (asked_at world system asked)) (asked_at world system asked) wanted
+        each None none = asked-up asked stand.up ∙ none
+        each (Some wanted) wants = is-asked is_commit wanted.next (made.Sent wanted.added) wants
 
-  -- what is ready is judged so
-  pub judged-ready : (kind : Record → Bool) (asked : Asked) (judged : Result (Option Wanted) Refusal) → ReadyAs world system kind asked judged
-      → IsJudged world system kind judged
-  judged-ready kind asked (Ok None) is = tt
-  judged-ready kind asked (Ok (Some wanted)) is = is.ready
-  judged-ready kind asked (Err why) is = tt
+    pub changes-ready : (judged : Result Changes Refusal) → JudgedChanges (log_of world system) (asked (log_of world system)) judged
+        → ReadyChanges world system (asked_at world system asked) judged
+    changes-ready judged is =
+        lifted (WantsChanges (log_of world system) (asked (log_of world system))) (AsksChanges world system (asked_at world system asked))
+        (λ wanted wants. is-asked is_applications wanted.next made.Nothing wants) judged is
 
 -- ---- a record that is ready may be committed
 
@@ -127,7 +143,7 @@ module _ (world : World ModelRules) (is : IsLandscape meaning world) (system : �
       ∙ ap (λ b. record_if b system next) (follows kind up may)
 
 -- what goes with a record that commits documents is what it adds
-goes-added : (records : List Record) (next : Record) (added : Added) → is_commit next ≡ true → GoesWith records next (made.Sent added) → added ≡ added_behind
+pub goes-added : (records : List Record) (next : Record) (added : Added) → is_commit next ≡ true → GoesWith records next (made.Sent added) → added ≡ added_behind
     records next
 goes-added records (log.Commit origin docs) added kind goes = goes
 goes-added records log.Dispatch added kind goes = goes
@@ -156,67 +172,34 @@ module _ {V : Type 0} (disk : Disk V) (before after : KeptOf ModelRules Document
   ended-as next (Err end.Before) did = inl did
   ended-as next (Err end.After) did = inr did
 
-  asked-ended : {T : Type 0} (P : T → Type 0) (asked : Asked) (next : Record) → asked ≡ Ok (Some next) → (result : Result T Refusal)
-      → EndedAs disk before after system event next result → ((x : T) → result ≡ Ok x → P x) → CarriedAs disk before after system event asked P result
-  asked-ended P asked next is (Ok x) did answers = (answers x refl, inr (next, is, did))
-  asked-ended P asked next is (Err refusal.Volume) did answers = (next, is, did)
-  asked-ended P asked next is (Err (refusal.N10 size)) did answers = (next, is, did)
-  asked-ended P asked next is (Err refusal.OutOfMemory) did answers = elim did [
+  -- a record that is asked for was not appended: so the command ends
+  pub asked-failed : {T : Type 0} (P : T → Type 0) (asked : Asked) (next : Record) → asked ≡ Ok (Some next) → (why : Refusal)
+      → FailedAs disk before after system event next why → CarriedAs disk before after system event asked P (Err why)
+  asked-failed P asked next is refusal.Volume did = (next, is, did)
+  asked-failed P asked next is (refusal.N10 size) did = (next, is, did)
+  asked-failed P asked next is refusal.OutOfMemory did = elim did [
     | inl stays ↦ inl stays
     | inr behind ↦ inr (next, is, behind)
   ]
-  asked-ended P asked next is (Err _) did answers = absurd did
+  asked-failed P asked next is _ did = absurd did
 
-  -- a command that was judged to be refused, or to want memory, changed nothing
-  refused : {T : Type 0} (P : T → Type 0) (kind : Record → Bool) (asked : Asked) (why : Refusal) → ReadyAs before.world system kind asked (Err why) → after
-      ≡ before
-      → CarriedAs disk before after system event asked P (Err why)
-  refused P kind asked refusal.OutOfMemory is same = inl
-      (subst (λ (k : KeptOf ModelRules DocumentTables V). Stays (meaning before.world.rules) disk before k) (sym same)
-      (record { world = refl; tables = refl; journals = refl; no_faults = λ place. refl; causes = refl }))
-  refused P kind asked refusal.Volume is same = absurd is
-  refused P kind asked (refusal.N10 size) is same = absurd is
-  refused P kind asked why is same = (is, same)
+-- a command that was judged to be refused, or to want memory, changed nothing
+pub refused : {V W T : Type 0} (disk : Disk V) (before : KeptOf ModelRules DocumentTables V) (system : ℕ) (event : Record → Event) (P : T → Type 0)
+    (wants : W → Type 0) (asked : Asked) (why : Refusal)
+    → JudgedAs wants asked (Err why) → CarriedAs disk before before system event asked P (Err why)
+refused disk before system event P wants asked refusal.OutOfMemory is =
+    inl (record { world = refl; tables = refl; journals = refl; no_faults = λ place. refl; causes = refl })
+refused disk before system event P wants asked refusal.Volume is = absurd is
+refused disk before system event P wants asked (refusal.N10 size) is = absurd is
+refused disk before system event P wants asked why is = (is, refl)
 
-  -- a command is carried out as it asks
-  pub carried : {T : Type 0} (P : T → Type 0) (kind : Record → Bool) (asked : Asked) (judged : Result (Option Wanted) Refusal) (result : Result T Refusal)
-      → ReadyAs before.world system kind asked judged → DoneAs disk before after system event judged result
-      → ((x : T) → result ≡ Ok x → P x) → CarriedAs disk before after system event asked P result
-  carried P kind asked (Ok (Some wanted)) result is did answers = asked-ended P asked wanted.next is.record_asked result did answers
-  carried P kind asked (Ok None) (Ok x) is did answers = (answers x refl, inl (is, did))
-  carried P kind asked (Ok None) (Err why) is did answers = absurd did
-  carried P kind asked (Err why) result is did answers =
-      subst (CarriedAs disk before after system event asked P) (sym did.0) (refused P kind asked why is did.1)
-
-  -- how many were made
-  pub counted : (kind : Record → Bool) (asked : Asked) (judged : Result (Option Wanted) Refusal) (result : Result Gathered Refusal) (counts : Gathered)
-      → ReadyAs before.world system kind asked judged → DoneAs disk before after system event judged result → result ≡ Ok counts
-      → CountsAs (log_of before.world system) judged counts → counts ≡ counts_asked (log_of before.world system) asked
-  counted kind asked (Ok (Some wanted)) result counts is did ok are = are ∙ sym (ap (counts_asked (log_of before.world system)) is.record_asked)
-  counted kind asked (Ok None) result counts is did ok are = are ∙ sym (ap (counts_asked (log_of before.world system)) is)
-  counted kind asked (Err why) result counts is did ok are = absurd (let other = sym did.0 ∙ ok in cc)
-
-  -- what is answered of what was made
-  pub carried-map : {T U : Type 0} (f : T → U) (P : T → Type 0) (Q : U → Type 0) (asked : Asked) (result : Result T Refusal) (mapped : Result U Refusal)
-      → ((x : T) → P x → Q (f x)) → ((x : T) → result ≡ Ok x → mapped ≡ Ok (f x)) → ((why : Refusal) → result ≡ Err why → mapped ≡ Err why)
-      → CarriedAs disk before after system event asked P result → CarriedAs disk before after system event asked Q mapped
-  carried-map f P Q asked (Ok x) mapped all ok err is = subst (CarriedAs disk before after system event asked Q) (sym (ok x refl)) (all x is.0, is.1)
-  carried-map f P Q asked (Err why) mapped all ok err is = subst (CarriedAs disk before after system event asked Q) (sym (err why refl)) (of why is)
-    where
-      of : (why : Refusal) → CarriedAs disk before after system event asked P (Err why) → CarriedAs disk before after system event asked Q (Err why)
-      of refusal.Volume is = is
-      of (refusal.N10 size) is = is
-      of refusal.OutOfMemory is = is
-      of _ is = is
+-- how many were made
+pub counted : (records : List Record) (asked : Asked) (next : Record) (counts : Gathered) → asked ≡ Ok (Some next) → counts ≡ counts_of records next
+    → counts ≡ counts_asked records asked
+counted records asked next counts is are = are ∙ sym (ap (counts_asked records) is)
 
 -- which volume is called
-pub disk-asked : {V : Type 0} (disk : Disk V)
-    (before after : KeptOf ModelRules DocumentTables V) (system : ℕ) (kind : Record → Bool) (asked : Asked) (judged : Result (Option Wanted) Refusal)
-    → ReadyAs before.world system kind asked judged → DiskJudged disk before after system judged
-    → DiskAsked disk before after system asked
-disk-asked disk before after system kind asked (Ok (Some wanted)) is on_disk = elim on_disk [
-  | inl keeps ↦ inl keeps
-  | inr writes ↦ inr (wanted.next, is.record_asked, writes)
-]
-disk-asked disk before after system kind asked (Ok None) is keeps = inl keeps
-disk-asked disk before after system kind asked (Err why) is keeps = inl keeps
+pub disk-asked : {V : Type 0} (disk : Disk V) (before after : KeptOf ModelRules DocumentTables V) (system : ℕ) (asked : Asked) (next : Record)
+    → asked ≡ Ok (Some next) → KeepsVolumes before after ⊎ WritesOnly disk before after (at system next) → DiskAsked disk before after system asked
+disk-asked disk before after system asked next is (inl keeps) = inl keeps
+disk-asked disk before after system asked next is (inr writes) = inr (next, is, writes)

@@ -2,7 +2,7 @@
 use Rattle.std.specs.Prelude.{if◌then◌else◌, nat_le, nat_lt, slice_get, Ok, Err}
 use Rattle.std.specs.List.{filter_map}
 use Rattle.std.specs.Option.{option_map_or}
-use Rattle.std.proofs.Common.{◌≡◌, inl, inr, ℕ, zero, suc, ◌+◌, ◌≤◌, ◌<◌, Bool, true, false, Option, Some, None, List, [], ◌∷◌, length, refl, sym, ap, ◌∙◌}
+use Rattle.std.proofs.Common.{◌≡◌, inl, inr, ℕ, zero, suc, ◌+◌, ◌≤◌, ◌<◌, Bool, true, false, Option, Some, None, List, [], ◌∷◌, length, refl, sym, ap, subst, ◌∙◌}
 use Rattle.std.proofs.Common.{arith}
 use Rattle.std.proofs.lemmas.Bool.Decides.{nat_tests}
 use Rattle.std.proofs.lemmas.List.{length-map}
@@ -24,7 +24,7 @@ use Rattle.said_models.specs.OfLog.{model_of, models_of, text_of}
 use Rattle.said_models.proofs.OfLogLemmas.{models_of-texts}
 use Rattle.said_models.proofs.SaidLemmas.{said-kept}
 use Rattle.status_log.specs.declared.refusal.Refusal.{Refusal}
-use Rattle.status_log.specs.declared.refusal.Refusal.TheVariants.{N4, N11, N12, OutOfMemory}
+use Rattle.status_log.specs.declared.refusal.Refusal.TheVariants.{N4, N10, N11, N12, OutOfMemory, Volume}
 use Rattle.application_rules.specs.Gathered.{gathered}
 use Rattle.application_rules.specs.Masters.{master_fault}
 use Rattle.outbound_build.specs.declared.added.Added.{Added}
@@ -35,7 +35,8 @@ use Rattle.document_state.specs.OfLog.{applied_by, sent_by, added_behind}
 use Rattle.document_state.specs.Allowed.{waits_any}
 use Rattle.landscape.specs.Asked.{Asked, asked_dispatch, asked_gather, asked_send, by_model, gathered_for, gathered_or_none, sent_or_refused, units_with}
 use Rattle.landscape.specs.Asked.{with_room}
-use Rattle.landscape.specs.steps.Judged.{IsMaster, JudgedAs}
+use Rattle.landscape.specs.declared.wanted.Commits.{Commits}
+use Rattle.landscape.specs.steps.Judged.{IsMaster, JudgedCommits, JudgedCommitsOrNone}
 
 -- where there is no model in force all names are unknown
 pub without-model : (log : List Record) (asked : Lists → Asked) → model_of log ≡ None → by_model log asked ≡ Err N12
@@ -68,14 +69,14 @@ module _ (log : List Record) (model : Lists) (is : model_of log ≡ Some model) 
       under-model (λ m. sent_or_refused (with_room log) master (master_fault m master)) ∙ ap (sent_or_refused (with_room log) master) good
 
   -- and is refused for its fault
-  pub send-refused : (T : Type 0) (kind : Record → Bool) (master : RawUnitDoc) (why : Refusal) → IsMaster {T = T} (master_fault model master) (Err why)
-      → JudgedAs log kind (asked_send log master) (Err why)
-  send-refused T kind master N12 fault = under-model (λ m. sent_or_refused (with_room log) master (master_fault m master))
+  pub send-refused : (T : Type 0) (master : RawUnitDoc) (why : Refusal) → IsMaster {T = T} (master_fault model master) (Err why)
+      → JudgedCommits log (asked_send log master) (Err why)
+  send-refused T master N12 fault = under-model (λ m. sent_or_refused (with_room log) master (master_fault m master))
       ∙ ap (sent_or_refused (with_room log) master) fault
-  send-refused T kind master (N4 syntax) fault =
+  send-refused T master (N4 syntax) fault =
       under-model (λ m. sent_or_refused (with_room log) master (master_fault m master)) ∙ ap (sent_or_refused (with_room log) master) fault
-  send-refused T kind master OutOfMemory fault = tt
-  send-refused T kind master _ fault = absurd fault
+  send-refused T master OutOfMemory fault = tt
+  send-refused T master _ fault = absurd fault
 
   -- a name stands for a message type
   pub gather-known : (name : List ℕ) (message : ℕ) (type : Message) → message_named name model ≡ Some message → slice_get model.messages message ≡ Some type
@@ -90,6 +91,17 @@ module _ (log : List Record) (model : Lists) (is : model_of log ≡ Some model) 
   gather-unknown name none =
       under-model (λ m. option_map_or (λ n. option_map_or (gathered_for log m n) (slice_get m.messages n) (Ok None)) (message_named name m) (Err N12))
       ∙ ap (λ found. option_map_or (λ n. option_map_or (gathered_for log model n) (slice_get model.messages n) (Ok None)) found (Err N12)) none
+
+-- a refusal of a command that asks for a record is one of a command that may ask for nothing
+pub refused-or_none : (log : List Record) (asked judged_so : Asked) (why : Refusal) → asked ≡ judged_so → JudgedCommits log judged_so (Err why)
+    → JudgedCommitsOrNone log asked (Err why)
+refused-or_none log asked judged_so why same judged = of why (subst (λ (a : Asked). JudgedCommits log a (Err why)) (sym same) judged)
+  where
+    of : (why : Refusal) → JudgedCommits log asked (Err why) → JudgedCommitsOrNone log asked (Err why)
+    of OutOfMemory is = tt
+    of Volume is = is
+    of (N10 size) is = is
+    of why is = is
 
 -- what a record that commits documents adds goes with it
 pub sent-goes : (log : List Record) (next : Record) (added : Added) → is_commit next ≡ true → added ≡ added_behind log next → GoesWith log next (Sent added)

@@ -42,7 +42,7 @@ use Rattle.application_rules.proofs.CommitLemmas.{commit-short}
 use Rattle.application_rules.proofs.FollowLemmas.{gathered-may}
 use Rattle.application_rules.proofs.PutLemmas.{find-keeps}
 use Rattle.landscape.specs.Asked.{asked_put}
-use Rattle.landscape.specs.steps.Judged.{IsWanted, is_applications}
+use Rattle.landscape.specs.steps.Judged.{IsWanted, WantsChanges, is_applications}
 use Rattle.landscape.proofs.JudgedLemmas.{model-kept, under-model}
 
 at_most : (n most : ℕ) → nat_le n most ≡ true → n ≤ most
@@ -154,10 +154,10 @@ gathered-short model message kept makes objects pointers = of (gathered model ob
 pub put-wanted : (log : List Record) (model : Lists) (change : Change) (next : Record) → model_of log ≡ Some model →
     next ≡ Put change.kind change.key change.fields
     → may_put model change.kind change.key change.fields ≡ true → length change.fields < 2 ^ 32
-    → IsWanted log is_applications (asked_put log change) (record { next = next; made = Nothing })
+    → WantsChanges log (asked_put log change) (record { next = next })
 put-wanted log model change next is same may few =
     let one = Put change.kind change.key change.fields in
-    subst (λ (r : Record). IsWanted log is_applications (asked_put log change) (record { next = r; made = Nothing })) (sym same) (record {
+    subst (λ (r : Record). IsWanted log (asked_put log change) is_applications r Nothing) (sym same) (record {
       record_asked = under-model log model is (λ m. if may_put m change.kind change.key change.fields then Ok (Some one) else Err N12)
           ∙ ap (λ b. if b then Ok (Some one) else Err N12) may;
       its_kind = refl;

@@ -4,6 +4,7 @@ ghost use Rattle.std.specs.Prelude.{◌≡◌, List, IfOk, map, true};
 ghost use Rattle.unit_core.specs.declared.records.Record.{Record as RecordOf};
 ghost use Rattle.outbound_build.specs.declared.added.OutUnit.{OutUnit as OutUnitOf};
 ghost use Rattle.trfc_protocol.specs.Legal.{is_commit};
+ghost use Rattle.document_state.specs.declared.made.Made.TheVariants.{Sent};
 ghost use Rattle.document_state.specs.Made.{GoesWith};
 ghost use Rattle.landscape.specs.Carried.{counts_of, last_status, masters_in};
 ghost use Rattle.landscape.specs.Operator.{number_to, way_at, way_to};
@@ -11,9 +12,8 @@ ghost use Rattle.landscape.specs.Working.{late_of};
 ghost use Rattle.landscape.specs.steps.Ready.{ended_of, refused_of};
 
 use crate::Gathered;
-use crate::wanted::Wanted;
+use crate::wanted::Commits;
 use ale_base::{Items, OutOfMemory, SystemNo, Tid, Way};
-use document_state::Made;
 use outbound_build::Added;
 use status_log::{Refusal, Status, StatusAt};
 use std::alloc::Global;
@@ -21,21 +21,15 @@ use unit_core::{AleUnit, Record};
 use unit_landscape::{AppendEnd, Late, LateEnd, OperatorEnd};
 
 /// How many masters, documents and units a record makes that commits documents.
-pub(crate) fn counts_of(wanted: &Wanted) -> Gathered
+pub(crate) fn counts_of(wanted: &Commits) -> Gathered
     requires { is_commit wanted.now.next ≡ true }
-    ensures { (log : List RecordOf) → GoesWith log wanted.now.next wanted.now.made → result ≡ counts_of log wanted.now.next }
+    ensures { (log : List RecordOf) → GoesWith log wanted.now.next (Sent wanted.now.added) → result ≡ counts_of log wanted.now.next }
 {
-    match &wanted.made {
-        Made::Sent(added) => Gathered {
-            masters: masters_in(&wanted.next),
-            documents: added.documents.len() as u64,
-            units: added.units.len() as u64,
-        },
-        _ => Gathered {
-            masters: 0,
-            documents: 0,
-            units: 0,
-        },
+    let Commits { next, added } = wanted;
+    Gathered {
+        masters: masters_in(next),
+        documents: added.documents.len() as u64,
+        units: added.units.len() as u64,
     }
 }
 

@@ -17,6 +17,7 @@ use ale_base::{OutOfMemory, SystemNo, Tid};
 use ale_volumes::Volumes;
 use dist_model::Model;
 use document_state::{DocumentTables, ModelRules};
+use status_log::Refusal;
 use std::alloc::Global;
 use std::sync::Arc;
 use trfc_protocol::World;
@@ -44,7 +45,7 @@ impl<V: Volumes> std::marker::Model for Landscape<V> {
 }
 
 impl<V: Volumes> Landscape<V> {
-    ghost use Rattle.std.specs.Prelude.{◌≡◌, ◌-◌, ◌↔◌, true, IfOk};
+    ghost use Rattle.std.specs.Prelude.{◌≡◌, ◌-◌, ◌↔◌, true, false, IfOk, IfErr};
     ghost use Rattle.std.specs.Arc.{arc_value};
     ghost use Rattle.std.specs.Option.{option_copied, option_map};
     ghost use Rattle.document_state.specs.Tables.{AreTablesOf};
@@ -58,7 +59,7 @@ impl<V: Volumes> Landscape<V> {
     ghost use Rattle.document_state.specs.Meaning.{model_meaning};
     ghost use Rattle.landscape.specs.Begun.{AreBegun};
     ghost use Rattle.landscape.specs.Crashes.{LeavesSoundLogs};
-    ghost use Rattle.landscape.specs.Standing.{StandIfUp, WorksBy};
+    ghost use Rattle.landscape.specs.Standing.{StandAt, StandIfUp, WorksBy};
 
     /// The landscape of systems whose logs begin with one text, of a model of so many systems.
     pub fn new(alloc: Global, units: UnitLandscape<ModelRules, DocumentTables, V>) -> Landscape<V>
@@ -146,6 +147,20 @@ impl<V: Volumes> Landscape<V> {
             return None;
         }
         self.units.application(system)
+    }
+
+    /// The tables of a system by which a command is judged. `N2` comes exactly where the system is down. A call that ends at what they
+    /// say leaves sound logs.
+    fn up(&self, system: SystemNo) -> Result<&DocumentTables, Refusal>
+        ensures up { IfOk result (λ tables. StandAt self.now.world system tables.now) }
+        ensures down { IfErr result (λ why. (why ≡ Refusal.N2) × (is_up self.now.world system ≡ false)) }
+        ensures sound { LeavesSoundLogs V.disk self.now self.now }
+    {
+        let _ = self.units.world();
+        match self.tables(system) {
+            Some(tables) => Ok(tables),
+            None => Err(Refusal::N2),
+        }
     }
 
     /// The model by which a system works, with which it is prepared what becomes of its units. None exactly where the system is down.

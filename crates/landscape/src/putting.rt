@@ -5,13 +5,13 @@ ghost use Rattle.unit_core.specs.declared.records.Record.{Record as RecordOf};
 ghost use Rattle.unit_core.specs.declared.records.Record.TheVariants.{Put};
 ghost use Rattle.document_state.specs.Tables.{AreTablesOf};
 ghost use Rattle.landscape.specs.Asked.{asked_put, pointers_noted};
-ghost use Rattle.landscape.specs.steps.Judged.{JudgedAs, is_applications};
+ghost use Rattle.landscape.specs.steps.Judged.{JudgedChanges};
 
-use crate::wanted::Wanted;
+use crate::wanted::Changes;
 use ale_base::{Change, OutOfMemory};
 use application_rules::may_put;
 use change_pointers::noted;
-use document_state::{DocumentTables, Made};
+use document_state::DocumentTables;
 use status_log::Refusal;
 use std::alloc::Global;
 use unit_core::Record;
@@ -20,8 +20,8 @@ use unit_core::Record;
 /// model; its key is empty or is longer than the key field of the kind; there is no field; or a field is none of
 /// the kind, is the key field, is given twice, or is shorter than its value. It comes too where no model is in force. `OutOfMemory` comes
 /// where a request for memory was refused.
-pub(crate) fn put(tables: &DocumentTables, change: &Change) -> Result<Wanted, Refusal>
-    ensures { (log : List RecordOf) → AreTablesOf log tables.now → JudgedAs log is_applications (asked_put log change.now) result }
+pub(crate) fn put(tables: &DocumentTables, change: &Change) -> Result<Changes, Refusal>
+    ensures { (log : List RecordOf) → AreTablesOf log tables.now → JudgedChanges log (asked_put log change.now) result }
 {
     let Some(model) = tables.model() else {
         return Err(Refusal::N12);
@@ -34,9 +34,8 @@ pub(crate) fn put(tables: &DocumentTables, change: &Change) -> Result<Wanted, Re
     if fields.len() > u32::MAX as usize {
         return Err(Refusal::OutOfMemory);
     }
-    Ok(Wanted {
+    Ok(Changes {
         next: record_of(change)?,
-        made: Made::Nothing,
     })
 }
 

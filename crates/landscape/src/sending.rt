@@ -1,6 +1,6 @@
 //! Documents are committed: a master that is sent, objects that are gathered, and what waits to be dispatched.
 
-ghost use Rattle.std.specs.Prelude.{◌≡◌, ◌≤◌, ◌<◌, Bool, List, [], ◌∷◌, Some, None, IfOk, length, slice_get, true};
+ghost use Rattle.std.specs.Prelude.{◌≡◌, ◌≤◌, ◌<◌, List, [], ◌∷◌, Some, None, IfOk, length, slice_get, true};
 ghost use Rattle.std.specs.List.{AllByRecursion};
 ghost use Rattle.unit_core.specs.declared.records.Record.{Record as RecordOf};
 ghost use Rattle.unit_core.specs.declared.records.Record.TheVariants.{Commit, Dispatch};
@@ -12,14 +12,14 @@ ghost use Rattle.trfc_protocol.specs.Legal.{is_commit};
 ghost use Rattle.application_rules.specs.Masters.{master_fault};
 ghost use Rattle.document_state.specs.Tables.{AreTablesOf};
 ghost use Rattle.document_state.specs.OfLog.{sent_by};
-ghost use Rattle.landscape.specs.Asked.{Asked, asked_send, asked_gather, asked_dispatch, gathered_for, gathered_or_none, with_room};
-ghost use Rattle.landscape.specs.steps.Judged.{IsMaster, JudgedAs, JudgedOrNone};
+ghost use Rattle.landscape.specs.Asked.{asked_send, asked_gather, asked_dispatch, gathered_for, gathered_or_none, with_room};
+ghost use Rattle.landscape.specs.steps.Judged.{IsMaster, JudgedCommits, JudgedCommitsOrNone};
 
-use crate::wanted::Wanted;
+use crate::wanted::Commits;
 use ale_base::{Items, OutOfMemory, SystemNo};
 use application_rules::{MOST_SEGMENTS, MasterFault, check_master, gathered};
 use dist_model::{Lists, Message, MessageNo, Model};
-use document_state::{DocumentTables, Made};
+use document_state::DocumentTables;
 use outbound_build::AddFault;
 use status_log::Refusal;
 use std::alloc::Global;
@@ -34,10 +34,10 @@ pub(crate) fn send(
     tables: &DocumentTables,
     system: SystemNo,
     master: &RawUnitDoc,
-) -> Result<Wanted, Refusal>
+) -> Result<Commits, Refusal>
     requires short { length master.now.segments ≤ MOST_SEGMENTS }
     ensures { (log : List RecordOf) → AreTablesOf log tables.now → (sent_by log).past.system ≡ system
-        → JudgedAs log is_commit (asked_send log master.now) result }
+        → JudgedCommits log (asked_send log master.now) result }
 {
     let Some(model) = tables.model() else {
         return Err(Refusal::N12);
@@ -58,9 +58,9 @@ pub(crate) fn gather(
     tables: &DocumentTables,
     system: SystemNo,
     name: &[u8],
-) -> Result<Option<Wanted>, Refusal>
+) -> Result<Option<Commits>, Refusal>
     ensures { (log : List RecordOf) → AreTablesOf log tables.now → (sent_by log).past.system ≡ system
-        → JudgedOrNone log is_commit (asked_gather log name.now) result }
+        → JudgedCommitsOrNone log (asked_gather log name.now) result }
 {
     match tables.model() {
         None => Err(Refusal::N12),
@@ -76,9 +76,9 @@ pub(crate) fn dispatch(
     alloc: Global,
     tables: &DocumentTables,
     system: SystemNo,
-) -> Result<Option<Wanted>, Refusal>
+) -> Result<Option<Commits>, Refusal>
     ensures { (log : List RecordOf) → AreTablesOf log tables.now → (sent_by log).past.system ≡ system
-        → JudgedOrNone log is_commit (asked_dispatch log) result }
+        → JudgedCommitsOrNone log (asked_dispatch log) result }
 {
     let Some(_) = tables.model() else {
         return Err(Refusal::N12);
@@ -86,7 +86,8 @@ pub(crate) fn dispatch(
     if tables.outbound().outbox().waiting.is_empty() {
         return Ok(None);
     }
-    some_wanted(with_room(alloc, tables, system, Record::Dispatch))
+    let wanted = with_room(alloc, tables, system, Record::Dispatch)?;
+    Ok(Some(wanted))
 }
 
 /// Whether a document may be a master, or why it may not.
@@ -120,29 +121,16 @@ fn with_room(
     tables: &DocumentTables,
     system: SystemNo,
     next: Record,
-) -> Result<Wanted, Refusal>
+) -> Result<Commits, Refusal>
     requires commits { is_commit next ≡ true }
     requires writable { IsWritable next }
     ensures { (log : List RecordOf) → AreTablesOf log tables.now → (sent_by log).past.system ≡ system
-        → (model : ListsOf) → model_of log ≡ Some model → JudgedAs log is_commit (with_room log next) result }
+        → (model : ListsOf) → model_of log ≡ Some model → JudgedCommits log (with_room log next) result }
 {
     match tables.added(alloc, system, &next) {
-        Ok(added) => Ok(Wanted {
-            next,
-            made: Made::Sent(added),
-        }),
+        Ok(added) => Ok(Commits { next, added }),
         Err(AddFault::TooMany(count)) => Err(Refusal::N11(count)),
         Err(AddFault::OutOfMemory) => Err(Refusal::OutOfMemory),
-    }
-}
-
-/// A record that is asked for, of a command that may ask for none.
-fn some_wanted(judged: Result<Wanted, Refusal>) -> Result<Option<Wanted>, Refusal>
-    ensures { (log : List RecordOf) (kind : RecordOf → Bool) (asked : Asked) → JudgedAs log kind asked judged → JudgedOrNone log kind asked result }
-{
-    match judged {
-        Ok(wanted) => Ok(Some(wanted)),
-        Err(why) => Err(why),
     }
 }
 
@@ -153,9 +141,9 @@ fn gather_by(
     model: &Model,
     system: SystemNo,
     name: &[u8],
-) -> Result<Option<Wanted>, Refusal>
+) -> Result<Option<Commits>, Refusal>
     ensures { (log : List RecordOf) → AreTablesOf log tables.now → (sent_by log).past.system ≡ system → model_of log ≡ Some model.now
-        → JudgedOrNone log is_commit (asked_gather log name.now) result }
+        → JudgedCommitsOrNone log (asked_gather log name.now) result }
 {
     let _ = model.as_lists();
     match model.message(name) {
@@ -171,10 +159,10 @@ fn gather_for(
     model: &Model,
     system: SystemNo,
     message: MessageNo,
-) -> Result<Option<Wanted>, Refusal>
+) -> Result<Option<Commits>, Refusal>
     requires known { message < length model.now.messages }
     ensures { (log : List RecordOf) → AreTablesOf log tables.now → (sent_by log).past.system ≡ system → model_of log ≡ Some model.now
-        → (type : MessageOf) → slice_get model.now.messages message ≡ Some type → JudgedOrNone log is_commit (gathered_for log model.now message type) result }
+        → (type : MessageOf) → slice_get model.now.messages message ≡ Some type → JudgedCommitsOrNone log (gathered_for log model.now message type) result }
 {
     let lists = model.as_lists();
     let ty = type_at(lists, message);
@@ -198,11 +186,11 @@ fn commit_gathered(
     system: SystemNo,
     name: &[u8],
     docs: Items<RawUnitDoc>,
-) -> Result<Option<Wanted>, Refusal>
+) -> Result<Option<Commits>, Refusal>
     requires named { IsName name.now }
     requires short { AllByRecursion IsDocument docs }
     ensures { (log : List RecordOf) → AreTablesOf log tables.now → (sent_by log).past.system ≡ system
-        → (model : ListsOf) → model_of log ≡ Some model → JudgedOrNone log is_commit (gathered_or_none (with_room log) name.now docs) result }
+        → (model : ListsOf) → model_of log ≡ Some model → JudgedCommitsOrNone log (gathered_or_none (with_room log) name.now docs) result }
 {
     if docs.is_empty() {
         return Ok(None);
@@ -216,7 +204,8 @@ fn commit_gathered(
         origin: Some(origin),
         docs,
     };
-    some_wanted(with_room(alloc, tables, system, next))
+    let wanted = with_room(alloc, tables, system, next)?;
+    Ok(Some(wanted))
 }
 
 /// The message type of a number.

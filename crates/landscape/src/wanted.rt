@@ -1,13 +1,20 @@
-//! A record that a command appends.
+//! What commands want: the records that they append.
 
-use document_state::Made;
+use outbound_build::Added;
 use unit_core::Record;
 
-/// A record that a command appends, and what was made for it.
+/// What a command wants that commits documents.
 #[derive(Drop)]
-pub(crate) struct Wanted {
-    /// The record.
+pub(crate) struct Commits {
+    /// The record: a Commit or a Dispatch.
     pub(crate) next: Record,
-    /// What goes with it.
-    pub(crate) made: Made,
+    /// The documents and units that it adds.
+    pub(crate) added: Added,
+}
+
+/// What a command wants that changes the application. Nothing is made for its record.
+#[derive(Drop)]
+pub(crate) struct Changes {
+    /// The record: a Put, an App or a Repost.
+    pub(crate) next: Record,
 }

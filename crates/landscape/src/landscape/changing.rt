@@ -6,9 +6,10 @@ use super::Landscape;
 use crate::commands::{ended, last_of};
 use crate::passing::{app, repost};
 use crate::putting::{pointers_noted, put};
-use crate::wanted::Wanted;
+use crate::wanted::Changes;
 use ale_base::{Change, DocNum, OutOfMemory, SystemNo};
 use ale_volumes::Volumes;
+use document_state::Made;
 use status_log::{Refusal, Status};
 
 impl<V: Volumes> Landscape<V> {
@@ -17,11 +18,12 @@ impl<V: Volumes> Landscape<V> {
     ghost use Rattle.unit_landscape.specs.LogAnswers.{KeepsVolumes};
     ghost use Rattle.unit_landscape.specs.Writes.{WritesOnly};
     ghost use Rattle.unit_landscape.specs.Appending.{at};
+    ghost use Rattle.document_state.specs.declared.made.Made.TheVariants as made;
     ghost use Rattle.landscape.specs.Asked.{asked_put, asked_app, asked_repost, pointers_noted};
     ghost use Rattle.landscape.specs.steps.Judged.{is_applications};
     ghost use Rattle.landscape.specs.Crashes.{LeavesSoundLogs};
     ghost use Rattle.landscape.specs.Carried.{CarriedAs, DiskAsked, asked_at, operator_event, status_at};
-    ghost use Rattle.landscape.specs.steps.Ready.{IsReady, IsJudged, ReadyAs, EndedAs, DoneAs, DiskJudged};
+    ghost use Rattle.landscape.specs.steps.Ready.{IsReady, ReadyChanges, EndedAs};
 
     /// Gives fields of an object values. It answers how many change pointers are noted.
     ///
@@ -33,16 +35,10 @@ impl<V: Volumes> Landscape<V> {
         ensures disk { DiskAsked V.disk self.old self.new system (asked_at self.old.world system (λ log. asked_put log change.now)) }
         ensures sound { LeavesSoundLogs V.disk self.old self.new }
     {
-        let _ = self.units.world();
-        let judged = self.judged_put(system, change);
-        let pointers = match self.pointers_noted(system, change) {
-            Ok(pointers) => pointers,
-            Err(_) => return Err(Refusal::OutOfMemory),
-        };
-        match self.operate(system, judged) {
-            Ok(()) => Ok(pointers),
-            Err(why) => Err(why),
-        }
+        let wanted = self.judged_put(system, change)?;
+        let pointers = self.pointers_noted(system, change)?;
+        self.operate_wanted(system, wanted)?;
+        Ok(pointers)
     }
 
     /// Posts an inbound document that waits for the application. It answers the last status of the document then.
@@ -55,11 +51,9 @@ impl<V: Volumes> Landscape<V> {
         ensures disk { DiskAsked V.disk self.old self.new system (asked_at self.old.world system (λ log. asked_app log doc.0)) }
         ensures sound { LeavesSoundLogs V.disk self.old self.new }
     {
-        let judged = self.judged_app(system, doc);
-        match self.operate(system, judged) {
-            Ok(()) => Ok(self.status_at(system, doc)),
-            Err(why) => Err(why),
-        }
+        let wanted = self.judged_app(system, doc)?;
+        self.operate_wanted(system, wanted)?;
+        Ok(self.status_at(system, doc))
     }
 
     /// Posts an inbound document again that was not posted. It answers the last status of the document then.
@@ -72,24 +66,18 @@ impl<V: Volumes> Landscape<V> {
         ensures disk { DiskAsked V.disk self.old self.new system (asked_at self.old.world system (λ log. asked_repost log doc.0)) }
         ensures sound { LeavesSoundLogs V.disk self.old self.new }
     {
-        let judged = self.judged_repost(system, doc);
-        match self.operate(system, judged) {
-            Ok(()) => Ok(self.status_at(system, doc)),
-            Err(why) => Err(why),
-        }
+        let wanted = self.judged_repost(system, doc)?;
+        self.operate_wanted(system, wanted)?;
+        Ok(self.status_at(system, doc))
     }
 
     /// What `put` asks for.
-    fn judged_put(&self, system: SystemNo, change: &Change) -> Result<Option<Wanted>, Refusal>
-        ensures { ReadyAs self.now.world system is_applications (asked_at self.now.world system (λ log. asked_put log change.now)) result }
+    fn judged_put(&self, system: SystemNo, change: &Change) -> Result<Changes, Refusal>
+        ensures judged { ReadyChanges self.now.world system (asked_at self.now.world system (λ log. asked_put log change.now)) result }
+        ensures sound { LeavesSoundLogs V.disk self.now self.now }
     {
-        let Some(tables) = self.tables(system) else {
-            return Err(Refusal::N2);
-        };
-        match put(tables, change) {
-            Ok(wanted) => Ok(Some(wanted)),
-            Err(why) => Err(why),
-        }
+        let tables = self.up(system)?;
+        put(tables, change)
     }
 
     /// How many change pointers `put` notes; none where the system is down.
@@ -103,29 +91,21 @@ impl<V: Volumes> Landscape<V> {
     }
 
     /// What `app` asks for.
-    fn judged_app(&self, system: SystemNo, doc: DocNum) -> Result<Option<Wanted>, Refusal>
-        ensures { ReadyAs self.now.world system is_applications (asked_at self.now.world system (λ log. asked_app log doc.0)) result }
+    fn judged_app(&self, system: SystemNo, doc: DocNum) -> Result<Changes, Refusal>
+        ensures judged { ReadyChanges self.now.world system (asked_at self.now.world system (λ log. asked_app log doc.0)) result }
+        ensures sound { LeavesSoundLogs V.disk self.now self.now }
     {
-        let Some(tables) = self.tables(system) else {
-            return Err(Refusal::N2);
-        };
-        match app(tables, doc) {
-            Ok(wanted) => Ok(Some(wanted)),
-            Err(why) => Err(why),
-        }
+        let tables = self.up(system)?;
+        app(tables, doc)
     }
 
     /// What `repost` asks for.
-    fn judged_repost(&self, system: SystemNo, doc: DocNum) -> Result<Option<Wanted>, Refusal>
-        ensures { ReadyAs self.now.world system is_applications (asked_at self.now.world system (λ log. asked_repost log doc.0)) result }
+    fn judged_repost(&self, system: SystemNo, doc: DocNum) -> Result<Changes, Refusal>
+        ensures judged { ReadyChanges self.now.world system (asked_at self.now.world system (λ log. asked_repost log doc.0)) result }
+        ensures sound { LeavesSoundLogs V.disk self.now self.now }
     {
-        let Some(tables) = self.tables(system) else {
-            return Err(Refusal::N2);
-        };
-        match repost(tables, doc) {
-            Ok(wanted) => Ok(Some(wanted)),
-            Err(why) => Err(why),
-        }
+        let tables = self.up(system)?;
+        repost(tables, doc)
     }
 
     /// The last status of an inbound document of a system.
@@ -138,34 +118,15 @@ impl<V: Volumes> Landscape<V> {
         }
     }
 
-    /// Carries out a command that changes the application, as it was judged.
-    fn operate(
-        &mut self,
-        system: SystemNo,
-        judged: Result<Option<Wanted>, Refusal>,
-    ) -> Result<(), Refusal>
-        requires ready { IsJudged self.old.world system is_applications judged }
-        ensures done { DoneAs V.disk self.old self.new system (operator_event system) judged result }
-        ensures disk { DiskJudged V.disk self.old self.new system judged }
-        ensures sound { LeavesSoundLogs V.disk self.old self.new }
-    {
-        let _ = self.units.world();
-        match judged {
-            Err(why) => Err(why),
-            Ok(None) => Ok(()),
-            Ok(Some(wanted)) => self.operate_wanted(system, wanted),
-        }
-    }
-
     /// Appends a record that changes the application.
-    fn operate_wanted(&mut self, system: SystemNo, wanted: Wanted) -> Result<(), Refusal>
-        requires ready { IsReady self.old.world system is_applications wanted }
+    fn operate_wanted(&mut self, system: SystemNo, wanted: Changes) -> Result<(), Refusal>
+        requires ready { IsReady self.old.world system is_applications wanted.next made.Nothing }
         ensures done { EndedAs V.disk self.old self.new system (operator_event system) wanted.next result }
         ensures disk { KeepsVolumes self.old self.new ⊎ WritesOnly V.disk self.old self.new (at system wanted.next) }
         ensures sound { LeavesSoundLogs V.disk self.old self.new }
     {
         let _ = self.units.world();
-        let Wanted { next, made } = wanted;
-        ended(self.units.operate(system, next, made))
+        let Changes { next } = wanted;
+        ended(self.units.operate(system, next, Made::Nothing))
     }
 }

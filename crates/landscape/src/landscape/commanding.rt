@@ -6,7 +6,7 @@ ghost use Rattle.unit_core.specs.declared.records.Record.TheVariants as log;
 use super::Landscape;
 use crate::commands::{counts_of, ended, units_of};
 use crate::sending::{dispatch, gather, send};
-use crate::wanted::Wanted;
+use crate::wanted::Commits;
 use crate::{Gathered, Sent};
 use ale_base::SystemNo;
 use ale_volumes::Volumes;
@@ -28,7 +28,7 @@ impl<V: Volumes> Landscape<V> {
     ghost use Rattle.landscape.specs.Asked.{asked_send, asked_gather, asked_dispatch};
     ghost use Rattle.landscape.specs.Crashes.{LeavesSoundLogs};
     ghost use Rattle.landscape.specs.Carried.{CarriedAs, DiskAsked, asked_at, counts_asked, counts_of, sent_counts};
-    ghost use Rattle.landscape.specs.steps.Ready.{IsReady, IsJudged, ReadyAs, EndedAs, DoneAs, CountsAs, DiskJudged};
+    ghost use Rattle.landscape.specs.steps.Ready.{IsReady, ReadyCommits, ReadyCommitsOrNone, EndedAs};
 
     /// Sends a master, of at most `MOST_SEGMENTS` segments: it is committed, with what each receiver is sent that is entitled to it, in
     /// units or as documents that wait to be dispatched.
@@ -42,11 +42,9 @@ impl<V: Volumes> Landscape<V> {
         ensures disk { DiskAsked V.disk self.old self.new system (asked_at self.old.world system (λ log. asked_send log master.now)) }
         ensures sound { LeavesSoundLogs V.disk self.old self.new }
     {
-        let judged = self.judged_send(system, master);
-        match self.commit(system, judged) {
-            Ok(counts) => Ok(counts.sent()),
-            Err(why) => Err(why),
-        }
+        let wanted = self.judged_send(system, master)?;
+        let counts = self.commit(system, wanted)?;
+        Ok(counts.sent())
     }
 
     /// Gathers the objects that wait for the message type of a name, or of the one that a reduced one reduces: their masters are
@@ -60,8 +58,10 @@ impl<V: Volumes> Landscape<V> {
         ensures disk { DiskAsked V.disk self.old self.new system (asked_at self.old.world system (λ log. asked_gather log name.now)) }
         ensures sound { LeavesSoundLogs V.disk self.old self.new }
     {
-        let judged = self.judged_gather(system, name);
-        self.commit(system, judged)
+        match self.judged_gather(system, name)? {
+            None => Ok(Gathered::none()),
+            Some(wanted) => self.commit(system, wanted),
+        }
     }
 
     /// Dispatches what waits: units are made of it. With nothing waiting nothing is appended.
@@ -74,100 +74,58 @@ impl<V: Volumes> Landscape<V> {
         ensures disk { DiskAsked V.disk self.old self.new system (asked_at self.old.world system (λ log. asked_dispatch log)) }
         ensures sound { LeavesSoundLogs V.disk self.old self.new }
     {
-        let judged = self.judged_dispatch(system);
-        match self.commit(system, judged) {
-            Ok(counts) => Ok(counts.units),
-            Err(why) => Err(why),
-        }
+        let Some(wanted) = self.judged_dispatch(system)? else {
+            return Ok(0);
+        };
+        let counts = self.commit(system, wanted)?;
+        Ok(counts.units)
     }
 
     /// What `send` asks for.
-    fn judged_send(&self, system: SystemNo, master: &RawUnitDoc) -> Result<Option<Wanted>, Refusal>
+    fn judged_send(&self, system: SystemNo, master: &RawUnitDoc) -> Result<Commits, Refusal>
         requires short { length master.now.segments ≤ MOST_SEGMENTS }
-        ensures { ReadyAs self.now.world system is_commit (asked_at self.now.world system (λ log. asked_send log master.now)) result }
+        ensures judged { ReadyCommits self.now.world system (asked_at self.now.world system (λ log. asked_send log master.now)) result }
+        ensures sound { LeavesSoundLogs V.disk self.now self.now }
     {
-        let Some(tables) = self.tables(system) else {
-            return Err(Refusal::N2);
-        };
-        match send(self.alloc, tables, system, master) {
-            Ok(wanted) => Ok(Some(wanted)),
-            Err(why) => Err(why),
-        }
+        let tables = self.up(system)?;
+        send(self.alloc, tables, system, master)
     }
 
     /// What `gather` asks for.
-    fn judged_gather(&self, system: SystemNo, name: &[u8]) -> Result<Option<Wanted>, Refusal>
-        ensures { ReadyAs self.now.world system is_commit (asked_at self.now.world system (λ log. asked_gather log name.now)) result }
+    fn judged_gather(&self, system: SystemNo, name: &[u8]) -> Result<Option<Commits>, Refusal>
+        ensures judged { ReadyCommitsOrNone self.now.world system (asked_at self.now.world system (λ log. asked_gather log name.now)) result }
+        ensures sound { LeavesSoundLogs V.disk self.now self.now }
     {
-        match self.tables(system) {
-            None => Err(Refusal::N2),
-            Some(tables) => gather(self.alloc, tables, system, name),
-        }
+        let tables = self.up(system)?;
+        gather(self.alloc, tables, system, name)
     }
 
     /// What `dispatch` asks for.
-    fn judged_dispatch(&self, system: SystemNo) -> Result<Option<Wanted>, Refusal>
-        ensures { ReadyAs self.now.world system is_commit (asked_at self.now.world system (λ log. asked_dispatch log)) result }
+    fn judged_dispatch(&self, system: SystemNo) -> Result<Option<Commits>, Refusal>
+        ensures judged { ReadyCommitsOrNone self.now.world system (asked_at self.now.world system (λ log. asked_dispatch log)) result }
+        ensures sound { LeavesSoundLogs V.disk self.now self.now }
     {
-        match self.tables(system) {
-            None => Err(Refusal::N2),
-            Some(tables) => dispatch(self.alloc, tables, system),
-        }
+        let tables = self.up(system)?;
+        dispatch(self.alloc, tables, system)
     }
 
-    /// Carries out a command that commits documents, as it was judged.
-    fn commit(
-        &mut self,
-        system: SystemNo,
-        judged: Result<Option<Wanted>, Refusal>,
-    ) -> Result<Gathered, Refusal>
-        requires ready { IsJudged self.old.world system is_commit judged }
-        ensures done { DoneAs V.disk self.old self.new system (event.Commit system) judged result }
-        ensures counts { IfOk result (CountsAs (log_of self.old.world system) judged) }
-        ensures disk { DiskJudged V.disk self.old self.new system judged }
-        ensures sound { LeavesSoundLogs V.disk self.old self.new }
-    {
-        let _ = self.units.world();
-        match judged {
-            Err(why) => Err(why),
-            Ok(None) => Ok(Gathered::none()),
-            Ok(Some(wanted)) => self.commit_wanted(system, wanted),
-        }
-    }
-
-    /// Appends a record that commits documents.
-    fn commit_wanted(&mut self, system: SystemNo, wanted: Wanted) -> Result<Gathered, Refusal>
-        requires ready { IsReady self.old.world system is_commit wanted }
+    /// Appends a record that commits documents. It answers how many masters, documents and units are made.
+    fn commit(&mut self, system: SystemNo, wanted: Commits) -> Result<Gathered, Refusal>
+        requires ready { IsReady self.old.world system is_commit wanted.next (made.Sent wanted.added) }
         ensures done { EndedAs V.disk self.old self.new system (event.Commit system) wanted.next result }
         ensures counts { IfOk result (λ counts. counts ≡ counts_of (log_of self.old.world system) wanted.next) }
         ensures disk { KeepsVolumes self.old self.new ⊎ WritesOnly V.disk self.old self.new (at system wanted.next) }
         ensures sound { LeavesSoundLogs V.disk self.old self.new }
     {
         let counts = counts_of(&wanted);
-        let Wanted { next, made } = wanted;
-        match self.commit_made(system, next, made) {
-            Ok(()) => Ok(counts),
-            Err(why) => Err(why),
-        }
-    }
-
-    /// Appends a record that commits documents, with what was made for it.
-    fn commit_made(&mut self, system: SystemNo, next: Record, made: Made) -> Result<(), Refusal>
-        requires ready { IsReady self.old.world system is_commit (record { next = next; made = made }) }
-        ensures done { EndedAs V.disk self.old self.new system (event.Commit system) next result }
-        ensures disk { KeepsVolumes self.old self.new ⊎ WritesOnly V.disk self.old self.new (at system next) }
-        ensures sound { LeavesSoundLogs V.disk self.old self.new }
-    {
-        match made {
-            Made::Sent(added) => self.commit_added(system, next, added),
-            // A Commit and a Dispatch make documents that are sent.
-            _ => unreachable!(),
-        }
+        let Commits { next, added } = wanted;
+        self.commit_added(system, next, added)?;
+        Ok(counts)
     }
 
     /// Appends a record that commits documents, with what it adds.
     fn commit_added(&mut self, system: SystemNo, next: Record, added: Added) -> Result<(), Refusal>
-        requires ready { IsReady self.old.world system is_commit (record { next = next; made = made.Sent added }) }
+        requires ready { IsReady self.old.world system is_commit next (made.Sent added) }
         ensures done { EndedAs V.disk self.old self.new system (event.Commit system) next result }
         ensures disk { KeepsVolumes self.old self.new ⊎ WritesOnly V.disk self.old self.new (at system next) }
         ensures sound { LeavesSoundLogs V.disk self.old self.new }

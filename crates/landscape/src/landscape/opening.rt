@@ -55,10 +55,8 @@ impl<V: Volumes> Landscape<V> {
         ensures volumes { V.disk.told → LeavesOpening V.disk (length (arc_value model).systems) text moment vols (vols_after result) }
     {
         let systems = model.as_lists().systems.len() as u8;
-        match begin_over(alloc, &model, systems, text.as_slice(), moment, vols) {
-            Ok(kept) => Ok(Landscape::new(alloc, begun(alloc, kept))),
-            Err(end) => Err(end),
-        }
+        let kept = begin_over(alloc, &model, systems, text.as_slice(), moment, vols)?;
+        Ok(Landscape::new(alloc, begun(alloc, kept)))
     }
 }
 
@@ -77,10 +75,8 @@ fn begin_over<V: Volumes>(
     requires short { length text.now ≤ MOST_TEXT }
     ensures { BeginsAs V.disk systems text.now moment vols systems result }
 {
-    match open_all(alloc, systems, moment, vols) {
-        Ok(kept) => begin_all(alloc, kept, model, systems, text),
-        Err(end) => Err(end),
-    }
+    let kept = open_all(alloc, systems, moment, vols)?;
+    begin_all(alloc, kept, model, systems, text)
 }
 
 /// Opens the volumes of so many systems.
@@ -96,10 +92,7 @@ fn open_all<V: Volumes>(
 {
     let mut opening = Opening::new(alloc, ModelRules::new(systems), moment, vols);
     for _number in 0..systems {
-        opening = match open_next(alloc, opening) {
-            Ok(next) => next,
-            Err(end) => return Err(end),
-        };
+        opening = open_next(alloc, opening)?;
     }
     Ok(opening.into_kept())
 }

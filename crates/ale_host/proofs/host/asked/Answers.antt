@@ -1,22 +1,24 @@
-use Rattle.std.proofs.Common.{◌≡◌, arith, Some, map, string_bytes, sym, subst, ◌∙◌}
+use Rattle.std.proofs.Common.{◌≡◌, arith, Some, map, string_bytes, inl, inr, sym, subst, ◌∙◌}
 use Rattle.ale_base.specs.Faults.{Rose}
 use Rattle.ale_host.specs.declared.words.Form.TheVariants.{Pass, Run}
 use Rattle.ale_host.specs.Words.{form_of, document_file, documents_file, model_file, script_file}
-use Rattle.ale_host.specs.Ending.{EndsPass}
+use Rattle.ale_host.specs.Ending.{Ends, EndsPass}
 use Rattle.ale_host.proofs.WordsLemmas.{document_file-second, run-five, word-at}
 use Rattle.ale_host.proofs.EndingLemmas.{Ends-pass, Ends-run}
 use Rattle.ale_host.proofs.host.asked.Goals as goal
 
-pub returns-in-Ok-pass-clause-ends : goal.returns-in-Ok-pass-clause-ends
-returns-in-Ok-pass-clause-ends g c =
+pub returns-in-Some-Pass-clause-ends : goal.returns-in-Some-Pass-clause-ends
+returns-in-Some-Pass-clause-ends g c =
     let words = map string_bytes c.args.words.now in
     let told = g.F.Files.told c.args.files.now in
     let faults = Rose (g.F.Files.faults c.args.files.now) (g.F.Files.faults c.pass.new.files) in
     let is_pass : form_of words ≡ Some Pass = cc in
     let name : document_file words ≡ c.as_str-in-Some-Pass.result.now = document_file-second string_bytes c.args.words.now c.index-words-1-in-Some-Pass.result
     is_pass c.index-words-1-in-Some-Pass.is ∙ sym c.as_str-in-Some-Pass.ensures.value in
-    Ends-pass words told faults c.in-Ok-pass.ending is_pass
-    (subst (λ file. EndsPass file (told file) faults c.in-Ok-pass.ending) (sym name) c.in-Ok-pass.ensures.ends)
+    elim c.pass.ensures.ends [
+      | inl memory ↦ subst (Ends words told faults) (sym memory) tt
+      | inr ends ↦ Ends-pass words told faults c.pass.result is_pass (subst (λ file. EndsPass file (told file) faults c.pass.result) (sym name) ends)
+    ]
 
 pub returns-in-Err-clause-ends : goal.returns-in-Err-clause-ends
 returns-in-Err-clause-ends g c =

@@ -10,9 +10,8 @@ use Rattle.change_pointers.specs.declared.pointer.Pointer.{Pointer}
 use Rattle.change_pointers.specs.Master.{MakesDocuments}
 use Rattle.application_rules.specs.Gathered.{gathered}
 use Rattle.document_state.specs.OfLog.{applied_by}
-use Rattle.trfc_protocol.specs.Legal.{is_commit}
 use Rattle.landscape.specs.Asked.{Asked, gathered_for, gathered_or_none, with_room}
-use Rattle.landscape.specs.steps.Judged.{JudgedOrNone}
+use Rattle.landscape.specs.steps.Judged.{JudgedCommitsOrNone}
 use Rattle.landscape.proofs.JudgedLemmas.{gathers, not_empty}
 use Rattle.landscape.proofs.WritableLemmas.{gathered-short}
 use Rattle.landscape.proofs.sending.gather_for.Goals as goal
@@ -42,6 +41,6 @@ returns c log are same is type here =
     (ap (λ (o : ObjectsOf). gathered c.args.model.now o (applied_by log).application.pointers c.args.message) (sym objects)
     ∙ ap (λ (p : List Pointer). gathered c.args.model.now c.objects.result.now p c.args.message) (sym pointers) ∙ sym c.in_ok-docs.ensures)
     ∙ ap (λ (name : List ℕ). gathered_or_none (with_room log) name c.in_ok-docs.docs) (sym c.as_slice.ensures) in
-    subst (λ (t : Message). JudgedOrNone log is_commit (gathered_for log c.args.model.now c.args.message t) c.commit_gathered.result) its
-    (subst (λ (asked : Asked). JudgedOrNone log is_commit asked c.commit_gathered.result) (sym (asks ∙ docs))
+    subst (λ (t : Message). JudgedCommitsOrNone log (gathered_for log c.args.model.now c.args.message t) c.commit_gathered.result) its
+    (subst (λ (asked : Asked). JudgedCommitsOrNone log asked c.commit_gathered.result) (sym (asks ∙ docs))
     (c.commit_gathered.ensures log are same c.args.model.now is))

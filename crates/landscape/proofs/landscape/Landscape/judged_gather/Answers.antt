@@ -1,14 +1,12 @@
-use Rattle.trfc_protocol.specs.Legal.{is_commit}
 use Rattle.trfc_protocol.specs.Worlds.{log_of}
 use Rattle.landscape.specs.Asked.{asked_gather}
 use Rattle.landscape.proofs.AllowedLemmas.{gather-may}
-use Rattle.landscape.proofs.CarriedLemmas.{ready-by}
+use Rattle.landscape.proofs.CarriedLemmas.{commits_or_none-ready}
 use Rattle.landscape.proofs.landscape.Landscape.judged_gather.Goals as goal
 
-pub returns-in-Some : goal.returns-in-Some
-returns-in-Some g c =
-    let stand = c.in-Some.ensures in
-    let log = log_of c.args.self.now.world c.args.system in
-    ready-by c.args.self.now.world c.args.system is_commit (λ log. asked_gather log c.args.name.now) c.in-Some.tables.now stand
+pub returns-clause-judged : goal.returns-clause-judged
+returns-clause-judged g c =
+    let stand = c.in_ok-tables.ensures.up in
+    commits_or_none-ready c.args.self.now.world c.args.system (λ log. asked_gather log c.args.name.now) c.in_ok-tables.tables.now stand
     (λ next asked. gather-may (log_of c.args.self.now.world c.args.system) stand.model stand.in_force stand.kept c.args.name.now next asked) c.gather.result
     (c.gather.ensures (log_of c.args.self.now.world c.args.system) stand.stand stand.sent)

@@ -17,15 +17,15 @@ begun-requires-clause-begun g c =
     let text : c.as_slice.result.now ≡ c.args.text = (let a = c.as_slice.ensures in let b = c.text.view_is in cc) in
     let so_far =
     subst (λ m. AreBegunSoFar g.V.Volumes.disk m c.args.text c.args.moment
-    c.args.vols m c.in-Ok.kept) many
+    c.args.vols m c.in_ok-kept.kept) many
     (subst (λ (t : List ℕ). AreBegunSoFar g.V.Volumes.disk
-    c.len-systems.result t c.args.moment c.args.vols c.len-systems.result c.in-Ok.kept) text
-    c.in-Ok.ensures) in
+    c.len-systems.result t c.args.moment c.args.vols c.len-systems.result c.in_ok-kept.kept) text
+    c.in_ok-kept.ensures) in
     has-begun g.V.Volumes.disk (length (arc_value c.args.model).systems)
-    c.args.text c.args.moment c.args.vols c.in-Ok.kept so_far
+    c.args.text c.args.moment c.args.vols c.in_ok-kept.kept so_far
 
 pub begun-requires-clause-writable : goal.begun-requires-clause-writable
-begun-requires-clause-writable g c = record { each = commit-writable c.in-Ok.kept.world.rules.systems }
+begun-requires-clause-writable g c = record { each = commit-writable c.in_ok-kept.kept.world.rules.systems }
 
 pub new-requires : goal.new-requires
 new-requires g c =
@@ -34,25 +34,25 @@ new-requires g c =
     let text : c.as_slice.result.now ≡ c.args.text = (let a = c.as_slice.ensures in let b = c.text.view_is in cc) in
     let so_far =
     subst (λ m. AreBegunSoFar g.V.Volumes.disk m c.args.text c.args.moment
-    c.args.vols m c.in-Ok.kept) many
+    c.args.vols m c.in_ok-kept.kept) many
     (subst (λ (t : List ℕ). AreBegunSoFar g.V.Volumes.disk
-    c.len-systems.result t c.args.moment c.args.vols c.len-systems.result c.in-Ok.kept) text
-    c.in-Ok.ensures) in
+    c.len-systems.result t c.args.moment c.args.vols c.len-systems.result c.in_ok-kept.kept) text
+    c.in_ok-kept.ensures) in
     subst (λ (k : KeptOf ModelRules DocumentTables g.row.V.Denot). AreBegun k.world) (sym c.begun.ensures)
     (are-begun g.V.Volumes.disk (length (arc_value c.args.model).systems)
-    c.args.text c.args.moment c.args.vols c.in-Ok.kept so_far (arc_value c.args.model) c.requires.said refl)
+    c.args.text c.args.moment c.args.vols c.in_ok-kept.kept so_far (arc_value c.args.model) c.requires.said refl)
 
-pub returns-in-Ok-clause-opened : goal.returns-in-Ok-clause-opened
-returns-in-Ok-clause-opened g c =
+pub returns-clause-opened : goal.returns-clause-opened
+returns-clause-opened g c =
     let many : c.len-systems.result ≡ length (arc_value c.args.model).systems = (let
     a = c.len-systems.ensures in let b = c.as_lists.ensures.same in let d = c.deref.ensures in cc) in
     let text : c.as_slice.result.now ≡ c.args.text = (let a = c.as_slice.ensures in let b = c.text.view_is in cc) in
     let so_far =
     subst (λ m. AreBegunSoFar g.V.Volumes.disk m c.args.text c.args.moment
-    c.args.vols m c.in-Ok.kept) many
+    c.args.vols m c.in_ok-kept.kept) many
     (subst (λ (t : List ℕ). AreBegunSoFar g.V.Volumes.disk
-    c.len-systems.result t c.args.moment c.args.vols c.len-systems.result c.in-Ok.kept) text
-    c.in-Ok.ensures) in
+    c.len-systems.result t c.args.moment c.args.vols c.len-systems.result c.in_ok-kept.kept) text
+    c.in_ok-kept.ensures) in
     subst (HasOpened (length (arc_value c.args.model).systems) c.args.text c.args.moment) (sym (c.new.ensures ∙ c.begun.ensures))
     (has-opened g.V.Volumes.disk (length (arc_value c.args.model).systems)
-    c.args.text c.args.moment c.args.vols c.in-Ok.kept so_far)
+    c.args.text c.args.moment c.args.vols c.in_ok-kept.kept so_far)

@@ -1,4 +1,5 @@
 use Rattle.std.proofs.Common.{◌≡◌, [], suc, ◌+◌, ◌∙◌, ap, arith, length, sym, subst}
+use Rattle.std.proofs.lemmas.Result.{err_from_is_err_and}
 use Rattle.trfc_protocol.specs.declared.world.World.{World}
 use Rattle.document_state.specs.declared.model_rules.ModelRules.{ModelRules}
 use Rattle.landscape.specs.steps.Opening.{AreBegunSoFar, AreOpened, OpensAs}
@@ -17,21 +18,22 @@ loop-number-init g c text =
     (ap (λ (w : World ModelRules). length w.systems) c.new-opening.ensures.world) c.new-opening.ensures.count c.new-opening.ensures.moment
     c.new-opening.ensures.vols
 
-pub returns-in-Err : goal.returns-in-Err
-returns-in-Err g c text =
-    subst (OpensAs g.V.Volumes.disk c.args.systems text c.args.moment
-    c.args.vols (suc c.loop-number._number)) c.in-Err.is
+pub returns-in_err-opening : goal.returns-in_err-opening
+returns-in_err-opening g c text =
+    let p = err_from_is_err_and c.from_residual.result c.from_residual.ensures.1 in
+    rw (p.1, p.2) (subst (OpensAs g.V.Volumes.disk c.args.systems text c.args.moment
+    c.args.vols (suc c.loop-number._number)) c.in_err-opening.was
     (opens-at g.V.Volumes.disk c.loop-number.opening c.open_next.result
     c.open_next.ensures c.args.systems c.loop-number._number text c.args.moment c.args.vols
-    (c.loop-number.invariant text))
+    (c.loop-number.invariant text)))
 
 pub loop-number-preserved : goal.loop-number-preserved
 loop-number-preserved g c text =
     let more : suc c.loop-number._number ≡ c.loop-number._number + 1 = omega arith in
     subst (λ k. AreOpened g.V.Volumes.disk c.args.systems text c.args.moment
-    c.args.vols k c.in-Ok.next) more
+    c.args.vols k c.in_ok-opening.opening) more
     (subst (OpensAs g.V.Volumes.disk c.args.systems text c.args.moment
-    c.args.vols (suc c.loop-number._number)) c.in-Ok.is
+    c.args.vols (suc c.loop-number._number)) c.in_ok-opening.was
     (opens-at g.V.Volumes.disk c.loop-number.opening c.open_next.result
     c.open_next.ensures c.args.systems c.loop-number._number text c.args.moment c.args.vols
     (c.loop-number.invariant text)))
