@@ -2,17 +2,17 @@
 -- rows that it waits for.
 use Rattle.std.specs.Prelude.{Contains, slice_get, nat_eq, fold, map, filter, ◌==◌, ◌&&◌, if◌then◌else◌}
 use Rattle.std.specs.List.{AllByRecursion, cons_option, list_all}
-use Rattle.std.specs.Option.{option_map, option_map_or}
+use Rattle.std.specs.Option.{ForSome, option_map, option_map_or}
 use Rattle.std.proofs.Common.{nat_le, ◌≡◌, ℕ, zero, suc, ◌+◌, ◌-◌, ◌≤◌, Bool, true, false, cond, Option, Some, None, Result, Ok, Err, List, [], ◌∷◌}
-use Rattle.std.proofs.Common.{◌++◌, length, refl, sym, ap, subst, ◌∙◌, arith}
+use Rattle.std.proofs.Common.{◌++◌, length, inl, inr, refl, sym, ap, subst, ◌∙◌, arith}
 use Rattle.std.proofs.lemmas.Bool.{and_parts, eqb-true}
 use Rattle.std.proofs.lemmas.Option.{same_Some, slice_get-map}
 use Rattle.ale_base.specs.Blanks.{trimmed}
-use Rattle.ale_base.proofs.ListLemmas.{AllByRecursion-append, AllByRecursion-at, AllByRecursion-flat_map, AllByRecursion-map, AllByRecursion-of}
+use Rattle.ale_base.proofs.ListLemmas.{AllByRecursion-append, AllByRecursion-at, AllByRecursion-flat_map, AllByRecursion-map, AllByRecursion-of, Contains-at}
 use Rattle.ale_base.proofs.ListLemmas.{AllByRecursion-weaker, slice_get-within}
 use Rattle.ale_base.specs.declared.queue_name.NameFault.{NameFault}
 use Rattle.idoc_record.specs.declared.control_field.ControlField.{ControlField}
-use Rattle.idoc_record.specs.declared.control_field.ControlField.TheVariants.{Rcvprn, Rcvprt, Sndprn, Sndprt}
+use Rattle.idoc_record.specs.declared.control_field.ControlField.TheVariants.{Mestyp, Rcvprn, Rcvprt, Sndprn, Sndprt}
 use Rattle.idoc_record.specs.Control.{control_with, field_of}
 use Rattle.idoc_record.proofs.FieldsLemmas.{field_of-control_with}
 use Rattle.segment_defs.specs.Name.{is_name_byte, is_name_within}
@@ -21,8 +21,12 @@ use Rattle.dist_model.specs.declared.lists.Lists.{Lists}
 use Rattle.dist_model.specs.declared.outbound.Outbound.{Outbound}
 use Rattle.dist_model.specs.declared.row.Row.{Row}
 use Rattle.dist_model.specs.declared.system.System.{System}
-use Rattle.dist_model.specs.Model.{HasSystem, IsModel, goes_from, outbound_of, receivers_of}
-use Rattle.dist_model.specs.Named.{system_name}
+use Rattle.dist_model.specs.declared.message.Message.{Message}
+use Rattle.dist_model.specs.declared.message.Reduced.{Reduced}
+use Rattle.dist_model.specs.Message.{IsMessage, IsReduced}
+use Rattle.dist_model.specs.Model.{HasSystem, IsModel, StandsForMessage, goes_from, outbound_of, receivers_of}
+use Rattle.dist_model.specs.Named.{message_name, reduced_name, system_name}
+use Rattle.dist_model.specs.Outbound.{IsOutbound, IsReductionOf}
 use Rattle.dist_model.specs.System.{IsSystem}
 use Rattle.idoc_tree.specs.Forest.{Forest, no_trees, tree}
 use Rattle.unit_core.specs.declared.raw_unit_doc.RawUnitDoc.{RawUnitDoc}
@@ -41,7 +45,7 @@ use Rattle.outbound_build.specs.Added.{Master, batch_of, dispatched, master_of, 
 use Rattle.outbound_build.specs.Added.{still_waiting, waiting_for, waits_as, waits_of, with_document, with_master, with_row, with_rows}
 use Rattle.outbound_build.specs.Added.{with_sent, with_unit}
 use Rattle.outbound_build.specs.Addressed.{AreAddressed, AreMadeFor, AreUnitsAddressed, IsAddressed, IsForRow}
-use Rattle.outbound_build.specs.ControlRecord.{control_text}
+use Rattle.outbound_build.specs.ControlRecord.{control_text, sent_name}
 use Rattle.outbound_build.specs.Document.{Document, carried}
 use Rattle.outbound_build.specs.QueueNames.{queues_by}
 use Rattle.outbound_build.specs.Sent.{kept_by, made_of, sent}
@@ -87,6 +91,35 @@ names-system model kept (suc place) text least most is =
         let rest = and_parts (nat_le 1 (length text)) (nat_le (length text) 10 && list_all is_name_byte text) is in
         (and_parts (nat_le (length text) 10) (list_all is_name_byte text) rest.1).1
 
+-- the text of a field that has the name of what a profile sends stands for the profile's message type
+names-message : (model : Lists) → IsModel model → (profile : Outbound) → Contains model.outbound profile → (text : List ℕ)
+    → text ≡ trimmed (sent_name model profile) → StandsForMessage model text profile.message
+names-message model kept profile among text is = by_reduced profile.reduced own.reduction is
+  where
+    own : IsOutbound (length model.releases) (length model.systems) model.definitions model.types model.messages model.reduced profile
+    own = is_outbound model profile kept among
+
+    by_reduced : (o : Option ℕ) → ForSome o (IsReductionOf model.reduced profile.message)
+        → text ≡ trimmed (option_map_or (reduced_name model) o (message_name model profile.message)) → StandsForMessage model text profile.message
+    by_reduced None none same =
+        let name : Message → List ℕ = λ message. message.name in
+        let got = slice_get-within model.messages profile.message own.way.message in
+        let keeps = AllByRecursion-at (IsMessage model.definitions model.types model.kinds) model.messages profile.message got.0 kept.messages.each got.1 in
+        let named : message_name model profile.message ≡ name got.0 = ap (λ (o : Option Message). option_map_or name o []) got.1 in
+        inl (slice_get-map name model.messages profile.message ∙ ap (option_map name) got.1
+        ∙ ap Some (sym (same ∙ ap trimmed named ∙ name-trimmed (name got.0) keeps.named.bytes)))
+    by_reduced (Some place) reduction same =
+        let is_of = reduction place refl in
+        let one = is_of.one in
+        let keeps = AllByRecursion-at (IsReduced model.definitions model.types model.messages) model.reduced place one kept.reduced.each is_of.here in
+        let named : reduced_name model place ≡ one.name = ap (λ (o : Option Reduced). option_map_or (λ (r : Reduced). r.name) o []) is_of.here in
+        inr (record {
+          one = one;
+          among = Contains-at model.reduced place one is_of.here;
+          named = sym (same ∙ ap trimmed named ∙ name-trimmed one.name keeps.named.bytes);
+          basic = is_of.own;
+        })
+
 made-control : (model : Lists) (profile : Outbound) (number : ℕ) (control : List ℕ) (kept : Forest) (document : Document)
     → made_of model profile number control kept ≡ Some document → document.control ≡ control_with (control_text model profile number control)
 made-control model profile number control no_trees document made = absurd (cc)
@@ -110,6 +143,15 @@ module _ (model : Lists) (kept : IsModel model) (system : ℕ) where
 
       read : (field : ControlField) → field_of document.control field ≡ trimmed (texts field)
       read field = ap (λ (bytes : List ℕ). field_of bytes field) is ∙ field_of-control_with texts field (texts-room model profile number master kept among)
+
+  -- what a profile makes is named by its message type, or by a reduced one of it
+  profile-named : (profile : Outbound) (number : ℕ) (master : List ℕ) (document : RawUnitDoc) → Contains model.outbound profile
+      → document.control ≡ control_with (control_text model profile number master)
+      → StandsForMessage model (field_of document.control Mestyp) profile.message
+  profile-named profile number master document among is =
+      let texts : ControlField → List ℕ = control_text model profile number master in
+      names-message model kept profile among (field_of document.control Mestyp)
+      (ap (λ (bytes : List ℕ). field_of bytes Mestyp) is ∙ field_of-control_with texts Mestyp (texts-room model profile number master kept among))
 
   -- a profile of a row goes where the row goes
   row-addressed : (row : ℕ) (of : Row) (profile : Outbound) (document : RawUnitDoc) → slice_get model.rows row ≡ Some of → of.sender ≡ system
@@ -139,6 +181,8 @@ module _ (model : Lists) (kept : IsModel model) (system : ℕ) where
         own = own;
         addressed = row-addressed row of profile document_made here own found
             (profile-addressed profile number master.control document_made (outbound_of-Contains model row profile found) control);
+        named = subst (StandsForMessage model (field_of document_made.control Mestyp)) (profile-row model row of profile here found).message
+            (profile-named profile number master.control document_made (outbound_of-Contains model row profile found) control);
       }
 
   -- a parcel is for its receiver

@@ -7,7 +7,7 @@ use Rattle.std.proofs.Common.{length, take, drop, refl, sym, ap, subst, ◌∙�
 use Rattle.std.proofs.Common.{append_assoc, length-drop}
 use Rattle.std.proofs.lemmas.Bool.{cond-true}
 use Rattle.std.proofs.lemmas.Bool.Decides.{nat_tests}
-use Rattle.std.proofs.lemmas.List.{append-nil, length-map, map-append, take-append-drop}
+use Rattle.std.proofs.lemmas.List.{append-nil, length-map, length-take, map-append, take-append-drop}
 use Rattle.ale_base.proofs.ListLemmas.{AllByRecursion-at, slice_get-within}
 use Rattle.ale_base.proofs.MemberLemmas.{filter_map-None, filter_map-Some}
 use Rattle.ale_base.specs.declared.doc_num.DocNum.{DocNum}
@@ -31,7 +31,7 @@ use Rattle.outbound_build.specs.declared.parcel.Parcel.{Parcel}
 use Rattle.outbound_build.specs.declared.queue_lists.QueueLists.{QueueLists}
 use Rattle.outbound_build.specs.Added.{Master, batch_of, dispatched, master_of, no_batch, numbered, packed, packed_for, packets, parcel_of, rows_of}
 use Rattle.outbound_build.specs.Added.{waiting_for, with_document, with_master, with_row, with_rows, with_sent, with_unit}
-use Rattle.outbound_build.specs.Carried.{AreCarried, AreLoads, AreLoadsByRow, load_of, sent_as, sent_in, waits_for}
+use Rattle.outbound_build.specs.Carried.{AreCarried, AreFilled, AreLoads, AreLoadsByRow, IsFilled, load_of, sent_as, sent_in, waits_for}
 use Rattle.outbound_build.specs.Document.{Document, carried}
 use Rattle.outbound_build.specs.QueueNames.{queues_by}
 use Rattle.outbound_build.specs.Sent.{sent}
@@ -172,6 +172,49 @@ packets-carried profile some (suc n) (one ∷ waiting) less =
       packets-carried profile some n (drop size all) (omega (arith, length-drop size all, some, less)),
     )
 
+-- how many documents the packet of so many has
+packet-length : (profile : Outbound) (all : List Waiting)
+    → length (parcel_load (packed profile (take profile.packet all))).1 ≡ length (take profile.packet all)
+packet-length profile all = length-map (take profile.packet all) (λ (one : Waiting). one.document)
+
+-- the first packet is full, unless no document is behind it
+first-filled : (profile : Outbound) → 1 ≤ profile.packet → (all rest : List Waiting) → 1 ≤ length all → drop profile.packet all ≡ rest
+    → IsFilled profile.packet (parcel_load (packed profile (take profile.packet all))) (map parcel_load (map (packed profile) (packets profile.packet rest)))
+first-filled profile some all [] any is =
+    let size = profile.packet in
+    let first = parcel_load (packed profile (take size all)) in
+    let none : length (drop size all) ≡ 0 = ap length is in
+    let whole : length (take size all) ≡ length all = length-append-parts in
+    let few : length all ≤ size = omega (arith, none, length-drop size all) in
+    subst (λ (ps : List (List Waiting)). IsFilled size first (map parcel_load (map (packed profile) ps))) (sym (packets-none size some))
+    (omega (arith, any, whole, packet-length profile all), omega (arith, few, whole, packet-length profile all))
+  where
+    length-append-parts : length (take profile.packet all) ≡ length all
+    length-append-parts =
+        omega (arith, length-take profile.packet all, length-drop profile.packet all, ap length is)
+first-filled profile some all (one ∷ rest) any is =
+    let size = profile.packet in
+    let first = parcel_load (packed profile (take size all)) in
+    let left : length (drop size all) ≡ suc (length rest) = ap length is in
+    let full : length (take size all) ≡ size = omega (arith, length-take size all, length-drop size all, left) in
+    subst (λ (ps : List (List Waiting)). IsFilled size first (map parcel_load (map (packed profile) ps)))
+    (sym (packets-first size (one ∷ rest) some (omega arith))) (packet-length profile all ∙ full)
+
+-- packets are full, all but the last
+packets-filled : (profile : Outbound) → 1 ≤ profile.packet → (n : ℕ) (waiting : List Waiting) → length waiting ≤ n
+    → AreFilled profile.packet (map parcel_load (map (packed profile) (packets profile.packet waiting)))
+packets-filled profile some n [] less =
+    subst (λ (ps : List (List Waiting)). AreFilled profile.packet (map parcel_load (map (packed profile) ps))) (sym (packets-none profile.packet some)) tt
+packets-filled profile some zero (one ∷ waiting) less = absurd (omega (arith, less))
+packets-filled profile some (suc n) (one ∷ waiting) less =
+    let all = one ∷ waiting in
+    let size = profile.packet in
+    let any : 1 ≤ length all = omega arith in
+    subst (λ (ps : List (List Waiting)). AreFilled size (map parcel_load (map (packed profile) ps))) (sym (packets-first size all some any)) (
+      first-filled profile some all (drop size all) any refl,
+      packets-filled profile some n (drop size all) (omega (arith, length-drop size all, some, less)),
+    )
+
 found-within : {A : Type 0} (test : A → Bool) (xs : List A) → list_any test xs ≡ true → position_or_len test xs < length xs
 found-within test [] is = absurd (cc)
 found-within {A} test (x ∷ xs) is = by_test (found-within test xs) (test x) is
@@ -209,14 +252,24 @@ module _ (model : Lists) (kept : IsModel model) where
       subst (λ (o : Option Outbound). AreLoads (map parcel_load (option_map_or (λ p. map (packed p) (packets p.packet own)) o [])) (map pair own))
       (sym found.1) (packets-carried profile some (length own) own (omega arith))
 
+  -- in packets of its profile's size
+  row-filled : (waiting : List Waiting) (row : ℕ) (profile : Outbound) → outbound_of model row ≡ Some profile
+      → AreFilled profile.packet (map parcel_load (packed_for model waiting row))
+  row-filled waiting row profile found =
+      let own = waiting_for row waiting in
+      let some = (is_outbound model profile kept (outbound_of-Contains model row profile found)).some in
+      subst (λ (o : Option Outbound). AreFilled profile.packet (map parcel_load (option_map_or (λ p. map (packed p) (packets p.packet own)) o [])))
+      (sym found) (packets-filled profile some (length own) own (omega arith))
+
   rows-packed : (waiting : List Waiting) (test : Row → Bool) (rows : List ℕ) → AllByRecursion (HasAt test model.rows) rows
-      → AreLoadsByRow waiting rows (map parcel_load (flat_map (packed_for model waiting) rows))
+      → AreLoadsByRow model waiting rows (map parcel_load (flat_map (packed_for model waiting) rows))
   rows-packed waiting test [] each = refl
   rows-packed waiting test (row ∷ rows) each = (
     map parcel_load (packed_for model waiting row),
     map parcel_load (flat_map (packed_for model waiting) rows),
     map-append parcel_load (packed_for model waiting row) (flat_map (packed_for model waiting) rows),
     row-packed waiting row each.0.element each.0.here,
+    row-filled waiting row,
     rows-packed waiting test rows each.1,
   )
 
@@ -233,7 +286,7 @@ module _ (model : Lists) (kept : IsModel model) where
   added-carried system outbox number Dispatch =
       let sends = λ (r : Row). nat_eq system r.sender in (
         refl,
-        subst (AreLoadsByRow outbox.waiting (rows_of system model)) (sym (loads-numbered system number (dispatched model system outbox.waiting)))
+        subst (AreLoadsByRow model outbox.waiting (rows_of system model)) (sym (loads-numbered system number (dispatched model system outbox.waiting)))
             (rows-packed outbox.waiting sends (rows_of system model) (places_from-pass sends 0 [] model.rows refl)),
       )
   added-carried system outbox number _ = (refl, refl)

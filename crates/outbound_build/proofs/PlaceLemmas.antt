@@ -66,15 +66,15 @@ module _ (number : ℕ) where
   rows_times waiting [] = 0
   rows_times waiting (row ∷ rows) = times number (map (λ one. one.0) (waits_for row waiting)) + rows_times waiting rows
 
-  by_row-times : (waiting : List Waiting) (rows : List ℕ) (loads : List (List DocNum × List RawUnitDoc)) → AreLoadsByRow waiting rows loads
-      → times number (numbers_in loads) ≡ rows_times waiting rows
-  by_row-times waiting [] loads none = ap (λ (ls : List (List DocNum × List RawUnitDoc)). times number (numbers_in ls)) none
-  by_row-times waiting (row ∷ rows) loads are =
+  by_row-times : (model : Lists) (waiting : List Waiting) (rows : List ℕ) (loads : List (List DocNum × List RawUnitDoc))
+      → AreLoadsByRow model waiting rows loads → times number (numbers_in loads) ≡ rows_times waiting rows
+  by_row-times model waiting [] loads none = ap (λ (ls : List (List DocNum × List RawUnitDoc)). times number (numbers_in ls)) none
+  by_row-times model waiting (row ∷ rows) loads are =
       ap (λ (ls : List (List DocNum × List RawUnitDoc)). times number (numbers_in ls)) are.2
       ∙ ap (times number) (flat_map-append (λ (load : List DocNum × List RawUnitDoc). load.0) are.0 are.1)
       ∙ times-append (numbers_in are.0) (numbers_in are.1)
       ∙ ap (λ (n : ℕ). n + times number (numbers_in are.1)) (loads-times are.0 (waits_for row waiting) are.3)
-      ∙ ap (λ (n : ℕ). times number (map (λ one. one.0) (waits_for row waiting)) + n) (by_row-times waiting rows are.1 are.4)
+      ∙ ap (λ (n : ℕ). times number (map (λ one. one.0) (waits_for row waiting)) + n) (by_row-times model waiting rows are.1 are.5)
 
   -- ---- rows
 
@@ -262,7 +262,7 @@ module _ (number : ℕ) where
       turned : (a b c : ℕ) → a ≡ c → a + b ≡ b + c
       turned a b c same = omega (arith, same)
   carried-times model system waiting Dispatch added are waits =
-      whole _ _ _ (ap (times number) (units-numbers added.units) ∙ by_row-times waiting (rows_of system model) (map load_of added.units) are.1
+      whole _ _ _ (ap (times number) (units-numbers added.units) ∙ by_row-times model waiting (rows_of system model) (map load_of added.units) are.1
       ∙ rows-all model system waiting (waits refl))
       (ap (λ (ds : List OutDocument). times number (map (λ one. one.0) (sent_in ds))) are.0)
     where
@@ -372,11 +372,33 @@ numbered-once number place (one ∷ documents) numbered least most =
         let whole = over (omega (arith, differ, at, least)) in
         ap (λ (b : Bool). cond b 1 0 + rest) is ∙ nothing-before rest 1 whole
 
--- each document of a log is in one place
+-- a number behind those of the documents is none of theirs
+numbered-beyond : (number place : ℕ) (documents : List OutDocument)
+    → ((k : ℕ) (one : OutDocument) → slice_get documents k ≡ Some one → one.number.0 ≡ place + k)
+    → place + length documents ≤ number → times number (map (λ one. one.number) documents) ≡ 0
+numbered-beyond number place [] numbered past = refl
+numbered-beyond number place (one ∷ documents) numbered past =
+    let rest = numbered-beyond number (suc place) documents
+    (λ k other here. let shift : place + suc k ≡ suc place + k = omega arith in numbered (suc k) other here ∙ shift) (omega (arith, past)) in
+    times-cons number one.number (map (λ d. d.number) documents) ∙ ap (λ (n : ℕ). n + times number (map (λ d. d.number) documents)) own
+    ∙ nothing-before (times number (map (λ d. d.number) documents)) 0 rest
+  where
+    own : hit number one.number ≡ 0
+    own = elim (eqb_tells one.number.0 number) [
+      | inl (is, same) ↦ absurd (let at = numbered 0 one refl in omega (arith, past, same, at))
+      | inr (is, differ) ↦ ap (λ (b : Bool). cond b 1 0) is
+    ]
+
+-- each document of a log is in one place, and no place has a number that is none of theirs
 pub each-once : (models : List Lists) (log : List Record) → IsPlaced (past_of models log) → IsEachOnce (past_of models log)
 each-once models log placed = record {
-  once = λ number least most.
-      placed.same number
-      ∙ numbered-once number 1 (documents_of models log)
-      (λ k one here. let shift : suc k ≡ 1 + k = omega arith in documents-numbered models log k one here ∙ shift) least (omega (arith, most));
+  once = λ number least most. placed.same number ∙ numbered-once number 1 (documents_of models log) numbered least (omega (arith, most));
+  none = λ number other. placed.same number ∙ by_side number other;
 }
+  where
+    numbered : (k : ℕ) (one : OutDocument) → slice_get (documents_of models log) k ≡ Some one → one.number.0 ≡ 1 + k
+    numbered k one here = let shift : suc k ≡ 1 + k = omega arith in documents-numbered models log k one here ∙ shift
+
+    by_side : (number : ℕ) → (number < 1) ⊎ (length (documents_of models log) < number) → times number (map (λ one. one.number) (documents_of models log)) ≡ 0
+    by_side number (inl low) = numbered-none number 1 (documents_of models log) numbered low
+    by_side number (inr past) = numbered-beyond number 1 (documents_of models log) numbered (omega (arith, past))

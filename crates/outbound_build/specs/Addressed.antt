@@ -2,11 +2,11 @@
 -- IDoc interface, control record: a partner is its type, LS for a logical system, and its number.
 use Rattle.std.specs.Prelude.{◌≡◌, ℕ, List, Some, codes, slice_get}
 use Rattle.std.specs.List.{AllByRecursion}
-use Rattle.idoc_record.specs.declared.control_field.ControlField.TheVariants.{Rcvprn, Rcvprt, Sndprn, Sndprt}
+use Rattle.idoc_record.specs.declared.control_field.ControlField.TheVariants.{Mestyp, Rcvprn, Rcvprt, Sndprn, Sndprt}
 use Rattle.idoc_record.specs.Control.{field_of}
 use Rattle.dist_model.specs.declared.lists.Lists.{Lists}
 use Rattle.dist_model.specs.declared.row.Row.{Row}
-use Rattle.dist_model.specs.Model.{HasSystem}
+use Rattle.dist_model.specs.Model.{HasSystem, StandsForMessage}
 use Rattle.unit_core.specs.declared.ale_unit.AleUnit.{AleUnit}
 use Rattle.unit_core.specs.declared.raw_unit_doc.RawUnitDoc.{RawUnitDoc}
 use Rattle.outbound_build.specs.declared.added.OutDocument.{OutDocument}
@@ -20,12 +20,14 @@ pub record IsAddressed (model : Lists) (sender receiver : ℕ) (document : RawUn
   pub receives : HasSystem model (field_of document.control Rcvprn) receiver
   pub receives_as : field_of document.control Rcvprt ≡ codes "LS"
 
--- a document is from a system to the receiver of a row of the model, which is a row of that system
+-- A document is from a system to the receiver of a row of the model, which is a row of that system. It is named by the message type of the row, or by
+-- a reduced one of it.
 pub record IsForRow (model : Lists) (system row : ℕ) (document : RawUnitDoc) : Type 0 where
   pub of : Row
   pub here : slice_get model.rows row ≡ Some of
   pub own : of.sender ≡ system
   pub addressed : IsAddressed model system of.receiver document
+  pub named : StandsForMessage model (field_of document.control Mestyp) of.message
 
 -- documents that were made are each for the row by which it was made
 abbrev pub AreMadeFor : Lists → ℕ → List OutDocument → Type 0

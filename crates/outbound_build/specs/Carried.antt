@@ -1,9 +1,11 @@
 -- Which documents the units carry that a record adds, in other words than the steps that make them: exactly those that a Commit sends at
--- once, and those that wait for the rows at a Dispatch, each once and in order. This project's own.
-use Rattle.std.specs.Prelude.{◌≡◌, ℕ, ◌==◌, List, [], ◌∷◌, ◌++◌, map, filter, Option, Some, None}
+-- once, and those that wait for the rows at a Dispatch, in packets, each once and in order. This project's own.
+use Rattle.std.specs.Prelude.{◌≡◌, ⊤, ℕ, ◌≤◌, ◌==◌, List, [], ◌∷◌, ◌++◌, length, map, filter, Option, Some, None}
 use Rattle.std.specs.List.{filter_map}
 use Rattle.ale_base.specs.declared.doc_num.DocNum.{DocNum}
 use Rattle.dist_model.specs.declared.lists.Lists.{Lists}
+use Rattle.dist_model.specs.declared.outbound.Outbound.{Outbound}
+use Rattle.dist_model.specs.Model.{outbound_of}
 use Rattle.unit_core.specs.declared.raw_unit_doc.RawUnitDoc.{RawUnitDoc}
 use Rattle.unit_core.specs.declared.records.Record.{Record}
 use Rattle.unit_core.specs.declared.records.Record.TheVariants.{Commit, Dispatch}
@@ -34,12 +36,24 @@ AreLoads (load ∷ loads) documents =
 abbrev pub waits_for : ℕ → List Waiting → List (DocNum × RawUnitDoc)
 waits_for row waiting = map (λ one. (one.number, one.document)) (filter (λ one. one.row == row) waiting)
 
--- loads are, row after row, what waits for each of these rows: no load has documents of two rows
-abbrev pub AreLoadsByRow : List Waiting → List ℕ → List (List DocNum × List RawUnitDoc) → Type 0
-AreLoadsByRow waiting [] loads = loads ≡ []
-AreLoadsByRow waiting (row ∷ rows) loads =
+-- a load before these fills a packet of this size; one that is the last has a document at least, and no more than fit
+abbrev pub IsFilled : ℕ → List DocNum × List RawUnitDoc → List (List DocNum × List RawUnitDoc) → Type 0
+IsFilled size load [] = (1 ≤ length load.1) × (length load.1 ≤ size)
+IsFilled size load (next ∷ loads) = length load.1 ≡ size
+
+-- loads fill packets of this size, all but the last
+abbrev pub AreFilled : ℕ → List (List DocNum × List RawUnitDoc) → Type 0
+AreFilled size [] = ⊤
+AreFilled size (load ∷ loads) = IsFilled size load loads × AreFilled size loads
+
+-- Loads are, row after row, what waits for each of these rows: no load has documents of two rows. Those of a row fill packets of the size that its
+-- profile names.
+abbrev pub AreLoadsByRow : Lists → List Waiting → List ℕ → List (List DocNum × List RawUnitDoc) → Type 0
+AreLoadsByRow model waiting [] loads = loads ≡ []
+AreLoadsByRow model waiting (row ∷ rows) loads =
     (own : List (List DocNum × List RawUnitDoc)) × (others : List (List DocNum × List RawUnitDoc)) × (loads ≡ own ++ others)
-    × AreLoads own (waits_for row waiting) × AreLoadsByRow waiting rows others
+    × AreLoads own (waits_for row waiting) × ((profile : Outbound) → outbound_of model row ≡ Some profile → AreFilled profile.packet own)
+    × AreLoadsByRow model waiting rows others
 
 -- the number and the document, where it is sent at once
 abbrev pub sent_as : OutDocument → Fate → Option (DocNum × RawUnitDoc)
@@ -54,5 +68,5 @@ sent_in documents = filter_map (λ document. sent_as document document.fate) doc
 -- any
 abbrev pub AreCarried : Lists → ℕ → List Waiting → Record → Added → Type 0
 AreCarried model system waiting (Commit origin docs) added = AreLoads (map load_of added.units) (sent_in added.documents)
-AreCarried model system waiting Dispatch added = (added.documents ≡ []) × AreLoadsByRow waiting (rows_of system model) (map load_of added.units)
+AreCarried model system waiting Dispatch added = (added.documents ≡ []) × AreLoadsByRow model waiting (rows_of system model) (map load_of added.units)
 AreCarried model system waiting _ added = (added.documents ≡ []) × (added.units ≡ [])

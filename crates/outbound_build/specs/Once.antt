@@ -1,5 +1,5 @@
 -- Each outbound document of a log is in one unit, or waits, or was refused: by the numbers of documents. This project's own.
-use Rattle.std.specs.Prelude.{◌≡◌, ℕ, ◌+◌, ◌≤◌, ◌==◌, List, map, length, Option, Some, None}
+use Rattle.std.specs.Prelude.{◌≡◌, ◌⊎◌, ℕ, ◌+◌, ◌<◌, ◌≤◌, ◌==◌, List, map, length, Option, Some, None}
 use Rattle.std.specs.List.{count_by, filter_map, flat_map}
 use Rattle.ale_base.specs.declared.doc_num.DocNum.{DocNum}
 use Rattle.outbound_build.specs.declared.added.Fate.{Fate}
@@ -26,6 +26,7 @@ places_of past number =
     times number (flat_map (λ one. one.documents) past.units) + times number (map (λ one. one.number) past.outbox.waiting)
     + times number (refused_in past.documents)
 
--- the number of each document stands in one place
+-- the number of each document stands in one place, and no other number stands in any
 pub record IsEachOnce (past : Past) : Type 0 where
   pub once : (number : ℕ) → 1 ≤ number → number ≤ length past.documents → places_of past number ≡ 1
+  pub none : (number : ℕ) → (number < 1) ⊎ (length past.documents < number) → places_of past number ≡ 0
