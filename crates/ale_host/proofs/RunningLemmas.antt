@@ -1,8 +1,6 @@
 -- A run from the systems that were opened on.
 
-use Rattle.std.specs.Prelude.{slice_get}
-use Rattle.std.specs.List.{range_with_len}
-use Rattle.std.proofs.Common.{◌≡◌, ◌≤◌, ◌⊎◌, ℕ, zero, suc, false, Option, None, Some, Ok, List, [], ◌∷◌, ◌++◌, length, map, inl, inr, refl, sym, ap, subst, ◌∙◌}
+use Rattle.std.proofs.Common.{◌≡◌, ◌≤◌, ℕ, suc, Option, None, Some, Ok, List, [], ◌∷◌, ◌++◌, length, map, inr, refl, sym, ap, subst, ◌∙◌}
 use Rattle.std.proofs.lemmas.Bool.{leb-true}
 use Rattle.std.specs.Arc.{arc_value}
 use Rattle.ale_volumes.specs.Disk.{Disk}
@@ -14,12 +12,8 @@ use Rattle.unit_core.specs.declared.records.Record.{Record}
 use Rattle.unit_core.specs.declared.raw_unit_doc.RawUnitDoc.{RawUnitDoc}
 use Rattle.script_text.specs.declared.command.Command.{Command}
 use Rattle.ale_base.specs.Tid.{TidOf}
-use Rattle.ale_base.specs.declared.way.Way.{Way}
-use Rattle.ale_base.specs.declared.way.Way.TheVariants.{Outgoing, Incoming}
-use Rattle.unit_core.specs.Filters.{is_marked, is_stopped}
-use Rattle.trfc_protocol.specs.declared.world.World.{World}
-use Rattle.trfc_protocol.specs.Start.{first_state, first_world, genesis_log, genesis_logs}
-use Rattle.trfc_protocol.specs.Worlds.{log_of, log_or_none}
+use Rattle.trfc_protocol.specs.Start.{first_state}
+use Rattle.unit_landscape.specs.Opening.{logs_of}
 use Rattle.unit_landscape.specs.KeptWorlds.{KeptOf}
 use Rattle.document_state.specs.declared.document_tables.DocumentTables.{DocumentTables}
 use Rattle.document_state.specs.declared.model_rules.ModelRules.{ModelRules}
@@ -47,9 +41,9 @@ all_up number [] = refl
 all_up number (log ∷ logs) = all_up (suc number) logs
 
 -- systems that were opened are all up
-pub opened-up : {V : Type 0} (many : ℕ) (text : List ℕ) (set : Option ℕ) (now : KeptOf ModelRules DocumentTables V) → HasOpened many text set now → first_down
-    now.world ≡ None
-opened-up many text set now opened = ap first_down opened.world ∙ all_up 1 (genesis_logs text many)
+pub opened-up : {V : Type 0} (disk : Disk V) (many : ℕ) (text : List ℕ) (set : Option ℕ) (before : V) (now : KeptOf ModelRules DocumentTables V)
+    → HasOpened disk many text set before now → first_down now.world ≡ None
+opened-up disk many text set before now opened = ap first_down opened.world ∙ all_up 1 (logs_of now.world)
 
 -- what a run has is what its files say
 pub runs-said : {V : Type 0} (disk : Disk V) (text text_said : List ℕ) (model model_said : Lists) (masters masters_said : List RawUnitDoc)
@@ -91,43 +85,11 @@ pub asks-short : (words : List (List ℕ)) (told : List ℕ → Told) (report : 
 asks-short words told Commands text model documents commands asks = asks.1.in_file.1
 asks-short words told Counts text model documents commands asks = subst (λ (its : List ℕ). length its ≤ MAX_BYTES) (sym asks.2) load-short
 
--- ---- nothing holds units up at first
-
-log-first : (text : List ℕ) (numbers : List ℕ) (k : ℕ) → (log_or_none (slice_get (map first_state (map (genesis_log text) numbers)) k) ≡ [])
-    ⊎ ((number : ℕ) × (log_or_none (slice_get (map first_state (map (genesis_log text) numbers)) k) ≡ genesis_log text number))
-log-first text [] k = inl refl
-log-first text (number ∷ numbers) zero = inr (number, refl)
-log-first text (number ∷ numbers) (suc k) = log-first text numbers k
-
-unmarked-first : (way : Way) (tid : TidOf) (text : List ℕ) (number : ℕ) → is_marked way tid (genesis_log text number) ≡ false
-unmarked-first Outgoing tid text number = refl
-unmarked-first Incoming tid text number = refl
-
-module _ {R : Type 0} (rules : R) (text : List ℕ) (many : ℕ) where
-  abbrev First : World R
-  First = first_world rules (genesis_logs text many)
-
-  started-first : (system : ℕ) (way : Way) (destination : ℕ) (name : List ℕ) → is_stopped way destination name (log_of First system) ≡ false
-  started-first zero way destination name = refl
-  started-first (suc k) way destination name = elim (log-first text (range_with_len 1 many) k) [
-    | inl none ↦ ap (is_stopped way destination name) none
-    | inr one ↦ ap (is_stopped way destination name) one.1
-  ]
-
-  none-marked : (system : ℕ) (way : Way) (tid : TidOf) → is_marked way tid (log_of First system) ≡ false
-  none-marked zero way tid = refl
-  none-marked (suc k) way tid = elim (log-first text (range_with_len 1 many) k) [
-    | inl none ↦ ap (is_marked way tid) none
-    | inr one ↦ ap (is_marked way tid) one.1 ∙ unmarked-first way tid text one.0
-  ]
-
--- the log of each system that was opened is its Genesis alone, and no letter was given
-opened-free : {V : Type 0} (many : ℕ) (text : List ℕ) (set : Option ℕ) (begun : KeptOf ModelRules DocumentTables V) → HasOpened many text set begun
-    → (first : Stage V) → first.landscape ≡ begun → ((tid : TidOf) → letters_left first.wires tid ≡ []) → IsFree first
-opened-free {V} many text set begun opened first begins none = record {
-  clear = subst (λ (k : KeptOf ModelRules DocumentTables V). IsClear k.world) (sym begins)
-      (subst (λ (w : World ModelRules). IsClear w) (sym opened.world)
-      (record { started = started-first begun.world.rules text many; unmarked = none-marked begun.world.rules text many }));
+-- nothing holds units up at first where no queue is stopped and no unit marked, since no letter was given
+free-first : {V : Type 0} (begun : KeptOf ModelRules DocumentTables V) (first : Stage V) → first.landscape ≡ begun
+    → ((tid : TidOf) → letters_left first.wires tid ≡ []) → IsClear begun.world → IsFree first
+free-first {V} begun first begins none clear = record {
+  clear = subst (λ (k : KeptOf ModelRules DocumentTables V). IsClear k.world) (sym begins) clear;
   none = none;
 }
 
@@ -147,7 +109,6 @@ ran-from disk text model masters commands commands_then before after report repo
     (from-said disk report_then (arc_value inputs.model) model inputs commands_then commands begun after clock given_then given_after status printed sure
     names same from) in
     let run = its.run in
-    let world = opened.world in
     inr (record {
       moment = moment;
       begun = begun;
@@ -158,5 +119,5 @@ ran-from disk text model masters commands commands_then before after report repo
       given_then = given_then;
       asked = asked;
       from = its;
-      complete = run.complete (opened-free (length model.systems) text (Some moment) begun world its.first its.begins its.no_letters);
+      complete = λ clear. run.complete (free-first begun its.first its.begins its.no_letters clear);
     })

@@ -8,6 +8,7 @@ pub mod LoadModel
 -- what a load reads, and what it prints
 pub mod Loading
 -- how a run ends whose files were read
+pub mod Refusals
 pub mod Running
 pub mod Prepared
 pub mod Closing

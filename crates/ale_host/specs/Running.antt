@@ -12,7 +12,6 @@ use Rattle.model_text.specs.declared.reading.TheConstants as text_limit
 use Rattle.model_text.specs.Text.{answer_to}
 use Rattle.script_text.specs.declared.command.Command.{Command}
 use Rattle.unit_core.specs.declared.raw_unit_doc.RawUnitDoc.{RawUnitDoc}
-use Rattle.unit_journal.specs.Log.{Stands}
 use Rattle.dist_model.specs.Named.{system_name}
 use Rattle.document_state.specs.declared.document_tables.DocumentTables.{DocumentTables}
 use Rattle.document_state.specs.declared.model_rules.ModelRules.{ModelRules}
@@ -25,7 +24,7 @@ use Rattle.landscape.specs.declared.open_end.OpenWhy.{OpenWhy}
 use Rattle.landscape.specs.declared.open_end.OpenWhy.TheVariants as open_why
 use Rattle.landscape.specs.declared.counts.Counts.{Counts}
 use Rattle.landscape.specs.Counted.{held_by}
-use Rattle.landscape.specs.Opened.{EndedByFault, HasOpened, LeavesOpening, NoneFailed, WhyEnded}
+use Rattle.landscape.specs.Opened.{EndedByFault, HasOpened, HoldSoundLogs, LeavesOpening, MayBegin, NoneFailed, WhyEnded, bytes_in}
 use Rattle.report_text.specs.declared.faults.FaultLine.TheVariants as last
 use Rattle.report_text.specs.FaultLine.{fault_line}
 use Rattle.runs.specs.declared.inputs.Inputs.{Inputs}
@@ -35,8 +34,10 @@ use Rattle.runs.specs.declared.stage.Stage.{Stage}
 use Rattle.runs.specs.Complete.{AllGoThrough, HoldNothing, OfferAll}
 use Rattle.runs.specs.Run.{AreAsked, Run}
 use Rattle.runs.specs.Turns.{Turn, text_of}
+use Rattle.unit_works.specs.Through.{IsClear}
 use Rattle.unit_works.specs.Wires.{letters_left}
 use Rattle.ale_host.specs.LoadModel.{load_model}
+use Rattle.ale_host.specs.Refusals.{refusal_of}
 use Rattle.ale_host.specs.declared.running.Report.{Report}
 use Rattle.ale_host.specs.declared.running.Report.TheVariants as report
 use Rattle.ale_host.specs.declared.words.Form.TheVariants.{Load, Run as RunForm}
@@ -68,16 +69,13 @@ masters_of documents = map (λ (document : RawDoc). record { control = document.
 abbrev pub short_line : List ℕ
 short_line = codes "out of memory\n"
 
--- the exit status where the systems were not opened, and what is printed
-abbrev pub status_unopened : OpenWhy → ℕ
-status_unopened open_why.Volume = 8
-status_unopened open_why.NotBuilt = 13
-status_unopened open_why.OutOfMemory = 9
-
-abbrev pub line_unopened : OpenWhy → List ℕ
-line_unopened open_why.Volume = fault_line last.Volumes
-line_unopened open_why.NotBuilt = codes "not built: volumes\n"
-line_unopened open_why.OutOfMemory = short_line
+-- The exit status where the systems were not opened, and what is printed: where journals are refused memory may be wanting for the line,
+-- which names a system.
+abbrev pub EndsUnopened : Lists → OpenWhy → ℕ → List ℕ → Type 0
+EndsUnopened model open_why.Volume status line = (status ≡ 8) × (line ≡ fault_line last.Volumes)
+EndsUnopened model (open_why.Refused refused) status line =
+    ((status ≡ 7) × (line ≡ fault_line (refusal_of model refused))) ⊎ ((status ≡ 9) × (line ≡ short_line))
+EndsUnopened model open_why.OutOfMemory status line = (status ≡ 9) × (line ≡ short_line)
 
 -- the exit status at the end of a run
 abbrev pub status_at : RunEnd → ℕ
@@ -165,18 +163,19 @@ module _ {V : Type 0} (disk : Disk V) (text : List ℕ) (model : Lists) (masters
   abbrev many : ℕ
   many = length model.systems
 
-  -- the systems were not opened
+  -- the systems were not opened; volumes that hold sound logs of these systems and of this text are not refused
   pub record NotOpened (moment : ℕ) (why : OpenWhy) : Type 0 where
     pub whys : WhyEnded disk many text (Some moment) before after why
     pub faulted : EndedByFault many disk before after why
-    pub left : disk.told → LeavesOpening disk many text (Some moment) before after
+    pub left : disk.told → LeavesOpening disk many text (Some moment) before after (MayBegin why) ⊤
+    pub judged : disk.told → HoldSoundLogs many text (bytes_in disk before) → MayBegin why
 
-  -- the systems were opened: all are up, and the log of each is its Genesis alone
+  -- The systems were opened: all are up, and the log of each is the one that its volume held, or, where that was empty, its Genesis. These
+  -- logs are legal and keep the exactly-once law.
   pub record Opened (moment : ℕ) (begun : KeptOf ModelRules DocumentTables V) : Type 0 where
-    pub world : HasOpened many text (Some moment) begun
-    pub empty : disk.told → (place : ℕ) → place < many → Stands (disk.volume before place).contents []
+    pub world : HasOpened disk many text (Some moment) before begun
     pub still : NoneFailed many disk before begun.vols
-    pub left : disk.told → LeavesOpening disk many text (Some moment) before begun.vols
+    pub left : disk.told → LeavesOpening disk many text (Some moment) before begun.vols ⊤ ⊥
 
   module _ (report : Report) (clock : Type 0) (given given_after : List ℕ) (status : ℕ) (printed sure : List ℕ) where
     -- the systems were not opened, and no command was carried out
@@ -184,13 +183,13 @@ module _ {V : Type 0} (disk : Disk V) (text : List ℕ) (model : Lists) (masters
       pub moment : ℕ
       pub why : OpenWhy
       pub not_opened : NotOpened moment why
-      pub status_is : status ≡ status_unopened why
-      pub printed_is : printed ≡ line_unopened why
+      pub ends : EndsUnopened model why status printed
       pub sure_is : sure ≡ []
       pub asked : clock → given_after ≡ given ++ moment ∷ []
 
-    -- The systems were opened, and the commands carried out. Where none of these stops a queue or gives letters, and receivers offer the functions
-    -- of all units, each unit that was committed went its whole way behind each drain that left all systems up.
+    -- The systems were opened, and the commands carried out. Where no queue was stopped at the start and no unit marked, no command stops a
+    -- queue or gives letters, and receivers offer the functions of all units, each unit that was committed, in this run or before it, went its
+    -- whole way behind each drain that left all systems up.
     pub record Ran : Type 0 where
       pub moment : ℕ
       pub begun : KeptOf ModelRules DocumentTables V
@@ -201,7 +200,7 @@ module _ {V : Type 0} (disk : Disk V) (text : List ℕ) (model : Lists) (masters
       pub given_then : List ℕ
       pub asked : clock → given_then ≡ given ++ moment ∷ []
       pub from : RanFrom disk report model inputs commands begun after clock given_then given_after status printed sure
-      pub complete : HoldNothing from.turns → OfferAll from.turns → AllGoThrough from.turns
+      pub complete : IsClear begun.world → HoldNothing from.turns → OfferAll from.turns → AllGoThrough from.turns
 
     -- what became of a run
     abbrev pub RunsTo : Type 0

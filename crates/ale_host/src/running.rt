@@ -13,17 +13,18 @@ ghost use Rattle.runs.specs.Put.{IsPart, IsPut};
 ghost use Rattle.ale_host.specs.Closing.{IsClosed};
 ghost use Rattle.ale_host.specs.EndsSo.{IsFront};
 ghost use Rattle.ale_host.specs.declared.running.Report.TheVariants as report_of;
-ghost use Rattle.ale_host.specs.Running.{EndsCounting, IsCountLine, RanFrom, RunsTo, line_unopened, status_unopened};
+ghost use Rattle.ale_host.specs.Running.{EndsCounting, IsCountLine, RanFrom, RunsTo};
 
 use crate::ending::OUT_OF_MEMORY;
 use crate::host::{Ended, WRITE_FAULT, put};
 use crate::loading::load_line;
 use crate::prepared::Prepared;
+use crate::unopened::put_unopened;
 use ale_base::{Items, OutOfMemory, SystemNo};
 use ale_io::{Clock, Gate, Sink, SinkFailed};
 use ale_volumes::Volumes;
 use dist_model::Model;
-use landscape::{Counts, Landscape, OpenEnd, OpenWhy};
+use landscape::{Counts, Landscape, OpenEnd};
 use report_text::{FaultLine, fault_line};
 use runs::{Crew, Inputs, Ran, RunEnd, Stage, run_script};
 use script_text::Command;
@@ -73,7 +74,7 @@ pub(crate) fn run<R: Threads + Wait + Sync, G: Gate + Sync, V: Volumes + Send, K
     let moment = clock.now();
     match Landscape::open(alloc, model, text, Some(moment), vols) {
         Err(OpenEnd { why, vols }) => {
-            let status = put_unopened(why, out);
+            let status = put_unopened(alloc, &inputs.model, why, out);
             Ended { status, vols }
         }
         Ok(landscape) => {
@@ -87,20 +88,6 @@ pub(crate) fn run<R: Threads + Wait + Sync, G: Gate + Sync, V: Volumes + Send, K
                 ),
             }
         }
-    }
-}
-
-/// Puts why the systems were not opened, and gives the status.
-fn put_unopened<K: Sink>(why: OpenWhy, out: &mut K) -> u8
-    ensures ended { result ≢ 6 → (result ≡ status_unopened why)
-        × IsPut (K.contents out.old) (K.contents out.new) (K.faults out.old) (K.faults out.new) (line_unopened why) }
-    ensures write_fault { result ≡ 6 → IsPart (K.contents out.old) (K.contents out.new) (K.faults out.old) (K.faults out.new) (line_unopened why) }
-    ensures counted { K.faults out.old ≤ K.faults out.new }
-{
-    match why {
-        OpenWhy::Volume => put(out, 8, b"volumes fault\n"),
-        OpenWhy::NotBuilt => put(out, 13, b"not built: volumes\n"),
-        OpenWhy::OutOfMemory => put(out, 9, OUT_OF_MEMORY),
     }
 }
 
@@ -298,7 +285,7 @@ fn full_text(
 }
 
 /// A last line.
-fn line_of(alloc: Global, line: FaultLine) -> Result<Vec<u8>, OutOfMemory>
+pub(crate) fn line_of(alloc: Global, line: FaultLine) -> Result<Vec<u8>, OutOfMemory>
     ensures { IfOk result (λ text. text.items ≡ fault_line line) }
 {
     let mut text = Vec::new(alloc);
@@ -307,7 +294,7 @@ fn line_of(alloc: Global, line: FaultLine) -> Result<Vec<u8>, OutOfMemory>
 }
 
 /// The name of a system; no bytes where there is none of this number.
-fn system_name(model: &Model, system: SystemNo) -> &[u8]
+pub(crate) fn system_name(model: &Model, system: SystemNo) -> &[u8]
     ensures { result.now ≡ system_name model.now system }
 {
     dist_model::system_name(model.as_lists(), system)

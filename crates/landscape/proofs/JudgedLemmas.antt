@@ -2,7 +2,7 @@
 use Rattle.std.specs.Prelude.{if◌then◌else◌, nat_le, nat_lt, slice_get, Ok, Err}
 use Rattle.std.specs.List.{filter_map}
 use Rattle.std.specs.Option.{option_map_or}
-use Rattle.std.proofs.Common.{◌≡◌, inl, inr, ℕ, zero, suc, ◌+◌, ◌≤◌, ◌<◌, Bool, true, false, Option, Some, None, List, [], ◌∷◌, length, refl, sym, ap, subst, ◌∙◌}
+use Rattle.std.proofs.Common.{◌≡◌, inl, inr, ℕ, zero, suc, ◌+◌, ◌≤◌, ◌<◌, true, false, Option, Some, None, List, [], ◌∷◌, length, refl, sym, ap, subst, ◌∙◌}
 use Rattle.std.proofs.Common.{arith}
 use Rattle.std.proofs.lemmas.Bool.Decides.{nat_tests}
 use Rattle.std.proofs.lemmas.List.{length-map}
@@ -35,7 +35,6 @@ use Rattle.document_state.specs.OfLog.{applied_by, sent_by, added_behind}
 use Rattle.document_state.specs.Allowed.{waits_any}
 use Rattle.landscape.specs.Asked.{Asked, asked_dispatch, asked_gather, asked_send, by_model, gathered_for, gathered_or_none, sent_or_refused, units_with}
 use Rattle.landscape.specs.Asked.{with_room}
-use Rattle.landscape.specs.declared.wanted.Commits.{Commits}
 use Rattle.landscape.specs.steps.Judged.{IsMaster, JudgedCommits, JudgedCommitsOrNone}
 
 -- where there is no model in force all names are unknown

@@ -11,7 +11,6 @@ pub mod CarriedLemmas
 -- what an operator asks for is carried out
 pub mod OperatorLemmas
 -- volumes that are opened, and systems that begin
-pub mod OpeningLemmas
 -- the unit of a claim, and what goes with its record
 pub mod WorkingLemmas
 -- what a command asks for, by what is found under the model in force
@@ -20,3 +19,15 @@ pub mod JudgedLemmas
 pub mod AllowedLemmas
 -- what a command appends can be written
 pub mod WritableLemmas
+-- what a crash leaves of the volumes of a landscape that is opened
+pub mod LeavingLemmas
+-- the log that a volume holds, as it is read
+pub mod ReadingLemmas
+-- volumes that are read one by one
+pub mod OpeningLemmas
+-- systems that begin where their logs are empty
+pub mod BeginningLemmas
+-- volumes are read as one set of logs
+pub mod OneReadingLemmas
+-- what a crash leaves of a landscape is sound logs of its text
+pub mod CrashOpensLemmas

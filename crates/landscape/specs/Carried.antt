@@ -2,7 +2,6 @@
 use Rattle.std.specs.Prelude.{◌≡◌, ◌⊎◌, ℕ, List, Some, None, Result, Ok, Err, if◌then◌else◌, ◌-◌, length, slice_get}
 use Rattle.std.specs.Option.{option_map_or}
 use Rattle.ale_volumes.specs.Disk.{Disk}
-use Rattle.ale_volumes.specs.declared.volume.Volume.{Volume as OneVolume}
 use Rattle.unit_core.specs.declared.records.Record.{Record}
 use Rattle.unit_core.specs.declared.records.Record.TheVariants.{Commit}
 use Rattle.status_log.specs.declared.refusal.Refusal.{Refusal}

@@ -1,5 +1,5 @@
 -- What is prepared for the work of a claim, and what goes with its record.
-use Rattle.std.specs.Prelude.{◌≡◌, ◌⊎◌, ℕ, true, false, List, Option, Some, None, Result, Ok, Err}
+use Rattle.std.specs.Prelude.{◌≡◌, ◌⊎◌, true, false, List, Option, Some, None, Result, Ok, Err}
 use Rattle.std.specs.Arc.{arc_value}
 use Rattle.ale_base.specs.Tid.{TidOf}
 use Rattle.ale_volumes.specs.Disk.{Disk}

@@ -58,7 +58,7 @@ impl<V: Volumes> Landscape<V> {
     ghost use Rattle.unit_landscape.specs.Quiet.{IsQuiet};
     ghost use Rattle.document_state.specs.Meaning.{model_meaning};
     ghost use Rattle.landscape.specs.Begun.{AreBegun};
-    ghost use Rattle.landscape.specs.Crashes.{LeavesSoundLogs};
+    ghost use Rattle.landscape.specs.Crashes.{LeavesOpenable, LeavesSoundLogs};
     ghost use Rattle.landscape.specs.Standing.{StandAt, StandIfUp, WorksBy};
 
     /// The landscape of systems whose logs begin with one text, of a model of so many systems.
@@ -70,13 +70,15 @@ impl<V: Volumes> Landscape<V> {
     }
 
     /// The world: the logs and the claims. It is safe; the tables are in step with it, the volumes hold its logs, and all logs begin
-    /// with one text, of a model of the systems. Whatever a crash leaves now is sound.
+    /// with one text, of a model of the systems. Whatever a crash leaves now is sound, and holds sound logs of that text: an opening with it
+    /// does not refuse them.
     pub fn world(&self) -> &World<ModelRules>
         ensures world { result.now ≡ self.now.world }
         ensures safe { IsLandscape (λ rules. model_meaning rules.systems) self.now.world }
         ensures kept { IsKept (λ rules. model_meaning rules.systems) (λ tables log. AreTablesOf log tables) V.disk self.now }
         ensures begun { AreBegun self.now.world }
         ensures sound { LeavesSoundLogs V.disk self.now self.now }
+        ensures opens { LeavesOpenable V.disk self.now self.now }
     {
         self.units.world()
     }

@@ -20,4 +20,4 @@ mod wanted;
 
 pub use counts::{Counts, Gathered, Sent};
 pub use landscape::Landscape;
-pub use open_end::{OpenEnd, OpenWhy};
+pub use open_end::{OpenEnd, OpenWhy, Refused};

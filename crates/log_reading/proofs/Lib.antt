@@ -4,5 +4,7 @@ pub mod DifferLemmas
 pub mod GoodLemmas
 -- records that were read from a volume
 pub mod ProperLemmas
+-- their moments are in order
+pub mod InOrderLemmas
 -- one answer at most
 pub mod AnswerLemmas

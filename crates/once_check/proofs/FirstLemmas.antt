@@ -23,7 +23,7 @@ use Rattle.once_check.specs.steps.OneSystem.{IsUnbrokenIn, IsFirstIn}
 use Rattle.once_check.specs.steps.Places.{KeyOf, AreCountsOf, AreAllPlacesOf, IsTakenSo}
 use Rattle.once_check.specs.steps.ToldIds.{AreToldBy}
 use Rattle.once_check.specs.steps.Judged.{IsJudgedBy, IsJudgedSo}
-use Rattle.once_check.proofs.LawLemmas.{Once-exactly}
+use Rattle.once_check.proofs.LawLemmas.{Once-exactly, none-breaks}
 use Rattle.ale_base.proofs.ListLemmas.{take_next}
 use Rattle.once_check.proofs.PlacesLemmas.{AreCountsOf-none, AreCountsOf-more}
 use Rattle.once_check.proofs.JudgedLemmas.{in_order-other, tells-none, tells-some, taken-in_order, taken-none, taken-some}
@@ -200,5 +200,5 @@ pub none-exactly : (committed : ℕ → List AleUnit) (logs : ℕ → List Recor
 none-exactly committed logs None numbered unbroken inside = (λ _. (Once-exactly committed logs numbered inside).0 unbroken, λ _. refl)
 none-exactly committed logs (Some breach) numbered first inside = (
   λ none. cc,
-  λ once. absurd (first.is.breaks ((Once-exactly committed logs numbered inside).1 once breach first.is.place first.is.next first.is.number first.is.stands)),
+  λ once. absurd (none-breaks committed logs once breach first),
 )

@@ -16,10 +16,11 @@ use Rattle.unit_core.specs.Filters.{taken_by, done_by, ended_by, forgotten_by, r
 use Rattle.unit_core.specs.Queues.{in_queue, stands_in, tids_of}
 use Rattle.unit_core.specs.Once.{TakenWasCommitted, TakenInOrder, DoneWasTaken, ForgottenWasDone, EndedWasForgotten, Once}
 use Rattle.unit_core.proofs.TidLemmas.{same_unit}
+use Rattle.once_check.specs.declared.breach.Breach.{Breach}
 use Rattle.once_check.specs.declared.breach.Clause.{Clause}
 use Rattle.once_check.specs.declared.breach.Clause.TheVariants.{WasCommitted, InOrder, WasTaken, WasDone, WasForgotten}
 use Rattle.unit_core.specs.Systems.{AreNumbered}
-use Rattle.once_check.specs.Breaches.{IsCommittedFor, Keeps, IsUnbroken}
+use Rattle.once_check.specs.Breaches.{IsCommittedFor, IsFirstBreach, Keeps, IsUnbroken}
 use Rattle.unit_core.specs.Inside.{IsOnceInside}
 use Rattle.ale_base.proofs.ListLemmas.{Contains-at, place_of, split_at, slice_get-within, take_next}
 use Rattle.once_check.proofs.SystemsLemmas.{numbered-place, numbered-NoneTwice}
@@ -28,8 +29,8 @@ use Rattle.once_check.proofs.SystemsLemmas.{numbered-place, numbered-NoneTwice}
 All-by_element : {A : Type 0} (P : A → Type 0) (xs : List A) → ((x : A) → Contains xs x → P x) → All P xs
 All-by_element P xs each = All-weaker (Contains xs) P each xs (All-contains_itself xs)
 
-module _ (committed : ℕ → List AleUnit) (logs : ℕ → List Record) (numbered : AreNumbered committed) where
-  module _ (unbroken : IsUnbroken committed logs) where
+module _ (committed : ℕ → List AleUnit) (logs : ℕ → List Record) where
+  module _ (numbered : AreNumbered committed) (unbroken : IsUnbroken committed logs) where
     -- each record keeps each clause
     keeps : (system place : ℕ) (next : Record) (clause : Clause) → slice_get (logs system) place ≡ Some next
         → Keeps committed logs system (take place (logs system)) next clause
@@ -147,8 +148,12 @@ module _ (committed : ℕ → List AleUnit) (logs : ℕ → List Record) (number
     pub unbroken-Once : IsUnbroken committed logs
     unbroken-Once at place next number stands = kept at.system place next at.clause stands
 
+    -- and none is the first that breaks one
+    pub none-breaks : (breach : Breach) → IsFirstBreach committed logs breach → ⊥
+    none-breaks breach first = first.is.breaks (unbroken-Once breach first.is.place first.is.next first.is.number first.is.stands)
+
 -- The law holds exactly where no record breaks it.
 pub Once-exactly : (committed : ℕ → List AleUnit) (logs : ℕ → List Record) → AreNumbered committed → IsOnceInside logs
     → IsUnbroken committed logs ↔ Once committed logs
 Once-exactly committed logs numbered inside =
-    (λ unbroken. Once-unbroken committed logs numbered unbroken inside, λ once. unbroken-Once committed logs numbered once)
+    (λ unbroken. Once-unbroken committed logs numbered unbroken inside, λ once. unbroken-Once committed logs once)

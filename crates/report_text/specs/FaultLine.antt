@@ -20,6 +20,7 @@ shown_cause cause.OnceC = codes "once c"
 shown_cause cause.OnceE = codes "once e"
 shown_cause cause.OnceF = codes "once f"
 shown_cause cause.OnceG = codes "once g"
+shown_cause cause.Changed = codes "changed"
 
 abbrev pub fault_line : FaultLine → List ℕ
 fault_line (Script line) = counted (codes "script refused:") line ++ codes "\n"

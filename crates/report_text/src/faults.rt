@@ -150,6 +150,7 @@ fn put_cause(alloc: Global, text: &mut Vec<u8>, cause: Cause) -> Result<(), OutO
         Cause::OnceE => put(text, b"once e"),
         Cause::OnceF => put(text, b"once f"),
         Cause::OnceG => put(text, b"once g"),
+        Cause::Changed => put(text, b"changed"),
     }
 }
 

@@ -1,7 +1,7 @@
-//! Why journals are refused at opening.
+//! Why journals are refused as they are opened.
 
 /// Why the journal of a system is refused at opening. Beside the cause its place is told: the place of a byte where it is
-/// damaged, else the number of a record, from 1.
+/// damaged, else the number of a record, from 1; of a log that was changed 0 where it is damaged.
 #[derive(Clone, Copy, PartialEq, Eq)]
 pub enum Cause {
     /// The volume stands for no log.
@@ -24,4 +24,6 @@ pub enum Cause {
     OnceF,
     /// The unit that has ended was not forgotten.
     OnceG,
+    /// An `open` found another log than the one that was kept.
+    Changed,
 }

@@ -9,20 +9,14 @@ use Rattle.ale_volumes.proofs.ClockLemmas.{LeavesOnly-kept}
 use Rattle.unit_core.specs.declared.records.Record.{Record}
 use Rattle.unit_codec.specs.declared.entry.Entry.{Entry}
 use Rattle.unit_codec.specs.Entries.{entry_with}
-use Rattle.unit_journal.specs.Log.{Stands}
+use Rattle.unit_journal.specs.Log.{AreEntries, Stands}
 use Rattle.unit_journal.specs.Settled.{IsOn, IsSettled, IsBeforeOrAfter}
 use Rattle.unit_journal.proofs.SettledLemmas.{IsSettled-stands, IsSettled-kept}
 use Rattle.unit_journal.specs.declared.journals.SystemJournals.{SystemJournals}
 use Rattle.unit_journal.specs.OnDisk.{HaveMoments, moments_at, rest_at, last_moment, MayFollow, moments_of, entries_of, entries_at}
-use Rattle.unit_journal.specs.OnDisk.{IsOnDisk, StandsFound, IsLeftOnDisk}
+use Rattle.unit_journal.specs.OnDisk.{IsOnDisk, StandsFound, MayBeLeft, IsKept, IsLeftOnDisk}
 use Rattle.unit_journal.specs.Changes.{with_moment, SameAt, OnlyAt}
 use Rattle.unit_journal.proofs.PlaceLemmas.{entries_of-push}
-
--- What stands for entries stands for them and perhaps one more.
-pub StandsFound-none_more : (image : List ℕ) (entries : List Entry) (moment : Option ℕ) (rest : Option Record) → Stands image entries
-    → StandsFound image entries moment rest
-StandsFound-none_more image entries moment None stands = stands
-StandsFound-none_more image entries moment (Some next) stands = inl stands
 
 -- What stands for the log from before an append or after it stands for it and perhaps one more.
 pub StandsFound-either : (image : List ℕ) (entries : List Entry) (moment : Option ℕ) (next : Record) → MayFollow (last_moment (moments_of entries)) moment
@@ -49,6 +43,19 @@ HaveMoments-one place before after one have = one.moments ∙ have ∙ sym one.j
 same_moments : (place : ℕ) (before after : SystemJournals) → SameAt place before after → moments_at after place ≡ moments_at before place
 same_moments place before after same = ap (λ (found : Option (List (Option ℕ))). unwrap_or found []) same.moments
 
+-- What is kept of a system that is down stays so where its moments and that of its rest are as before.
+pub IsKept-same : (place : ℕ) (before after : SystemJournals) (log : List Record) (rest : Option Record) → SameAt place before after
+    → IsKept place before log rest → IsKept place after log rest
+IsKept-same place before after log rest same kept =
+    let moments = same_moments place before after same in
+    record {
+      noted = same.moments ∙ kept.noted ∙ ap (λ (l : List (Option ℕ)). Some l) (sym moments);
+      each = ap length moments ∙ kept.each;
+      entries = subst (λ (l : List (Option ℕ)). AreEntries (entries_of l log)) (sym moments) kept.entries;
+      behind = subst (λ (l : List (Option ℕ)). MayBeLeft (entries_of l log) (rest_at after place) rest) (sym moments)
+          (subst (λ (m : Option ℕ). MayBeLeft (entries_at before place log) m rest) (sym same.rest) kept.behind);
+    }
+
 module _ {D : Type 0} (disk : Disk D) where
   -- Each image of the volume of a system that is up stands for its log.
   pub IsOnDisk-stands : (vols : D) (place : ℕ) (all : SystemJournals) (log : List Record) → disk.told → IsOnDisk disk vols place all log
@@ -57,14 +64,12 @@ module _ {D : Type 0} (disk : Disk D) where
       IsSettled-stands disk vols on_disk.journal (entries_at all place log) (on_disk.settled tells) image
       (subst (λ (n : ℕ). IsImage (disk.volume vols n) image) (sym on_disk.on.volume) is)
 
-  -- What is on disk is left on disk, perhaps with one record more: so it is where a system merely falls.
-  pub IsLeft-of : (vols : D) (place : ℕ) (all : SystemJournals) (log : List Record) (rest : Option Record) → IsOnDisk disk vols place all log
-      → IsLeftOnDisk disk vols place all log rest
-  IsLeft-of vols place all log rest on_disk = record {
-    noted = on_disk.noted;
-    each = on_disk.each;
-    left = λ tells image is. StandsFound-none_more image (entries_at all place log) (rest_at all place) rest
-        (IsOnDisk-stands vols place all log tells on_disk image is);
+  -- What is on disk is left on disk: so it is where a system merely falls.
+  pub IsLeft-of : (vols : D) (place : ℕ) (all : SystemJournals) (log : List Record) → IsOnDisk disk vols place all log
+      → IsLeftOnDisk disk vols place all log None
+  IsLeft-of vols place all log on_disk = record {
+    kept = record { noted = on_disk.noted; each = on_disk.each; entries = on_disk.on.entries; behind = tt };
+    left = λ tells image is. IsOnDisk-stands vols place all log tells on_disk image is;
   }
 
   -- What is on disk at a place stays so while its volume is known as before, and the journal and moments at the place are.
@@ -93,8 +98,7 @@ module _ {D : Type 0} (disk : Disk D) where
   IsLeftOnDisk-same old new place before after log rest known same on_disk =
       let moments = same_moments place before after same in
       record {
-        noted = same.moments ∙ on_disk.noted ∙ ap (λ (l : List (Option ℕ)). Some l) (sym moments);
-        each = ap length moments ∙ on_disk.each;
+        kept = IsKept-same place before after log rest same on_disk.kept;
         left = λ tells image is. subst (λ (l : List (Option ℕ)). StandsFound image (entries_of l log) (rest_at after place) rest) (sym moments)
             (subst (λ (m : Option ℕ). StandsFound image (entries_at before place log) m rest) (sym same.rest)
             (on_disk.left tells image (subst (λ (v : Volume). IsImage v image) (known tells) is)));

@@ -14,3 +14,5 @@ pub mod OrderLemmas
 mod WriteLemmas
 -- What the opening of a system's journal leaves.
 mod OpenLemmas
+-- What looking at the volume of a system that is down finds, that it has one answer, and that moments stay in order, for who builds on it.
+pub mod LookLemmas

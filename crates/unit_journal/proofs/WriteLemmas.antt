@@ -11,6 +11,7 @@ use Rattle.ale_volumes.specs.Clock.{LeavesOnly}
 use Rattle.byte_journal.specs.Log.{most_bytes}
 use Rattle.unit_core.specs.declared.records.Record.{Record}
 use Rattle.unit_codec.specs.declared.entry.Entry.{Entry}
+use Rattle.unit_codec.specs.Condition.{IsWritable}
 use Rattle.unit_codec.specs.Entries.{EntryHasSpelling, entry_with, entry_spelling}
 use Rattle.unit_journal.specs.declared.journal.UnitJournal.{UnitJournal}
 use Rattle.unit_journal.specs.Settled.{bodies, IsAtEnd, IsOn, IsSettled, IsBeforeOrAfter}
@@ -146,19 +147,25 @@ module _ {D : Type 0} (disk : Disk D) (old : D) (place : ℕ) (all : SystemJourn
   IsOnDisk-unwritten new settled = record { journal = was; here = here; noted = on_disk.noted; each = on_disk.each; on = on-here; settled = settled }
 
   -- where a crash leaves the log from before an append or after it, the system is left with it and perhaps the record
-  pub IsLeft-torn : (new : D) (next : Record) (written : Option ℕ)
+  pub IsLeft-torn : (new : D) (next : Record) (written : Option ℕ) → IsWritable next
       → written ≡ next_moment all place
       → (disk.told → (image : List ℕ) → disk.moment old ≤ disk.moment new → IsImage (disk.volume new place) image →
       LeftSince disk new place (disk.moment old) image)
       → (disk.told → LeavesOnly disk old new place (IsBeforeOrAfter (entries_at all place log) (entry_with written next)))
       → (rests : List (Option ℕ)) → slice_index_or rests place None ≡ written
       → IsLeftOnDisk disk new place (record all { rests = rests }) log (Some next)
-  IsLeft-torn new next written set counts_now leaves rests found = record {
-    noted = on_disk.noted;
-    each = on_disk.each;
-    left = λ tells image is. subst (λ (m : Option ℕ). StandsFound image (entries_at all place log) m (Some next))
-        (sym found)
-        (StandsFound-either image (entries_at all place log) written next
-        (subst (λ (m : Option ℕ). MayFollow (last_moment (moments_of (entries_at all place log))) m) (sym set) (next-follows place all log on_disk.each))
-        ((leaves tells).each image (counts_now tells image (leaves tells).later is)));
-  }
+  IsLeft-torn new next written writable set counts_now leaves rests found =
+      let follows : MayFollow (last_moment (moments_of (entries_at all place log))) written =
+      subst (λ (m : Option ℕ). MayFollow (last_moment (moments_of (entries_at all place log))) m) (sym set) (next-follows place all log on_disk.each) in
+      record {
+        kept = record {
+          noted = on_disk.noted;
+          each = on_disk.each;
+          entries = on_disk.on.entries;
+          behind = (writable, subst (λ (m : Option ℕ). MayFollow (last_moment (moments_of (entries_at all place log))) m) (sym found) follows);
+        };
+        left = λ tells image is. subst (λ (m : Option ℕ). StandsFound image (entries_at all place log) m (Some next))
+            (sym found)
+            (StandsFound-either image (entries_at all place log) written next follows
+            ((leaves tells).each image (counts_now tells image (leaves tells).later is)));
+      }

@@ -10,5 +10,7 @@ pub mod OnDisk
 pub mod Changes
 -- what the opening of a system's journal answers
 pub mod Opening
+-- what looking at the volume of a system that is down answers, and what it finds
+pub mod Looking
 -- what private functions cite
 pub mod steps

@@ -6,10 +6,11 @@ use Rattle.ale_volumes.specs.Disk.{Disk}
 use Rattle.ale_volumes.specs.Volume.{IsImage}
 use Rattle.unit_core.specs.declared.records.Record.{Record}
 use Rattle.unit_codec.specs.declared.entry.Entry.{Entry}
+use Rattle.unit_codec.specs.Condition.{IsWritable}
 use Rattle.unit_codec.specs.Entries.{entry_with, entry_spelling}
 use Rattle.unit_journal.specs.declared.journal.UnitJournal.{UnitJournal}
 use Rattle.byte_journal.specs.Log.{records}
-use Rattle.unit_journal.specs.Log.{Stands, bodies_of}
+use Rattle.unit_journal.specs.Log.{AreEntries, Stands, bodies_of}
 use Rattle.unit_journal.specs.Settled.{IsOn, IsSettled}
 use Rattle.unit_journal.specs.declared.journals.SystemJournals.{SystemJournals}
 
@@ -92,10 +93,22 @@ StandsFound image entries moment None = Stands image entries
 StandsFound image entries moment (Some next) =
     Stands image entries ⊎ (MayFollow (last_moment (moments_of entries)) moment × Stands image (entries ++ entry_with moment next ∷ []))
 
--- Of a system that is down: moments are at its place, one for each record, and where the disk tells what it holds, each
--- crash leaves the log, perhaps with this record more, with the moment that is kept of it.
-pub record IsLeftOnDisk {D : Type 0} (disk : Disk D) (vols : D) (place : ℕ) (all : SystemJournals) (log : List Record)
-    (rest : Option Record) : Type 0 where
+-- a record that a crash may have left behind these entries can be written, and its moment may follow the last of theirs
+abbrev pub MayBeLeft : List Entry → Option ℕ → Option Record → Type 0
+MayBeLeft entries moment None = Unit {0}
+MayBeLeft entries moment (Some next) = IsWritable next × MayFollow (last_moment (moments_of entries)) moment
+
+-- What is kept of a system that is down: moments are at its place, one for each record, whose entry has a spelling; and the
+-- record that a crash may have left behind them may be there.
+pub record IsKept (place : ℕ) (all : SystemJournals) (log : List Record) (rest : Option Record) : Type 0 where
   pub noted : slice_get all.moments place ≡ Some (moments_at all place)
   pub each : length (moments_at all place) ≡ length log
+  pub entries : AreEntries (entries_at all place log)
+  pub behind : MayBeLeft (entries_at all place log) (rest_at all place) rest
+
+-- Of a system that is down: its log is kept, and where the disk tells what it holds, each crash leaves that log, perhaps with
+-- this record more, with the moment that is kept of it.
+pub record IsLeftOnDisk {D : Type 0} (disk : Disk D) (vols : D) (place : ℕ) (all : SystemJournals) (log : List Record)
+    (rest : Option Record) : Type 0 where
+  pub kept : IsKept place all log rest
   pub left : disk.told → (image : List ℕ) → IsImage (disk.volume vols place) image → StandsFound image (entries_at all place log) (rest_at all place) rest

@@ -4,3 +4,5 @@ pub mod Entries
 pub mod Moments
 -- What the opening of one volume gave.
 pub mod Opened
+-- What comparing the entries that a volume gave with those that are kept gives.
+pub mod Compared

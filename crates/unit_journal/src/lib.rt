@@ -10,26 +10,32 @@
 //!
 //! `SystemJournals` are the journals of all systems: `open` gives the log that a system's volume holds, and `write` adds one
 //! record to it and nothing else, with the larger of the moment that is set and the last of its log: moments do not fall. After
-//! every error the journals are as before. Who calls them owns the records; here are the moments alone. The definitions are
+//! every error the journals are as before. A system that is down is opened by `look`, which compares its volume with the log
+//! that is kept of it and with the record that it was writing, and `settle`, which enters what was found. Who calls them owns
+//! the records; here are the moments alone. The definitions are
 //! `OnDisk` (what a system's volume holds, while it is up and while it is down, and which moment is next), `Changes` (what a call
-//! leaves as it was) and `Opening` (what an opening answers, and leaves of the volume). `KeptLemmas` has that what is on disk
+//! leaves as it was), `Opening` (what an opening answers, and leaves of the volume) and `Looking` (the same of a look). `KeptLemmas` has that what is on disk
 //! stays so (`IsOnDisk-kept`, `IsLeftOnDisk-kept`, `IsOnDisk-with_moment`, `IsLeftOnDisk-with_moment`, `HaveMoments-one`), what a
 //! crash leaves (`IsOnDisk-stands`, `IsOnDisk-any_moment`, `IsLeftOnDisk-any_moment`, `IsLeft-of`) and what a record more does
 //! (`entries_at-push`); `OrderLemmas` has that moments stay in order (`AreInOrder-grown`, `AreInOrder-same`), and are where there
 //! are none (`AreInOrder-none`, `AreInOrder-past`).
 #![tactic(auto)]
 
+mod comparing;
 mod entries;
 mod fault;
 mod journal;
 mod journals;
+mod looked;
 mod moments;
 mod opening;
+mod reopening;
 mod system_opening;
 mod volume;
 mod writing;
 
-pub use fault::LogFault;
+pub use fault::{LogFault, LookFault};
 pub use journal::UnitJournal;
 pub use journals::SystemJournals;
+pub use looked::Looked;
 pub use opening::open;

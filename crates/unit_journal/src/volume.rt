@@ -63,7 +63,7 @@ fn with_entries(
 }
 
 /// The moments of entries, and their records.
-fn parted(
+pub(crate) fn parted(
     alloc: Global,
     entries: Items<Entry>,
 ) -> Result<(Items<Option<u64>>, Items<Record>), OutOfMemory>

@@ -36,14 +36,15 @@ no_cause-in system =
     ]
 
 -- one system more that is up leaves all up
-pub causes-opened : (systems : List SystemState) → AreCausesOf systems no_causes → AreCausesOf (systems ++ first_state [] ∷ []) no_causes
-causes-opened systems are = record { sixteen = are.sixteen; each = each }
+pub causes-opened : (systems : List SystemState) (log : List Record) → AreCausesOf systems no_causes
+    → AreCausesOf (systems ++ first_state log ∷ []) no_causes
+causes-opened systems log are = record { sixteen = are.sixteen; each = each }
   where
-    each : (system : ℕ) (state : SystemState) → state_of (systems ++ first_state [] ∷ []) system ≡ Some state
+    each : (system : ℕ) (state : SystemState) → state_of (systems ++ first_state log ∷ []) system ≡ Some state
         → is_of_up (cause_in no_causes system) ≡ state.up
     each zero state known = cc
     each (suc place) state known =
-        elim (slice_get_push systems (first_state []) place state known) [
+        elim (slice_get_push systems (first_state log) place state known) [
           | inl before ↦ are.each (suc place) state before
           | inr last ↦ ap is_of_up (no_cause-in (suc place)) ∙ ap (λ (s : SystemState). s.up) last.1
         ]
@@ -60,23 +61,29 @@ cause-told systems system cause causes are most =
     let inside : system - 1 < length causes = let all = are.sixteen in omega arith in
     get_or-set_same causes (system - 1) cause Up inside
 
+-- a system has another state, and a cause that goes with it
+pub causes-known : {R : Type 0} (world : World R) (system : ℕ) (causes : List Cause) (state : SystemState) → state_of world.systems system ≡ Some state
+    → AreCausesOf world.systems causes → system ≤ 16 → (change : SystemState → SystemState) (cause : Cause) → is_of_up cause ≡ (change state).up
+    → AreCausesOf (with_state world system change).systems (with_cause causes system cause)
+causes-known world system causes state known are most change cause goes = record {
+  sixteen = length-set causes (system - 1) cause ∙ are.sixteen;
+  each = at_each_state world system change state known
+      (λ number found. (s : SystemState) → found ≡ Some s → is_of_up (cause_in (with_cause causes system cause) number) ≡ s.up)
+      (λ s is. ap is_of_up (cause-told world.systems system cause causes are most) ∙ goes
+      ∙ ap (λ (x : SystemState). x.up) (same_Some (change state) s is))
+      (λ other differs s is.
+      let least = known-least world.systems other s is in
+      let apart : other - 1 ≢ system - 1 = λ same. differs (let one = known-least world.systems system state known in omega arith) in
+      ap is_of_up (get_or-set_other causes (system - 1) (other - 1) cause Up apart) ∙ are.each other s is);
+}
+
 module _ {R : Type 0} (world : World R) (system : ℕ) (causes : List Cause) (up : is_up world system ≡ true) (are : AreCausesOf world.systems causes) where
-  -- a system that was up has another state, and a cause that goes with it
+  -- so it is of a system that was up
   causes-set : system ≤ 16 → (change : SystemState → SystemState) (cause : Cause) → ((state : SystemState) → is_of_up cause ≡ (change state).up)
       → AreCausesOf (with_state world system change).systems (with_cause causes system cause)
   causes-set most change cause goes =
       let standing = stands_up world.systems system up in
-      record {
-        sixteen = length-set causes (system - 1) cause ∙ are.sixteen;
-        each = at_each_state world system change standing.state standing.known
-            (λ number found. (state : SystemState) → found ≡ Some state → is_of_up (cause_in (with_cause causes system cause) number) ≡ state.up)
-            (λ state is. ap is_of_up (cause-told world.systems system cause causes are most) ∙ goes standing.state
-            ∙ ap (λ (s : SystemState). s.up) (same_Some (change standing.state) state is))
-            (λ other differs state known.
-            let least = known-least world.systems other state known in
-            let apart : other - 1 ≢ system - 1 = λ same. differs (let one = standing.least in omega arith) in
-            ap is_of_up (get_or-set_other causes (system - 1) (other - 1) cause Up apart) ∙ are.each other state known);
-      }
+      causes-known world system causes standing.state standing.known are most change cause (goes standing.state)
 
   -- a record was written
   causes-written : (next : Record) → AreCausesOf (with_record world system next).systems causes

@@ -184,18 +184,21 @@ counted-none counted no_received no_executed = record {
 
 -- ---- one system more among those that are counted
 
+-- what is at each other place is as before
 at-push : {A : Type 0} (xs : List A) (x : A) (k : ℕ) → k ≢ length xs → slice_get (xs ++ x ∷ []) k ≡ slice_get xs k
 at-push [] x zero differs = absurd (differs refl)
 at-push [] x (suc k) differs = refl
 at-push (y ∷ ys) x zero differs = refl
 at-push (y ∷ ys) x (suc k) differs = at-push ys x k (λ same. differs (ap suc same))
 
-state-push : (systems : List SystemState) (state : SystemState) (other : ℕ) → 1 ≤ other → other - 1 ≢ length systems
+-- the state of each other system is as before
+pub state-push : (systems : List SystemState) (state : SystemState) (other : ℕ) → 1 ≤ other → other - 1 ≢ length systems
     → state_of (systems ++ state ∷ []) other ≡ state_of systems other
 state-push systems state zero least differs = absurd (omega arith)
 state-push systems state (suc k) least differs = at-push systems state k (λ same. differs (let less : suc k - 1 ≡ k = omega arith in less ∙ same))
 
-state-last : (systems : List SystemState) (state : SystemState) (other : ℕ) → 1 ≤ other → other - 1 ≡ length systems
+-- that of the system itself
+pub state-last : (systems : List SystemState) (state : SystemState) (other : ℕ) → 1 ≤ other → other - 1 ≡ length systems
     → state_of (systems ++ state ∷ []) other ≡ Some state
 state-last systems state zero least same = absurd (omega arith)
 state-last systems state (suc k) least same =

@@ -9,8 +9,9 @@ use Rattle.ale_base.specs.Prefix.{IsPrefix}
 use Rattle.ale_base.proofs.PrefixLemmas.{IsPrefix-same, IsPrefix-trans}
 use Rattle.ale_volumes.specs.Disk.{Disk, LeftSince}
 use Rattle.ale_volumes.specs.Volume.{IsImage}
-use Rattle.ale_volumes.specs.Clock.{KeepsVolume, PastStays}
+use Rattle.ale_volumes.specs.Clock.{KeepsOthers, KeepsVolume, LeavesOnly, PastStays}
 use Rattle.ale_volumes.proofs.ClockLemmas.{KeepsVolume-now, PastStays-joined}
+use Rattle.byte_journal.specs.Settled.{IsLeftByOpening}
 use Rattle.unit_core.specs.declared.records.Record.{Record}
 use Rattle.unit_codec.specs.declared.entry.Entry.{Entry}
 use Rattle.unit_codec.specs.Entries.{entry_with}
@@ -19,6 +20,7 @@ use Rattle.unit_journal.specs.OnDisk.{AreInOrder, MayFollow, StandsFound, entrie
 use Rattle.unit_journal.specs.Settled.{IsBeforeOrAfter}
 use Rattle.unit_journal.proofs.OrderLemmas.{AreInOrder-more, moments-entries, next-follows}
 use Rattle.unit_journal.proofs.KeptLemmas.{IsOnDisk-stands}
+use Rattle.unit_journal.proofs.LookLemmas.{looked-any_moment}
 use Rattle.unit_journal.proofs.PlaceLemmas.{entries_of-records}
 use Rattle.trfc_protocol.specs.declared.event.Event.{Event}
 use Rattle.trfc_protocol.specs.declared.world.World.{World}
@@ -32,7 +34,7 @@ use Rattle.trfc_protocol.proofs.FallLemmas.{Safe-fallen}
 use Rattle.trfc_protocol.proofs.RecordLemmas.{MayWrite-record}
 use Rattle.trfc_protocol.proofs.SafeLemmas.{MayWrite}
 use Rattle.trfc_protocol.proofs.WorldLemmas.{at_each_state, state_of-elsewhere, state_of-here, state_of-least, state_of-most}
-use Rattle.unit_landscape.specs.Crashes.{AreFound, AreFoundSince, HasGrown, IsBetween, LeavesSound, StandsFor, StandsForLog, StaysSound}
+use Rattle.unit_landscape.specs.Crashes.{AreFound, AreFoundSince, AreOfSystems, HasGrown, IsBetween, LeavesSound, StandsFor, StandsForLog, StaysSound}
 use Rattle.unit_landscape.specs.Kept.{IsLandscape}
 use Rattle.unit_landscape.specs.KeptWorlds.{KeptOf}
 use Rattle.unit_landscape.specs.OnVolumes.{AreOnVolumes}
@@ -61,6 +63,17 @@ found-whole : (choice : Bool) (found : Option SystemState) → (more : Option Re
 found-whole false found = (None, refl)
 found-whole true None = (None, refl)
 found-whole true (Some state) = (state.rest, refl)
+
+-- a system that is not there has no log
+found-none : {R : Type 0} (world : World R) (choice : Bool) (system many : ℕ) → length world.systems ≡ many
+    → (1 ≤ system → system ≤ many → ⊥) → log_found choice (state_of world.systems system) ≡ []
+found-none world choice system many all outside = at choice (state_of world.systems system) refl
+  where
+    at : (choice : Bool) (found : Option SystemState) → state_of world.systems system ≡ found → log_found choice found ≡ []
+    at false None is = refl
+    at true None is = refl
+    at choice (Some state) is =
+        absurd (outside (state_of-least world.systems system state is) (subst (λ n. system ≤ n) all (state_of-most world.systems system state is)))
 
 -- bytes that stand for the entries of a log stand for the log
 stands-as : (image : List ℕ) (moments : List (Option ℕ)) (log : List Record) → length moments ≡ length log → AreInOrder moments
@@ -107,6 +120,7 @@ module _ {R A V : Type 0} (meaning : R → Meaning) (disk : Disk V) (before : Ke
     logs = log_under choice world;
     stand = λ system least most. stand system (state_of before.world.systems system) refl least most;
     whole = λ system. whole (choice system) system;
+    within = λ system outside. found-none world (choice system) system (meaning before.world.rules).systems safe.systems outside;
     sound = safe.sound choice;
   }
     where
@@ -143,7 +157,7 @@ module _ {R A V : Type 0} (meaning : R → Meaning) (disk : Disk V) (before : Ke
               )
           | inr down ↦
               let left_on = on_volumes.down place state at down in
-              rested image (moments_at before.journals place) (rest_at before.journals place) state state.rest left_on.each
+              rested image (moments_at before.journals place) (rest_at before.journals place) state state.rest left_on.kept.each
               (on_volumes.order place) refl
               (left_on.left tells image is)
         ])
@@ -271,6 +285,57 @@ module _ {R A V : Type 0} (meaning : R → Meaning) (disk : Disk V) (before : Ke
         ];
       }
 
+    -- a call that opens the volume of a system that is down leaves there its log, perhaps with what it may find, and what there is at others
+    module _ (after : KeptOf R A V) (system : ℕ) (state : SystemState) (known : state_of before.world.systems system ≡ Some state)
+        (down : state.up ≡ false) (reads : IsImage (disk.volume before.vols (system - 1)) (disk.volume before.vols (system - 1)).contents)
+        (any_moment : LeavesOnly disk before.vols after.vols (system - 1) (IsLeftByOpening (disk.volume before.vols (system - 1))))
+        (others : KeepsOthers disk before.vols after.vols (system - 1)) where
+      opened-found : (image : List ℕ) → LeftSince disk after.vols (system - 1) (disk.moment before.vols) image
+          → (choice : Bool) × StandsForLog image (log_found choice (state_of before.world.systems system))
+      opened-found image left =
+          let place = system - 1 in
+          let left_on = on_volumes.down place state (state-place before.world.systems system state known) down in
+          let only = looked-any_moment disk before.vols after.vols place before.journals state.log state.rest tells reads any_moment left_on in
+          subst (λ found. (choice : Bool) × StandsForLog image (log_found choice found)) (sym known)
+          (rested image (moments_at before.journals place) (rest_at before.journals place) state state.rest left_on.kept.each
+          (on_volumes.order place) refl (only.each image left))
+
+      opened-other : (other : ℕ) → 1 ≤ other → other ≢ system → KeepsVolume disk before.vols after.vols (other - 1)
+      opened-other other least differs = record {
+        later = any_moment.later;
+        stays = others.each (other - 1) (λ same. differs (let lowest = state_of-least before.world.systems system state known in omega (arith, same)));
+      }
+
+      pub leaves-opened : LeavesSound meaning disk before after
+      leaves-opened = record {
+        later = any_moment.later;
+        each = λ images left.
+            found-by before.world safe (λ choice s. found-whole choice (state_of before.world.systems s)) images
+            (λ other its is. elim (cases_eq other system) [
+              | inl same ↦ subst (λ s. (choice : Bool) × StandsForLog (images s) (log_found choice (state_of before.world.systems s))) (sym same)
+                  (opened-found (images system) (left system (state_of-least before.world.systems system state known)
+                  (state_of-most before.world.systems system state known)))
+              | inr differs ↦
+                  let least = state_of-least before.world.systems other its is in
+                  let most = state_of-most before.world.systems other its is in
+                  image-found other its is (images other)
+                  (KeepsVolume-now disk before.vols after.vols (other - 1) (images other) (opened-other other least differs) (left other least most))
+            ]);
+        past = λ other least most. elim (cases_eq other system) [
+          | inl same ↦ subst (λ s. PastStays disk before.vols after.vols (s - 1)) (sym same) any_moment.past
+          | inr differs ↦ (opened-other other least differs).stays.past
+        ];
+        alone = λ other image least most left. elim (cases_eq other system) [
+          | inl same ↦
+              let found = opened-found image (subst (λ s. LeftSince disk after.vols (s - 1) (disk.moment before.vols) image) same left) in
+              let whole = found-whole found.0 (state_of before.world.systems system) in
+              subst (λ s. StandsFor before s image) (sym same) (whole.0, subst (StandsForLog image) whole.1 found.1)
+          | inr differs ↦
+              alone-found other image least most
+              (KeepsVolume-now disk before.vols after.vols (other - 1) image (opened-other other least differs) left)
+        ];
+      }
+
     -- a call leaves what is sound, whether it writes a record or not
     pub leaves-disk : (after : KeptOf R A V) (found : Option Writing)
         → ((it : Writing) → found ≡ Some it → MayWrite (meaning before.world.rules) before.world it.system it.next) → DiskAs disk before after found
@@ -311,6 +376,7 @@ leaves-same meaning disk before begun last after vols systems rules still leaves
         whole = λ system.
             let its = found.whole system in
             (its.0, its.1 ∙ ap (λ (all : List SystemState). log_with (log_or_none (state_of all system)) its.0) systems);
+        within = subst (λ r. AreOfSystems (meaning r) found.logs) rules found.within;
         sound = subst (λ r. Sound (meaning r) found.logs) rules found.sound;
       };
   past = λ system least most moment image le.
@@ -372,6 +438,7 @@ module _ {R A V : Type 0} (meaning : R → Meaning) (disk : Disk V) where
           logs = found.logs;
           stand = found.stand;
           between = λ system. let whole = found.whole system in with-more system whole.0 (found.logs system) whole.1;
+          within = found.within;
           sound = found.sound;
         };
     alone = λ system moment image least few after_it most left.
@@ -395,6 +462,7 @@ module _ {R A V : Type 0} (meaning : R → Meaning) (disk : Disk V) where
     between = λ system.
         between-wider before.world early.world late.world after.world system (found.logs system) (first.logs system) (last.logs system)
         (found.between system);
+    within = subst (λ r. AreOfSystems (meaning r) found.logs) first.rules found.within;
     sound = subst (λ r. Sound (meaning r) found.logs) first.rules found.sound;
   }
 

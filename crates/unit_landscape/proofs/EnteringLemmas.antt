@@ -89,7 +89,8 @@ last-entered world system next up =
 
 -- ---- systems
 
-got_at : (systems : List SystemState) (system : ℕ) (state : SystemState) → state_of systems system ≡ Some state → slice_get systems (system - 1) ≡ Some state
+-- a system that is known has its state at the place of its number
+pub got_at : (systems : List SystemState) (system : ℕ) (state : SystemState) → state_of systems system ≡ Some state → slice_get systems (system - 1) ≡ Some state
 got_at systems zero state known = cc
 got_at systems (suc k) state known = let place : suc k - 1 ≡ k = omega arith in ap (slice_get systems) place ∙ known
 

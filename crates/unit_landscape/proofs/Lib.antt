@@ -66,9 +66,13 @@ pub mod LateLemmas
 pub mod LateEndsLemmas
 -- Lemmas on a landscape that begins. Each file stands on those before it.
 
--- volumes that are opened for a landscape that begins
+-- volumes that are opened for a landscape
 pub mod OpeningLemmas
+-- the logs and the units over which the exactly-once law is looked at
+mod BreachLemmas
 -- the first record of each system
 pub mod BeginningLemmas
--- the world as its systems begin, for who begins a landscape
-pub mod BegunLemmas
+-- systems that begin where logs are there, for who begins a landscape over them
+pub mod ReopeningLemmas
+-- a system that is down is up again, with what a look at its volume found
+pub mod OpenedAgainLemmas

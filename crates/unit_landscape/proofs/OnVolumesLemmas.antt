@@ -33,7 +33,7 @@ up-written world system next up =
 
 module _ {D : Type 0} (disk : Disk D) where
   -- of one system the state, the journal and the volume change, and of no other
-  on_volumes-changed : (old new : D) (systems after : List SystemState) (before journals : SystemJournals) (place : ℕ)
+  pub on_volumes-changed : (old new : D) (systems after : List SystemState) (before journals : SystemJournals) (place : ℕ)
       (StateChange : SystemState → SystemState → Type 0)
       → AreOnVolumes disk old systems before → ChangedAt StateChange place systems after → OnlyAt place before journals
       → AreInOrder (moments_at journals place)
@@ -154,7 +154,7 @@ module _ {D : Type 0} (disk : Disk D) where
       subst (λ w. AreOnVolumes disk vols w.systems journals) (sym fell)
       (on_volumes-fell vols vols world journals journals system None up are (OnlyAt-same (system - 1) journals) (are.order (system - 1))
       (λ other differs tells. refl)
-      (IsLeft-of disk vols (system - 1) journals (log_of world system) None (on_disk-up vols world journals system up are)))
+      (IsLeft-of disk vols (system - 1) journals (log_of world system) (on_disk-up vols world journals system up are)))
 
   -- another moment for what is written next leaves what the volumes hold
   pub on_volumes-with_moment : (vols : D) (systems : List SystemState) (journals : SystemJournals) (moment : Option ℕ)

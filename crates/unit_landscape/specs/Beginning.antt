@@ -1,11 +1,11 @@
 -- The first record of each system.
-use Rattle.std.specs.Prelude.{◌≡◌, ◌⊎◌, ℕ, ◌-◌, ◌≤◌, Some, None, List, [], ◌∷◌, length, slice_get, Result, Ok, Err}
+use Rattle.std.specs.Prelude.{◌≡◌, ◌≢◌, ◌⊎◌, ℕ, ◌-◌, ◌≤◌, ◌<◌, Some, None, List, [], ◌∷◌, length, slice_get, Result, Ok, Err}
 use Rattle.unit_core.specs.declared.records.Record.{Record}
 use Rattle.unit_core.specs.declared.records.Record.TheVariants.{Genesis}
 use Rattle.trfc_protocol.specs.declared.world.World.{World}
 use Rattle.trfc_protocol.specs.Meaning.{Meaning}
-use Rattle.trfc_protocol.specs.Worlds.{with_record, with_fall}
-use Rattle.trfc_protocol.specs.Start.{first_state}
+use Rattle.trfc_protocol.specs.Worlds.{log_of, with_record, with_fall}
+use Rattle.trfc_protocol.specs.Start.{first_state, genesis_log}
 use Rattle.system_tables.specs.Tables.{TablesOf}
 use Rattle.unit_journal.specs.declared.journals.SystemJournals.{SystemJournals}
 use Rattle.unit_journal.specs.OnDisk.{moment_of, moments_at, next_moment}
@@ -16,7 +16,8 @@ use Rattle.unit_landscape.specs.Causes.{with_cause}
 use Rattle.unit_landscape.specs.declared.beginning.TheConstants.{MOST_TEXT}
 use Rattle.unit_landscape.specs.declared.beginning.BeginEnd.{BeginEnd}
 use Rattle.unit_landscape.specs.declared.beginning.BeginEnd.TheVariants.{Volume, OutOfMemory}
-use Rattle.unit_landscape.specs.Opening.{begun_world}
+use Rattle.unit_landscape.specs.Opening.{BeginsLegal}
+use Rattle.unit_landscape.specs.Breaches.{KeepsOnce}
 
 -- a system is up with an empty log, no unit is claimed, and its Genesis has this text; this was made of it for the application
 pub record IsToBegin {R A E V : Type 0} (stands : A → List Record → Type 0) (goes_with : A → List Record → Record → E → Type 0) (kept : KeptOf R A V)
@@ -55,8 +56,20 @@ BegunAs before after system text (Err OutOfMemory) =
     ⊎ ((after.world ≡ with_fall (with_record before.world system (Genesis system text)) system None) × HasFirst (system - 1) before.journals after.journals
     × (after.causes ≡ with_cause before.causes system Short))
 
--- each system has begun, with a text of its own, and there are all of them
-pub record HasBegun {R : Type 0} (rules : Meaning) (world : World R) : Type 0 where
-  pub texts : List (List ℕ)
-  pub all : length texts ≡ rules.systems
-  pub begun : world ≡ begun_world world.rules texts 0
+-- All systems are up, their logs are legal and keep the exactly-once law, and the first of them, so many, have begun: their logs are not
+-- empty.
+pub record HaveBegun {R : Type 0} (meaning : R → Meaning) (count : ℕ) (world : World R) : Type 0 where
+  pub all : length world.systems ≡ (meaning world.rules).systems
+  pub begins : BeginsLegal meaning world
+  pub once : KeepsOnce (meaning world.rules) world
+  pub begun : (system : ℕ) → 1 ≤ system → system ≤ count → log_of world system ≢ []
+
+-- the log of a system that begins: its Genesis in place of the empty one
+abbrev pub begun_log : List ℕ → ℕ → List Record → List Record
+begun_log text system [] = genesis_log text system
+begun_log text system (first ∷ rest) = first ∷ rest
+
+-- the first systems, so many, have begun with this text where their logs were empty, and all other logs are as before
+pub record AreBegunFrom (text : List ℕ) (count : ℕ) (before after : ℕ → List Record) : Type 0 where
+  pub begun : (system : ℕ) → 1 ≤ system → system ≤ count → after system ≡ begun_log text system (before system)
+  pub others : (system : ℕ) → count < system → after system ≡ before system

@@ -1,6 +1,6 @@
 -- What a crash leaves of a landscape: inside a call, of each volume an image of some moment of the call, and no clause ties the moment of one
 -- volume to that of another; and over any number of calls, of all volumes at one moment.
-use Rattle.std.specs.Prelude.{◌≡◌, ◌<◌, ◌≤◌, ◌-◌, ℕ, Option, List, length, map}
+use Rattle.std.specs.Prelude.{◌≡◌, ◌<◌, ◌≤◌, ◌-◌, ℕ, Option, List, [], length, map}
 use Rattle.ale_base.specs.Prefix.{IsPrefix}
 use Rattle.ale_volumes.specs.Disk.{Disk, LeftSince}
 use Rattle.ale_volumes.specs.Clock.{PastStays}
@@ -23,12 +23,17 @@ StandsForLog image log =
 abbrev pub StandsFor : {R A V : Type 0} → KeptOf R A V → ℕ → List ℕ → Type 0
 StandsFor before system image = (more : Option Record) × StandsForLog image (log_with (log_of before.world system) more)
 
+-- there are logs of the systems alone that the rules have
+abbrev pub AreOfSystems : Meaning → (ℕ → List Record) → Type 0
+AreOfSystems rules logs = (system : ℕ) → (1 ≤ system → system ≤ rules.systems → ⊥) → logs system ≡ []
+
 -- Bytes, one row of them a system, stand for logs. Each is the log from before, perhaps with one record more; and together they are sound: each is
 -- legal, and no unit is executed twice, or out of its turn.
 pub record AreFound {R A V : Type 0} (meaning : R → Meaning) (before : KeptOf R A V) (images : ℕ → List ℕ) : Type 0 where
   pub logs : ℕ → List Record
   pub stand : (system : ℕ) → 1 ≤ system → system ≤ length before.world.systems → StandsForLog (images system) (logs system)
   pub whole : (system : ℕ) → (more : Option Record) × (logs system ≡ log_with (log_of before.world system) more)
+  pub within : AreOfSystems (meaning before.world.rules) logs
   pub sound : Sound (meaning before.world.rules) logs
 
 -- A world went on by the same rules: it has as many systems, and each log is the one before with records behind it, or none.
@@ -48,6 +53,7 @@ pub record AreFoundSince {R A V : Type 0} (meaning : R → Meaning) (before afte
   pub logs : ℕ → List Record
   pub stand : (system : ℕ) → 1 ≤ system → system ≤ length before.world.systems → StandsForLog (images system) (logs system)
   pub between : (system : ℕ) → IsBetween before.world after.world system (logs system)
+  pub within : AreOfSystems (meaning before.world.rules) logs
   pub sound : Sound (meaning before.world.rules) logs
 
 -- what an earlier crash left of the volume of each system stays

@@ -48,5 +48,11 @@ pub mod Appending
 pub mod Late
 -- volumes that are opened for a landscape that begins
 pub mod Opening
+-- a volume that is opened, whatever log it holds
+pub mod Volumes
+-- whether the logs of a world keep the exactly-once law
+pub mod Breaches
 -- the first record of each system
 pub mod Beginning
+-- a system that is down is opened again
+pub mod Reopening

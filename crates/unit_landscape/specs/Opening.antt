@@ -1,24 +1,21 @@
--- Volumes that are opened for a landscape that begins.
-use Rattle.std.specs.Prelude.{◌≡◌, ◌≢◌, ℕ, zero, suc, ⊤, List, [], ◌∷◌, ◌++◌, length, Result, Ok, Err}
+-- Volumes that are opened for a landscape.
+use Rattle.std.specs.Prelude.{◌≡◌, ℕ, List, [], ◌∷◌, ◌++◌, map, Result, Ok, Err}
 use Rattle.ale_volumes.specs.Disk.{Disk}
 use Rattle.ale_volumes.specs.declared.volume.Volume.{Volume as OneVolume}
 use Rattle.ale_volumes.specs.Volume.{settled}
 use Rattle.byte_journal.specs.Bytes.{IsAsBeforeButForTheGate, IsAsBeforeButForATornGate}
-use Rattle.byte_journal.specs.Log.{DamagedAt, ReadsAs}
 use Rattle.unit_core.specs.declared.records.Record.{Record}
-use Rattle.unit_codec.specs.declared.entry.Entry.{Entry}
 use Rattle.unit_journal.specs.declared.fault.LogFault.{LogFault}
 use Rattle.unit_journal.specs.declared.fault.LogFault.TheVariants as log
-use Rattle.unit_journal.specs.Log.{Stands, UnreadAt}
 use Rattle.trfc_protocol.specs.declared.world.World.{World}
+use Rattle.trfc_protocol.specs.declared.world.SystemState.{SystemState}
 use Rattle.trfc_protocol.specs.Meaning.{Meaning}
-use Rattle.trfc_protocol.specs.Start.{first_state, first_world, genesis_log}
-use Rattle.system_tables.specs.Tables.{no_tables}
-use Rattle.unit_journal.specs.OnDisk.{moments_at}
-use Rattle.unit_journal.specs.Changes.{IsNext}
+use Rattle.trfc_protocol.specs.Legal.{IsLegal}
+use Rattle.trfc_protocol.specs.Worlds.{log_of}
+use Rattle.trfc_protocol.specs.Start.{first_state, first_world}
 use Rattle.unit_landscape.specs.KeptWorlds.{KeptOf, IsKept}
 use Rattle.unit_landscape.specs.declared.opening.fault.OpenFault.{OpenFault}
-use Rattle.unit_landscape.specs.declared.opening.fault.OpenFault.TheVariants.{Volume, Damaged, Unread, NotEmpty, OutOfMemory}
+use Rattle.unit_landscape.specs.declared.opening.fault.OpenFault.TheVariants.{Volume, Damaged, Unread, OutOfMemory}
 use Rattle.unit_landscape.specs.declared.opening.fault.NotOpened.{NotOpened}
 
 -- the same fault
@@ -30,53 +27,26 @@ open_fault_of log.OutOfMemory = OutOfMemory
 
 -- ---- worlds that begin
 
--- the logs of systems from this one on: those with a text are its Genesis alone, and so many more are empty
-abbrev pub begun_logs : ℕ → List (List ℕ) → ℕ → List (List Record)
-begun_logs system (text ∷ texts) more = genesis_log text system ∷ begun_logs (suc system) texts more
-begun_logs system [] (suc more) = [] ∷ begun_logs (suc system) [] more
-begun_logs system [] zero = []
+-- the world in which one system more is up with this log, behind all others
+abbrev pub with_log : {R : Type 0} → World R → List Record → World R
+with_log world log = record world { systems = world.systems ++ first_state log ∷ [] }
 
--- the world in which the first systems have begun with these texts, and so many more have an empty log
-abbrev pub begun_world : {R : Type 0} → R → List (List ℕ) → ℕ → World R
-begun_world rules texts more = first_world rules (begun_logs 1 texts more)
+-- the logs of all systems, that of the first one first
+abbrev pub logs_of : {R : Type 0} → World R → List (List Record)
+logs_of world = map (λ (state : SystemState). state.log) world.systems
 
--- the world in which one system more is up with an empty log, behind all others
-abbrev pub with_opened : {R : Type 0} → World R → World R
-with_opened world = record world { systems = world.systems ++ first_state [] ∷ [] }
+-- a world begins with the logs of its systems, each of which is legal; it may be empty
+pub record BeginsLegal {R : Type 0} (meaning : R → Meaning) (now : World R) : Type 0 where
+  pub world : now ≡ first_world now.rules (logs_of now)
+  pub legal : (system : ℕ) → IsLegal (meaning now.rules) system (log_of now system)
 
--- what is opened so far is kept, and the world begins with empty logs
+-- what is opened so far is kept, and the world begins with the logs of its systems, which are legal
 pub record IsOpening {R A V : Type 0} (meaning : R → Meaning) (stands : A → List Record → Type 0) (disk : Disk V)
     (now : KeptOf R A V) : Type 0 where
   pub kept : IsKept meaning stands disk now
-  pub world : now.world ≡ begun_world now.world.rules [] (length now.world.systems)
-
--- one system more is opened, with new tables and these of the application; its log has no moments, and all else is as before
-pub record IsOpened {R A V : Type 0} (application : A) (before after : KeptOf R A V) : Type 0 where
-  pub world : after.world ≡ with_opened before.world
-  pub tables : after.tables ≡ before.tables ++ no_tables application ∷ []
-  pub journals : IsNext before.journals after.journals
-  pub no_moments : moments_at after.journals (length before.world.systems) ≡ []
+  pub begins : BeginsLegal meaning now.world
 
 -- ---- the volume of one system
-
--- bytes stand for a log that has records
-pub record HoldsRecords (bytes : List ℕ) : Type 0 where
-  pub entries : List Entry
-  pub stands : Stands bytes entries
-  pub some : entries ≢ []
-
--- why bytes don't stand for the empty log; the volume may fail, and memory may run out
-abbrev pub NotEmptyAs : List ℕ → OpenFault → Type 0
-NotEmptyAs bytes (Damaged place) = DamagedAt bytes place
-NotEmptyAs bytes (Unread number) = UnreadAt bytes number
-NotEmptyAs bytes NotEmpty = HoldsRecords bytes
-NotEmptyAs bytes Volume = ⊤
-NotEmptyAs bytes OutOfMemory = ⊤
-
--- bytes stand for the empty log, or why not
-abbrev pub EmptyAs : {T : Type 0} → List ℕ → Result T OpenFault → Type 0
-EmptyAs bytes (Ok done) = Stands bytes []
-EmptyAs bytes (Err why) = NotEmptyAs bytes why
 
 -- the bytes are as before, but for a gate that is their last byte, which is closed; and all of them are on the disk for good
 abbrev pub LeavesSettled : OneVolume → OneVolume → Type 0
@@ -87,14 +57,13 @@ LeavesSettled old new = IsAsBeforeButForTheGate old.contents new.contents × (ne
 abbrev pub LeavesFailed : OneVolume → OneVolume → OpenFault → Type 0
 LeavesFailed old new (Damaged place) = new ≡ settled old.contents
 LeavesFailed old new (Unread number) = LeavesSettled old new
-LeavesFailed old new NotEmpty = LeavesSettled old new
 LeavesFailed old new OutOfMemory = LeavesSettled old new
 LeavesFailed old new Volume = IsAsBeforeButForATornGate old.contents new.contents
 
 -- what an opening leaves of its volume, by its answer
-abbrev pub LeavesEmpty : {T : Type 0} → OneVolume → OneVolume → Result T OpenFault → Type 0
-LeavesEmpty old new (Ok done) = LeavesSettled old new
-LeavesEmpty old new (Err why) = LeavesFailed old new why
+abbrev pub LeavesOpened : {T : Type 0} → OneVolume → OneVolume → Result T OpenFault → Type 0
+LeavesOpened old new (Ok done) = LeavesSettled old new
+LeavesOpened old new (Err why) = LeavesFailed old new why
 
 -- ---- the same of an answer that gives the volumes back
 
@@ -108,17 +77,7 @@ abbrev pub HasFailed : {T V : Type 0} → Result T (NotOpened V) → Type 0
 HasFailed (Ok next) = ⊥
 HasFailed (Err failed) = failed.why ≡ Volume
 
--- bytes stand for the empty log, or why not
-abbrev pub OpenedAs : {T V : Type 0} → List ℕ → Result T (NotOpened V) → Type 0
-OpenedAs bytes (Ok next) = Stands bytes []
-OpenedAs bytes (Err failed) = NotEmptyAs bytes failed.why
-
 -- what an opening leaves of its volume, by its answer
 abbrev pub LeavesAs : {T V : Type 0} → OneVolume → OneVolume → Result T (NotOpened V) → Type 0
 LeavesAs old new (Ok next) = LeavesSettled old new
 LeavesAs old new (Err failed) = LeavesFailed old new failed.why
-
--- what a crash may leave of the volume once it is read: what stands for the empty log, or after an error what reads as it did before
-abbrev pub LeftAs : {T V : Type 0} → List ℕ → Result T (NotOpened V) → List ℕ → Type 0
-LeftAs bytes (Ok next) image = Stands image []
-LeftAs bytes (Err failed) image = ReadsAs bytes image

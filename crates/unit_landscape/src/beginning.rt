@@ -1,4 +1,4 @@
-//! The first record of each system, and the landscape that begins so.
+//! The first record of each system, and the landscape of systems that have begun.
 
 ghost use Rattle.std.specs.Prelude.{◌≡◌, ◌-◌, []};
 ghost use Rattle.ale_volumes.specs.Clock.{LeavesOnly, KeepsOthers};
@@ -7,8 +7,9 @@ ghost use Rattle.unit_core.specs.declared.records.Record.TheVariants.{Genesis};
 ghost use Rattle.unit_codec.specs.Entries.{entry_with};
 ghost use Rattle.unit_journal.specs.Settled.{IsBeforeOrAfter};
 ghost use Rattle.unit_journal.specs.OnDisk.{moment_of};
+ghost use Rattle.trfc_protocol.specs.Safe.{IsSafe};
 ghost use Rattle.unit_landscape.specs.Kept.{CommitWritable};
-ghost use Rattle.unit_landscape.specs.Beginning.{IsToBegin, BegunAs, HasBegun};
+ghost use Rattle.unit_landscape.specs.Beginning.{IsToBegin, BegunAs};
 
 use crate::{AppendEnd, KeptWorld, UnitLandscape};
 use ale_base::{Items, SystemNo};
@@ -68,12 +69,12 @@ pub fn begin<R: Rules, A: Application, V: Volumes>(
     }
 }
 
-/// The landscape of systems whose logs are their Genesis alone.
-pub fn begun<R: Rules, A: Application, V: Volumes>(
+/// The landscape of systems that have all begun, whatever their logs are: together they are safe.
+pub fn reopened<R: Rules, A: Application, V: Volumes>(
     alloc: Global,
     kept: KeptWorld<R, A, V>,
 ) -> UnitLandscape<R, A, V>
-    requires begun { HasBegun (R.meaning kept.world.rules) kept.world }
+    requires safe { IsSafe R.meaning kept.world }
     requires writable { CommitWritable (R.meaning kept.world.rules) }
     ensures { result ≡ kept }
 {

@@ -2,9 +2,11 @@
 
 ghost use Rattle.std.specs.Prelude.{◌≡◌};
 ghost use Rattle.unit_landscape.specs.Causes.{told_by};
+ghost use Rattle.unit_landscape.specs.Reopening.{told_by_look};
 
 use crate::AppendEnd;
 use ale_base::SystemNo;
+use unit_journal::{LookFault, Looked};
 
 /// Why a system is down, if it is.
 #[derive(Clone, Copy)]
@@ -30,5 +32,18 @@ pub(crate) fn tell(causes: &mut [Cause; 16], system: SystemNo, ended: &Result<()
         Err(AppendEnd::Volume) => causes[at] = Cause::Faulted,
         Err(AppendEnd::After) => causes[at] = Cause::Short,
         _ => {}
+    }
+}
+
+/// Tells why a system is down whose volume was looked at, where that failed.
+pub(crate) fn tell_look(
+    causes: &mut [Cause; 16],
+    system: SystemNo,
+    looked: &Result<Looked, LookFault>,
+)
+    ensures { causes.new ≡ told_by_look causes.old system looked.now }
+{
+    if let Err(LookFault::Volume) = looked {
+        causes[system.get() as usize - 1] = Cause::Faulted;
     }
 }

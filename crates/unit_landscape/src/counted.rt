@@ -42,7 +42,8 @@ pub(crate) struct Counted {
 }
 
 impl Counted {
-    ghost use Rattle.std.specs.Prelude.{◌≡◌, ◌-◌, ◌≤◌, ◌<◌, ◌^◌, length, slice_index_or};
+    ghost use Rattle.std.specs.Prelude.{◌≡◌, ◌-◌, ◌≤◌, ◌<◌, ◌^◌, length, slice_index_or, slice_set};
+    ghost use Rattle.unit_core.specs.Filters.{received, executed};
     ghost use Rattle.unit_landscape.specs.Counted.{AreCounted, HasRoom, counted_by, sum_to};
 
     /// The counts of the logs of systems.
@@ -82,6 +83,16 @@ impl Counted {
             }
             Err(_) => {}
         }
+    }
+
+    /// Counts what the log of a system received and executed anew.
+    pub(crate) fn count(&mut self, system: SystemNo, log: &[Record])
+        ensures received { self.new.received ≡ slice_set self.old.received (system - 1) (length (received log.now)) }
+        ensures executed { self.new.executed ≡ slice_set self.old.executed (system - 1) (length (executed log.now)) }
+    {
+        let at = system.get() as usize - 1;
+        self.received[at] = received_in(log);
+        self.executed[at] = executed_in(log);
     }
 
     /// How many units the first systems received together, as many as this.

@@ -3,6 +3,7 @@
 ghost use Rattle.std.specs.Prelude.{◌≡◌};
 
 mod asking;
+mod reopening;
 
 use crate::adding::add;
 use crate::cause::tell;
@@ -147,6 +148,13 @@ impl<R: Rules, A: Application, V: Volumes> KeptWorld<R, A, V> {
         let records = self.both.world.log(system).len();
         self.counted.note(system, adds, records, &ended);
         ended
+    }
+
+    /// The log of a system. It is empty where there is no system of this number.
+    pub fn log(&self, system: SystemNo) -> &[Record]
+        ensures { result.now ≡ log_of self.now.world system }
+    {
+        self.both.world.log(system)
     }
 
     /// The volumes.

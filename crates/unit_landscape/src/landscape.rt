@@ -9,6 +9,7 @@ mod finishing;
 mod late;
 mod operating;
 mod quiet;
+mod reopening;
 mod replying;
 
 use crate::{Cause, KeptWorld};

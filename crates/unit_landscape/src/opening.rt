@@ -1,20 +1,23 @@
-//! Volumes that are opened for a landscape that begins, one system after the other.
+//! Volumes that are opened for a landscape, one system after the other.
 
+mod breach;
 mod fault;
 mod next;
+mod volume;
 
 use crate::{KeptWorld, WorldTables};
 use ale_base::Items;
 use ale_volumes::Volumes;
 pub use fault::{NotOpened, OpenFault};
-use next::open_next;
+use next::open_log;
 use std::alloc::Global;
 use std::marker::Model;
 use system_tables::Application;
 use trfc_protocol::{Rules, World};
 use unit_journal::SystemJournals;
+pub use volume::OpenedVolume;
 
-/// The systems of a landscape whose volumes are opened so far: each is up, and its log is empty.
+/// The systems of a landscape whose volumes are opened so far: each is up, with a legal log, which may be empty.
 #[derive(Drop)]
 pub struct Opening<R: Rules, A: Application, V: Volumes> {
     alloc: Global,
@@ -48,14 +51,17 @@ impl<R: Rules, A: Application, V: Volumes> Model for Opening<R, A, V> {
 }
 
 impl<R: Rules, A: Application, V: Volumes> Opening<R, A, V> {
-    ghost use Rattle.std.specs.Prelude.{◌≡◌, ◌<◌, [], length, IfOk};
+    ghost use Rattle.std.specs.Prelude.{◌≡◌, ◌<◌, ℕ, [], length, IfOk};
     ghost use Rattle.ale_volumes.specs.Clock.{LeavesOnly, KeepsOthers};
     ghost use Rattle.ale_volumes.specs.Faults.{CountsFault};
     ghost use Rattle.byte_journal.specs.Settled.{IsLeftByOpening, LeavesOnlyFromSync};
+    ghost use Rattle.trfc_protocol.specs.Legal.{IsLegal};
     ghost use Rattle.trfc_protocol.specs.Start.{first_world};
+    ghost use Rattle.trfc_protocol.specs.Worlds.{log_of};
     ghost use Rattle.unit_journal.specs.OnDisk.{count_of, moment_of};
     ghost use Rattle.unit_landscape.specs.Causes.{no_causes};
-    ghost use Rattle.unit_landscape.specs.Opening.{begun_world, IsOpened, OpenedAs, LeavesAs, LeftAs, HasFailed, vols_of};
+    ghost use Rattle.unit_landscape.specs.Opening.{logs_of, LeavesAs, HasFailed};
+    ghost use Rattle.unit_landscape.specs.Volumes.{IsFound, FoundAs, LeftFoundAs, vols_found};
 
     /// No system is opened yet. The records of the landscape are written with this moment, until another one is set.
     pub fn new(alloc: Global, rules: R, moment: Option<u64>, vols: V) -> Opening<R, A, V>
@@ -93,51 +99,53 @@ impl<R: Rules, A: Application, V: Volumes> Opening<R, A, V> {
         self.both.world.systems.len()
     }
 
-    /// Opens the volume of the next system, whose log is to be empty, with the application's tables of that system.
+    /// Opens the volume of the next system, whatever log it holds.
     ///
-    /// An `Err` gives the volumes back: the one that was opened is damaged, unread or not empty, exactly as it says, or a call on
-    /// it failed, or memory was refused.
-    pub fn system(self, application: A) -> Result<Opening<R, A, V>, NotOpened<V>>
+    /// An `Err` gives the volumes back: the one that was opened is damaged or unread, exactly as it says, or a call on it failed, or
+    /// memory was refused.
+    pub fn open_volume(self) -> Result<OpenedVolume<R, A, V>, NotOpened<V>>
         requires next { length self.world.systems < (R.meaning self.world.rules).systems }
-        requires stands { A.stands application [] }
 
-        // The system is up with an empty log, behind all that were opened, which are as before.
-        ensures opened { IfOk result (IsOpened application self) }
-        ensures why { V.disk.told → OpenedAs (V.disk.volume self.vols (length self.world.systems)).contents result }
+        // The log that the volume stands for, behind the systems that were opened, which are as before.
+        ensures found { IfOk result (IsFound self) }
+        ensures why { V.disk.told → FoundAs (V.disk.volume self.vols (length self.world.systems)).contents result }
 
         // What a read gives is as before, but for a gate that is the last byte.
-        ensures leaves { V.disk.told → LeavesAs (V.disk.volume self.vols (length self.world.systems)) (V.disk.volume (vols_of result) (length self.world.systems)) result }
+        ensures leaves { V.disk.told → LeavesAs (V.disk.volume self.vols (length self.world.systems))
+            (V.disk.volume (vols_found result) (length self.world.systems)) result }
 
         // A crash at any moment of the call leaves what was handed in, or what reads as it; from some moment on what stands for the
-        // empty log, or after an `Err` what reads as what was handed in.
-        ensures any_moment { V.disk.told → LeavesOnly V.disk self.vols (vols_of result) (length self.world.systems)
+        // log, or after an `Err` what reads as what was handed in.
+        ensures any_moment { V.disk.told → LeavesOnly V.disk self.vols (vols_found result) (length self.world.systems)
             (IsLeftByOpening (V.disk.volume self.vols (length self.world.systems))) }
-        ensures from_sync { V.disk.told → LeavesOnlyFromSync V.disk self.vols (vols_of result) (length self.world.systems)
-            (HasFailed result) (LeftAs (V.disk.volume self.vols (length self.world.systems)).contents result) }
-        ensures others { V.disk.told → KeepsOthers V.disk self.vols (vols_of result) (length self.world.systems) }
-        ensures faults { CountsFault (HasFailed result) (V.disk.faults self.vols) (V.disk.faults (vols_of result)) (length self.world.systems) }
+        ensures from_sync { V.disk.told → LeavesOnlyFromSync V.disk self.vols (vols_found result) (length self.world.systems)
+            (HasFailed result) (LeftFoundAs (V.disk.volume self.vols (length self.world.systems)).contents result) }
+        ensures others { V.disk.told → KeepsOthers V.disk self.vols (vols_found result) (length self.world.systems) }
+        ensures faults { CountsFault (HasFailed result) (V.disk.faults self.vols) (V.disk.faults (vols_found result)) (length self.world.systems) }
     {
         let Opening {
             alloc,
-            mut both,
+            both,
             mut journals,
             mut vols,
         } = self;
-        match open_next(alloc, &mut both, &mut journals, &mut vols, application) {
-            Ok(()) => Ok(Opening {
+        match open_log(&mut journals, &mut vols) {
+            Ok(log) => Ok(OpenedVolume {
                 alloc,
                 both,
                 journals,
                 vols,
+                log,
             }),
             Err(why) => Err(NotOpened { why, vols }),
         }
     }
 
-    /// The world of the systems that are opened, which is kept. None of them has fallen.
+    /// The world of the systems that are opened, which is kept. None of them has fallen, and the log of each is legal; it may be empty.
     pub fn into_kept(self) -> KeptWorld<R, A, V>
         ensures kept { result ≡ self }
-        ensures world { self.world ≡ begun_world self.world.rules [] (length self.world.systems) }
+        ensures world { self.world ≡ first_world self.world.rules (logs_of self.world) }
+        ensures legal { (system : ℕ) → IsLegal (R.meaning self.world.rules) system (log_of self.world system) }
         ensures causes { self.causes ≡ no_causes }
     {
         let Opening {

@@ -1,14 +1,15 @@
 //! The world beside the tables of its systems, and what changes both.
 
-ghost use Rattle.std.specs.Prelude.{◌≡◌, ◌≤◌, ◌-◌, length, slice_get, Some, true, OnOk, OnErr};
+ghost use Rattle.std.specs.Prelude.{◌≡◌, ◌≤◌, ◌-◌, length, slice_get, Some, true, false, OnOk, OnErr};
 ghost use Rattle.std.specs.Option.{option_copied};
-ghost use Rattle.trfc_protocol.specs.Worlds.{last_of};
+ghost use Rattle.trfc_protocol.specs.Worlds.{last_of, with_state};
 ghost use Rattle.system_tables.specs.Tables.{TablesOf, entered, left};
 ghost use Rattle.system_tables.specs.Noted.{Noted};
 ghost use Rattle.system_tables.specs.CanNote.{CanNote};
 ghost use Rattle.unit_landscape.specs.Changed.{ChangedAt};
 ghost use Rattle.unit_landscape.specs.Claims.{kind_of};
 ghost use Rattle.unit_landscape.specs.ClaimAnswers.{IsClaimedUnit, IsNextUnit};
+ghost use Rattle.unit_landscape.specs.Reopening.{IsDown, state_reopened};
 
 use crate::letting_go::{let_all_go, let_go};
 use ale_base::{Items, OutOfMemory, SystemNo, Tid, Way};
@@ -28,7 +29,7 @@ pub(crate) struct WorldTables<R: Rules, A: Application> {
 }
 
 impl<R: Rules, A: Application> WorldTables<R, A> {
-    ghost use Rattle.std.specs.Prelude.{◌≡◌, ◌≤◌, ◌-◌, [], length, slice_get, Some, true, IfOk, OnOk, OnErr};
+    ghost use Rattle.std.specs.Prelude.{◌≡◌, ◌≤◌, ◌-◌, [], length, slice_get, slice_set, Some, true, IfOk, OnOk, OnErr};
     ghost use Rattle.std.specs.Option.{option_copied};
     ghost use Rattle.unit_core.specs.declared.records.Record.{Record};
     ghost use Rattle.trfc_protocol.specs.Worlds.{log_of, is_up, last_of, state_down, state_without_last, with_state, with_record, with_fall, with_claim, without_claim};
@@ -42,6 +43,7 @@ impl<R: Rules, A: Application> WorldTables<R, A> {
     ghost use Rattle.unit_landscape.specs.Joining.{without_named};
     ghost use Rattle.unit_landscape.specs.Noting.{IsToNote};
     ghost use Rattle.unit_landscape.specs.ClaimAnswers.{IsNextUnit};
+    ghost use Rattle.unit_landscape.specs.Reopening.{IsDown, state_reopened};
 
     /// A record joins the log of a system, and the units that it commits join its table of units, before the record is written.
     /// After an `Err` all is as before.
@@ -195,6 +197,29 @@ impl<R: Rules, A: Application> WorldTables<R, A> {
         let_all_go(&self.world, &mut self.tables, claims.as_slice());
     }
 
+    /// A system that is down is up, with the record that it was writing where that was found, else without; and these are its tables. After
+    /// an `Err` all is as before.
+    pub(crate) fn reopen(
+        &mut self,
+        system: SystemNo,
+        is_found: bool,
+        tables: SystemTables<A>,
+    ) -> Result<(), OutOfMemory>
+        requires down { IsDown self.old.world system }
+        requires within { system ≤ length self.old.tables }
+        ensures world { OnOk result (self.new.world ≡ with_state self.old.world system (state_reopened is_found)) }
+        ensures tables { OnOk result (self.new.tables ≡ slice_set self.old.tables (system - 1) tables) }
+        ensures err { OnErr result (self.new ≡ self.old) }
+    {
+        if is_found {
+            self.world.open(system)?;
+        } else {
+            come_up(&mut self.world, system);
+        }
+        *self.tables.at_mut(system.get() as usize - 1) = tables;
+        Ok(())
+    }
+
     /// A system falls, with the record that it may find at its opening, and all claims are gone. Its tables are of no use from then
     /// on, but for its units: so nothing is asked of them. It takes no memory.
     pub(crate) fn fall(&mut self, alloc: Global, system: SystemNo, rest: Option<Record>)
@@ -208,6 +233,16 @@ impl<R: Rules, A: Application> WorldTables<R, A> {
         self.world.fall(alloc, system, rest);
         let_all_go(&self.world, &mut self.tables, claims.as_slice());
     }
+}
+
+/// A system is up with the log that it has. What it was writing as it fell was not found, and is lost. It takes no memory.
+fn come_up<R: Rules>(world: &mut World<R>, system: SystemNo)
+    requires { IsDown world.old system }
+    ensures { world.new ≡ with_state world.old system (state_reopened false) }
+{
+    let state = world.systems.at_mut(system.get() as usize - 1);
+    state.up = true;
+    state.rest = None;
 }
 
 /// The last record of a log.

@@ -1,4 +1,4 @@
-//! Why a volume is not ready for a landscape that begins.
+//! Why a volume is not opened for a landscape.
 
 ghost use Rattle.std.specs.Prelude.{◌≡◌};
 ghost use Rattle.unit_landscape.specs.declared.opening.fault.OpenFault.TheVariants.{OutOfMemory as NoMemory};
@@ -8,7 +8,7 @@ use ale_base::OutOfMemory;
 use thiserror::Error;
 use unit_journal::LogFault;
 
-/// Why the volume of a system is not ready for a landscape that begins.
+/// Why the volume of a system is not opened.
 #[derive(Clone, Copy, Debug, PartialEq, Eq, Error)]
 pub enum OpenFault {
     /// A call on the volume failed.
@@ -20,9 +20,6 @@ pub enum OpenFault {
     /// The volume holds a log, and this record of it, counted from 1, is the first that is no entry.
     #[error("unread at {0}")]
     Unread(u64),
-    /// The volume holds a log that has records.
-    #[error("not empty")]
-    NotEmpty,
     /// A request for memory was refused.
     #[error("out of memory")]
     OutOfMemory,
@@ -49,7 +46,7 @@ impl From<OutOfMemory> for OpenFault {
     }
 }
 
-/// A landscape that does not begin: why, and the volumes.
+/// A volume that was not opened: why, and the volumes.
 #[derive(Drop)]
 pub struct NotOpened<V> {
     /// Why.

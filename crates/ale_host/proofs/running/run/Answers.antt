@@ -1,48 +1,59 @@
 use Rattle.std.specs.Arc.{arc_value}
-use Rattle.std.proofs.Common.{[], Some, length, zero-le, inl, refl, sym}
+use Rattle.std.proofs.Common.{[], Some, length, zero-le, inl, refl, sym, subst, ◌∙◌}
+use Rattle.dist_model.specs.declared.lists.Lists.{Lists}
 use Rattle.ale_volumes.specs.Disk.{Disk}
 use Rattle.ale_host.specs.declared.running.Report.TheVariants.{Commands, Counts}
-use Rattle.ale_host.specs.Running.{status_unopened, line_unopened}
+use Rattle.ale_host.specs.Running.{EndsUnopened}
 use Rattle.ale_host.proofs.RunningLemmas.{opened-up, ran-from}
 use Rattle.ale_host.proofs.running.run.Goals as goal
 
 pub returns-in-Err-clause-ended : goal.returns-in-Err-clause-ended
 returns-in-Err-clause-ended g c = λ not_6.
     let put = c.put_unopened-status.ensures.ended not_6 in (
-      line_unopened c.in-Err.field-0.why,
+      put.0,
       (
         [],
         inl (record {
           moment = c.now-moment.result;
           why = c.in-Err.field-0.why;
-          not_opened = record { whys = c.in-Err.ensures.why; faulted = c.in-Err.ensures.faults; left = c.in-Err.ensures.volumes };
-          status_is = put.0;
-          printed_is = refl;
+          not_opened = record {
+            whys = c.in-Err.ensures.why;
+            faulted = c.in-Err.ensures.faults;
+            left = c.in-Err.ensures.volumes;
+            judged = c.in-Err.ensures.not_refused;
+          };
+          ends = subst (λ (model : Lists). EndsUnopened model c.in-Err.field-0.why c.put_unopened-status.result put.0) (c.deref.ensures ∙ c.requires.names)
+              put.1;
           sure_is = refl;
           asked = c.now-moment.ensures.given;
         }),
-        put.1,
+        put.2,
       ),
     )
 
 pub returns-in-Err-clause-write_fault : goal.returns-in-Err-clause-write_fault
 returns-in-Err-clause-write_fault g c = λ is_6.
     let part = c.put_unopened-status.ensures.write_fault is_6 in (
-      status_unopened c.in-Err.field-0.why,
+      part.0,
       (
-        line_unopened c.in-Err.field-0.why,
+        part.1.0,
         (
           [],
           inl (record {
             moment = c.now-moment.result;
             why = c.in-Err.field-0.why;
-            not_opened = record { whys = c.in-Err.ensures.why; faulted = c.in-Err.ensures.faults; left = c.in-Err.ensures.volumes };
-            status_is = refl;
-            printed_is = refl;
+            not_opened = record {
+              whys = c.in-Err.ensures.why;
+              faulted = c.in-Err.ensures.faults;
+              left = c.in-Err.ensures.volumes;
+              judged = c.in-Err.ensures.not_refused;
+            };
+            ends = subst (λ (model : Lists). EndsUnopened model c.in-Err.field-0.why part.0 part.1.0) (c.deref.ensures ∙ c.requires.names)
+                part.1.1;
             sure_is = refl;
             asked = c.now-moment.ensures.given;
           }),
-          record { count = part.appends.0; least = zero-le; appends = part.appends.1; rose = part.rose },
+          record { count = part.1.2.appends.0; least = zero-le; appends = part.1.2.appends.1; rose = part.1.2.rose },
         ),
       ),
     )
@@ -54,8 +65,8 @@ run_opened-requires g c = (
     c.type_bounds.sync-R,
     (
       c.type_bounds.sync-G,
-      opened-up (length (arc_value c.args.prepared.model).systems) c.args.prepared.text
-          (Some c.now-moment.result) c.in-Ok.landscape c.in-Ok.ensures.opened,
+      opened-up (g.V.Volumes.disk) (length (arc_value c.args.prepared.model).systems) c.args.prepared.text
+          (Some c.now-moment.result) c.args.vols c.in-Ok.landscape c.in-Ok.ensures.opened,
     ),
   ),
 )
@@ -72,7 +83,7 @@ returns-in-Commands-clause-ended g c = λ not_6.
             (g.C.Clock.given c.args.clock.now)
             (g.C.Clock.given c.now-moment.new.self) (g.C.Clock.given c.run_opened.new.clock) c.run_opened.result.status ran.0 ran.1.0
             c.now-moment.result c.in-Ok.landscape c.args.prepared.inputs
-            (record { world = c.in-Ok.ensures.opened; empty = c.in-Ok.ensures.why; still = c.in-Ok.ensures.faults; left = c.in-Ok.ensures.volumes })
+            (record { world = c.in-Ok.ensures.opened; still = c.in-Ok.ensures.faults; left = c.in-Ok.ensures.volumes })
             c.requires.names refl (λ tells. c.now-moment.ensures.given (c.run_opened.ensures.told tells)) c.as_slice-commands.ensures
             (sym c.in-Commands.is) ran.1.1,
         ran.1.2,
@@ -93,7 +104,7 @@ returns-in-Commands-clause-write_fault g c = λ is_6.
               (g.C.Clock.given c.args.clock.now)
               (g.C.Clock.given c.now-moment.new.self) (g.C.Clock.given c.run_opened.new.clock) ran.0 ran.1.0 ran.1.1.0
               c.now-moment.result c.in-Ok.landscape c.args.prepared.inputs
-              (record { world = c.in-Ok.ensures.opened; empty = c.in-Ok.ensures.why; still = c.in-Ok.ensures.faults; left = c.in-Ok.ensures.volumes })
+              (record { world = c.in-Ok.ensures.opened; still = c.in-Ok.ensures.faults; left = c.in-Ok.ensures.volumes })
               c.requires.names refl (λ tells. c.now-moment.ensures.given (c.run_opened.ensures.told tells)) c.as_slice-commands.ensures
               (sym c.in-Commands.is) ran.1.1.1,
           ran.1.1.2,
@@ -108,8 +119,8 @@ load_opened-requires g c = (
     c.type_bounds.sync-R,
     (
       c.type_bounds.sync-G,
-      opened-up (length (arc_value c.args.prepared.model).systems) c.args.prepared.text
-          (Some c.now-moment.result) c.in-Ok.landscape c.in-Ok.ensures.opened,
+      opened-up (g.V.Volumes.disk) (length (arc_value c.args.prepared.model).systems) c.args.prepared.text
+          (Some c.now-moment.result) c.args.vols c.in-Ok.landscape c.in-Ok.ensures.opened,
     ),
   ),
 )
@@ -126,7 +137,7 @@ returns-clause-ended g c = λ not_6.
             (g.C.Clock.given c.args.clock.now)
             (g.C.Clock.given c.now-moment.new.self) (g.C.Clock.given c.load_opened.new.clock) c.load_opened.result.status ran.0 ran.1.0
             c.now-moment.result c.in-Ok.landscape c.args.prepared.inputs
-            (record { world = c.in-Ok.ensures.opened; empty = c.in-Ok.ensures.why; still = c.in-Ok.ensures.faults; left = c.in-Ok.ensures.volumes })
+            (record { world = c.in-Ok.ensures.opened; still = c.in-Ok.ensures.faults; left = c.in-Ok.ensures.volumes })
             c.requires.names refl (λ tells. c.now-moment.ensures.given (c.load_opened.ensures.told tells)) c.as_slice-commands.ensures
             (sym c.in-Counts.is) ran.1.1,
         ran.1.2,
@@ -147,7 +158,7 @@ returns-clause-write_fault g c = λ is_6.
               (g.C.Clock.given c.args.clock.now)
               (g.C.Clock.given c.now-moment.new.self) (g.C.Clock.given c.load_opened.new.clock) ran.0 ran.1.0 ran.1.1.0
               c.now-moment.result c.in-Ok.landscape c.args.prepared.inputs
-              (record { world = c.in-Ok.ensures.opened; empty = c.in-Ok.ensures.why; still = c.in-Ok.ensures.faults; left = c.in-Ok.ensures.volumes })
+              (record { world = c.in-Ok.ensures.opened; still = c.in-Ok.ensures.faults; left = c.in-Ok.ensures.volumes })
               c.requires.names refl (λ tells. c.now-moment.ensures.given (c.load_opened.ensures.told tells)) c.as_slice-commands.ensures
               (sym c.in-Counts.is) ran.1.1.1,
           ran.1.1.2,

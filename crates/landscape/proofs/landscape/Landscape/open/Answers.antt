@@ -1,31 +1,25 @@
 use Rattle.std.specs.Arc.{arc_value}
-use Rattle.std.proofs.Common.{◌≡◌, ℕ, List, length, refl, sym, subst, ◌∙◌}
+use Rattle.std.proofs.Common.{◌≡◌, ◌≤◌, ℕ, List, length, refl, sym, subst, ◌∙◌, arith}
+use Rattle.unit_landscape.specs.Beginning.{HaveBegun}
 use Rattle.unit_landscape.specs.KeptWorlds.{KeptOf}
+use Rattle.unit_landscape.proofs.ReopeningLemmas.{IsSafe-begun_all}
 use Rattle.document_state.specs.declared.document_tables.DocumentTables.{DocumentTables}
 use Rattle.document_state.specs.declared.model_rules.ModelRules.{ModelRules}
 use Rattle.document_state.proofs.WritableLemmas.{commit-writable}
 use Rattle.landscape.specs.Begun.{AreBegun}
 use Rattle.landscape.specs.Opened.{HasOpened}
-use Rattle.landscape.specs.steps.Opening.{AreBegunSoFar}
-use Rattle.landscape.proofs.OpeningLemmas.{are-begun, has-begun, has-opened}
+use Rattle.landscape.specs.steps.Opening.{AreBegunSoFar, rules_of}
+use Rattle.landscape.proofs.BegunLemmas.{is_lawful}
+use Rattle.landscape.proofs.BeginningLemmas.{are-begun, has-opened, holds-sound}
 use Rattle.landscape.proofs.landscape.Landscape.open.Goals as goal
 
-pub begun-requires-clause-begun : goal.begun-requires-clause-begun
-begun-requires-clause-begun g c =
-    let many : c.len-systems.result ≡ length (arc_value c.args.model).systems = (let
-    a = c.len-systems.ensures in let b = c.as_lists.ensures.same in let d = c.deref.ensures in cc) in
-    let text : c.as_slice.result.now ≡ c.args.text = (let a = c.as_slice.ensures in let b = c.text.view_is in cc) in
-    let so_far =
-    subst (λ m. AreBegunSoFar g.V.Volumes.disk m c.args.text c.args.moment
-    c.args.vols m c.in_ok-kept.kept) many
-    (subst (λ (t : List ℕ). AreBegunSoFar g.V.Volumes.disk
-    c.len-systems.result t c.args.moment c.args.vols c.len-systems.result c.in_ok-kept.kept) text
-    c.in_ok-kept.ensures) in
-    has-begun g.V.Volumes.disk (length (arc_value c.args.model).systems)
-    c.args.text c.args.moment c.args.vols c.in_ok-kept.kept so_far
+pub reopened-requires-clause-safe : goal.reopened-requires-clause-safe
+reopened-requires-clause-safe g c =
+    let all = c.in_ok-kept.ensures.ends.all in
+    IsSafe-begun_all rules_of is_lawful c.in_ok-kept.kept.world c.len-systems.result c.in_ok-kept.ensures.begun (omega (arith, all))
 
-pub begun-requires-clause-writable : goal.begun-requires-clause-writable
-begun-requires-clause-writable g c = record { each = commit-writable c.in_ok-kept.kept.world.rules.systems }
+pub reopened-requires-clause-writable : goal.reopened-requires-clause-writable
+reopened-requires-clause-writable g c = record { each = commit-writable c.in_ok-kept.kept.world.rules.systems }
 
 pub new-requires : goal.new-requires
 new-requires g c =
@@ -33,14 +27,11 @@ new-requires g c =
     a = c.len-systems.ensures in let b = c.as_lists.ensures.same in let d = c.deref.ensures in cc) in
     let text : c.as_slice.result.now ≡ c.args.text = (let a = c.as_slice.ensures in let b = c.text.view_is in cc) in
     let so_far =
-    subst (λ m. AreBegunSoFar g.V.Volumes.disk m c.args.text c.args.moment
-    c.args.vols m c.in_ok-kept.kept) many
-    (subst (λ (t : List ℕ). AreBegunSoFar g.V.Volumes.disk
-    c.len-systems.result t c.args.moment c.args.vols c.len-systems.result c.in_ok-kept.kept) text
-    c.in_ok-kept.ensures) in
-    subst (λ (k : KeptOf ModelRules DocumentTables g.row.V.Denot). AreBegun k.world) (sym c.begun.ensures)
-    (are-begun g.V.Volumes.disk (length (arc_value c.args.model).systems)
-    c.args.text c.args.moment c.args.vols c.in_ok-kept.kept so_far (arc_value c.args.model) c.requires.said refl)
+    subst (λ m. AreBegunSoFar g.V.Volumes.disk m c.args.text c.args.moment c.args.vols m c.in_ok-kept.kept) many
+    (subst (λ (t : List ℕ). AreBegunSoFar g.V.Volumes.disk c.len-systems.result t c.args.moment c.args.vols c.len-systems.result c.in_ok-kept.kept) text
+    c.in_ok-kept.ensures.ends) in
+    subst (λ (k : KeptOf ModelRules DocumentTables g.row.V.Denot). AreBegun k.world) (sym c.reopened.ensures)
+    (are-begun g.V.Volumes.disk (length (arc_value c.args.model).systems) c.args.text c.args.moment c.args.vols c.in_ok-kept.kept so_far (arc_value c.args.model) c.requires.said refl)
 
 pub returns-clause-opened : goal.returns-clause-opened
 returns-clause-opened g c =
@@ -48,11 +39,23 @@ returns-clause-opened g c =
     a = c.len-systems.ensures in let b = c.as_lists.ensures.same in let d = c.deref.ensures in cc) in
     let text : c.as_slice.result.now ≡ c.args.text = (let a = c.as_slice.ensures in let b = c.text.view_is in cc) in
     let so_far =
-    subst (λ m. AreBegunSoFar g.V.Volumes.disk m c.args.text c.args.moment
-    c.args.vols m c.in_ok-kept.kept) many
-    (subst (λ (t : List ℕ). AreBegunSoFar g.V.Volumes.disk
-    c.len-systems.result t c.args.moment c.args.vols c.len-systems.result c.in_ok-kept.kept) text
-    c.in_ok-kept.ensures) in
-    subst (HasOpened (length (arc_value c.args.model).systems) c.args.text c.args.moment) (sym (c.new.ensures ∙ c.begun.ensures))
-    (has-opened g.V.Volumes.disk (length (arc_value c.args.model).systems)
-    c.args.text c.args.moment c.args.vols c.in_ok-kept.kept so_far)
+    subst (λ m. AreBegunSoFar g.V.Volumes.disk m c.args.text c.args.moment c.args.vols m c.in_ok-kept.kept) many
+    (subst (λ (t : List ℕ). AreBegunSoFar g.V.Volumes.disk c.len-systems.result t c.args.moment c.args.vols c.len-systems.result c.in_ok-kept.kept) text
+    c.in_ok-kept.ensures.ends) in
+    subst (HasOpened g.V.Volumes.disk (length (arc_value c.args.model).systems) c.args.text c.args.moment c.args.vols) (sym (c.new.ensures ∙ c.reopened.ensures))
+    (has-opened g.V.Volumes.disk (length (arc_value c.args.model).systems) c.args.text c.args.moment c.args.vols c.in_ok-kept.kept so_far
+    (subst (λ m. HaveBegun rules_of m c.in_ok-kept.kept.world) many c.in_ok-kept.ensures.begun))
+
+pub returns-clause-why : goal.returns-clause-why
+returns-clause-why g c =
+    let many : c.len-systems.result ≡ length (arc_value c.args.model).systems = (let
+    a = c.len-systems.ensures in let b = c.as_lists.ensures.same in let d = c.deref.ensures in cc) in
+    let text : c.as_slice.result.now ≡ c.args.text = (let a = c.as_slice.ensures in let b = c.text.view_is in cc) in
+    let so_far =
+    subst (λ m. AreBegunSoFar g.V.Volumes.disk m c.args.text c.args.moment c.args.vols m c.in_ok-kept.kept) many
+    (subst (λ (t : List ℕ). AreBegunSoFar g.V.Volumes.disk c.len-systems.result t c.args.moment c.args.vols c.len-systems.result c.in_ok-kept.kept) text
+    c.in_ok-kept.ensures.ends) in
+    holds-sound g.V.Volumes.disk (length (arc_value c.args.model).systems) c.args.text c.args.moment c.args.vols c.in_ok-kept.kept so_far
+
+pub returns-clause-not_refused : goal.returns-clause-not_refused
+returns-clause-not_refused g c tells hold = tt

@@ -1,12 +1,8 @@
-use Rattle.std.proofs.Common.{◌≡◌, ◌-◌, [], ap, arith, ◌∙◌}
-use Rattle.unit_landscape.specs.Opening.{begun_world}
 use Rattle.landscape.proofs.landscape.opening.begin_over.Goals as goal
 
-pub begin_all-requires-clause-begins : goal.begin_all-requires-clause-begins
-begin_all-requires-clause-begins g c =
-    let is = c.in_ok-kept.ensures [] in
-    let none : c.args.systems - 0 ≡ c.args.systems = omega arith in
-    is.world ∙ ap (begun_world c.in_ok-kept.kept.world.rules []) none
+pub begin_all-requires-clause-all : goal.begin_all-requires-clause-all
+begin_all-requires-clause-all g c = (c.in_ok-kept.ensures.ends c.args.moment c.args.vols c.in_ok-opening.ensures).all
 
-pub returns : goal.returns
-returns g c = c.begin_all.ensures c.args.moment c.args.vols (c.in_ok-kept.ensures c.args.text.now)
+pub returns-clause-ends : goal.returns-clause-ends
+returns-clause-ends g c =
+    c.begin_all.ensures.ends c.args.moment c.args.vols (c.in_ok-kept.ensures.ends c.args.moment c.args.vols c.in_ok-opening.ensures)

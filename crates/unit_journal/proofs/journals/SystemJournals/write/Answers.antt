@@ -129,7 +129,7 @@ returns-in-Err-clause-torn g c = λ log on_disk is.
     let found : slice_index_or c.keep_rest.new.rests place None ≡ moment =
     ap (λ (i : ℕ). slice_index_or c.keep_rest.new.rests i None) (sym at) ∙ c.keep_rest.ensures.found fault in
     subst (λ (after : SystemJournals). IsLeftOnDisk V.disk new place after log (Some c.args.next.now)) (sym same)
-    (IsLeft-torn V.disk old place all log was here on_disk new c.args.next.now moment c.next_moment-moment.ensures
+    (IsLeft-torn V.disk old place all log was here on_disk new c.args.next.now moment c.requires.entry c.next_moment-moment.ensures
     (λ tells image later image_is. g.met.V.Volumes.counts_now tells new place (V.disk.moment old) image later image_is) leaves c.keep_rest.new.rests found)
 
 pub returns-in-Err-clause-unwritten : goal.returns-in-Err-clause-unwritten

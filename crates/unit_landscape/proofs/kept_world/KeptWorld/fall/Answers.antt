@@ -29,7 +29,7 @@ invariant_of-self g c =
       on_volumes = subst (λ w. AreOnVolumes disk vols w.systems journals) (sym c.fall.ensures.world)
           (on_volumes-fell disk vols vols world journals journals c.args.system None up c.self.invariant.on_volumes
           (OnlyAt-same disk (c.args.system - 1) journals) (c.self.invariant.on_volumes.order (c.args.system - 1)) (λ other differs tells. refl)
-          (IsLeft-of disk vols (c.args.system - 1) journals (log_of world c.args.system) None on_disk));
+          (IsLeft-of disk vols (c.args.system - 1) journals (log_of world c.args.system) on_disk));
       causes = subst (λ n. AreCausesOf c.fall.new.self.world.systems (with_cause c.self.inside.causes n c.args.cause)) (sym c.get.ensures.number)
           (subst (λ w. AreCausesOf w.systems (with_cause c.self.inside.causes c.args.system c.args.cause)) (sym c.fall.ensures.world)
           (causes-fell world c.args.system None c.args.cause c.self.inside.causes up
