@@ -25,6 +25,7 @@ module _ (model : Lists) (old new : Option (List ℕ)) (faults faults_new : ℕ)
   unwritten-of end.Whole other status line ends part = (status, (line, ends, part))
   unwritten-of (end.DownByFault system) other status line ends part = (status, (line, ends, part))
   unwritten-of (end.DownFull system size) other status line ends part = (status, (line, ends, part))
+  unwritten-of (end.Changed system number) other status line ends part = (status, (line, ends, part))
   unwritten-of end.WriteFailed other status line ends part = absurd (other refl)
   unwritten-of end.OutOfMemory other status line ends part = (status, (line, ends, part))
 
@@ -49,6 +50,8 @@ module _ {V : Type 0} (model : Lists) (a b c : Option (List ℕ)) (faults faults
   whole-put (end.DownByFault system) put closed not_6 = let last = closed.whole not_6 in
       (last.0, last.1, refl, IsPut-then a b c faults faults_b faults_c (text_of turns) last.0 put last.2)
   whole-put (end.DownFull system size) put closed not_6 = let last = closed.whole not_6 in
+      (last.0, last.1, refl, IsPut-then a b c faults faults_b faults_c (text_of turns) last.0 put last.2)
+  whole-put (end.Changed system number) put closed not_6 = let last = closed.whole not_6 in
       (last.0, last.1, refl, IsPut-then a b c faults faults_b faults_c (text_of turns) last.0 put last.2)
   whole-put end.WriteFailed put closed not_6 = absurd (not_6 (closed.unwritten refl))
   whole-put end.OutOfMemory put closed not_6 = let last = closed.whole not_6 in
@@ -92,6 +95,8 @@ module _ {V : Type 0} (model : Lists) (a b c : Option (List ℕ)) (faults faults
       (last.0, (last.1.0, (text_of turns, last.1.1, refl, with-line last.1.0 put last.1.2)))
   part-put (end.DownFull system size) put closed is_6 = let last = closed.part is_6 in
       (last.0, (last.1.0, (text_of turns, last.1.1, refl, with-line last.1.0 put last.1.2)))
+  part-put (end.Changed system number) put closed is_6 = let last = closed.part is_6 in
+      (last.0, (last.1.0, (text_of turns, last.1.1, refl, with-line last.1.0 put last.1.2)))
   part-put end.WriteFailed put closed is_6 =
       (6, ([], (text_of put.0, inl (refl, refl), (put.0, (put.1.0, put.1.1, refl)), cut-turn put.0 put.1.0 put.1.1 put.1.2 (closed.part is_6))))
   part-put end.OutOfMemory put closed is_6 = let last = closed.part is_6 in
@@ -102,6 +107,9 @@ fault-other system = λ same. absurd (cc)
 
 pub full-other : (system size : ℕ) → end.DownFull system size ≢ end.WriteFailed
 full-other system size = λ same. absurd (cc)
+
+pub changed-other : (system number : ℕ) → end.Changed system number ≢ end.WriteFailed
+changed-other system number = λ same. absurd (cc)
 
 pub short-other : end.OutOfMemory ≢ end.WriteFailed
 short-other = λ same. absurd (cc)
@@ -115,5 +123,6 @@ pub none-failed : {V : Type 0} (its : RunEnd) (before after : Option (List ℕ))
 none-failed end.Whole before after turns put = λ same. absurd (cc)
 none-failed (end.DownByFault system) before after turns put = fault-other system
 none-failed (end.DownFull system size) before after turns put = full-other system size
+none-failed (end.Changed system number) before after turns put = changed-other system number
 none-failed end.OutOfMemory before after turns put = short-other
 none-failed end.WriteFailed before after turns put = absurd (none-rose put.1.2.rose)

@@ -10,5 +10,7 @@ pub mod EndingLemmas
 pub mod ReadsLemmas
 -- the last line of a run, and the text before it
 pub mod ClosingLemmas
+-- what a run leaves holds sound logs of its text
+pub mod LeftLemmas
 -- a run from the systems that were opened on
 pub mod RunningLemmas

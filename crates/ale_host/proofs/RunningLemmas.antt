@@ -3,7 +3,8 @@
 use Rattle.std.proofs.Common.{◌≡◌, ◌≤◌, ℕ, suc, Option, None, Some, Ok, List, [], ◌∷◌, ◌++◌, length, map, inr, refl, sym, ap, subst, ◌∙◌}
 use Rattle.std.proofs.lemmas.Bool.{leb-true}
 use Rattle.std.specs.Arc.{arc_value}
-use Rattle.ale_volumes.specs.Disk.{Disk}
+use Rattle.ale_volumes.specs.Disk.{Disk, LeftSince}
+use Rattle.ale_volumes.specs.Volume.{IsImage}
 use Rattle.said_models.specs.Said.{said, of_answer}
 use Rattle.model_text.specs.Text.{answer_to}
 use Rattle.model_text.specs.declared.reading.TheConstants.{MAX_BYTES}
@@ -17,6 +18,7 @@ use Rattle.unit_landscape.specs.Opening.{logs_of}
 use Rattle.unit_landscape.specs.KeptWorlds.{KeptOf}
 use Rattle.document_state.specs.declared.document_tables.DocumentTables.{DocumentTables}
 use Rattle.document_state.specs.declared.model_rules.ModelRules.{ModelRules}
+use Rattle.landscape.specs.Crashes.{GoesSoundly, LeavesSoundLogs}
 use Rattle.landscape.specs.Opened.{HasOpened}
 use Rattle.unit_works.specs.Wires.{letters_left}
 use Rattle.unit_works.specs.Through.{IsClear}
@@ -29,7 +31,8 @@ use Rattle.ale_io.specs.Told.{Told}
 use Rattle.ale_host.specs.declared.running.Report.{Report}
 use Rattle.ale_host.specs.declared.running.Report.TheVariants.{Commands, Counts}
 use Rattle.ale_host.specs.LoadModel.{load_model}
-use Rattle.ale_host.specs.Running.{AskFor, Opened, RanFrom, RunsTo}
+use Rattle.ale_host.specs.Running.{AskFor, KeepsSoundLogs, Opened, RanFrom, RunsTo}
+use Rattle.ale_host.proofs.LeftLemmas.{keeps-sound, sound-first}
 
 -- a text that is answered by a model says it
 pub said-of : (text : List ℕ) (model : Lists) → answer_to text ≡ Ok model → said text ≡ Some model
@@ -85,30 +88,36 @@ pub asks-short : (words : List (List ℕ)) (told : List ℕ → Told) (report : 
 asks-short words told Commands text model documents commands asks = asks.1.in_file.1
 asks-short words told Counts text model documents commands asks = subst (λ (its : List ℕ). length its ≤ MAX_BYTES) (sym asks.2) load-short
 
--- nothing holds units up at first where no queue is stopped and no unit marked, since no letter was given
-free-first : {V : Type 0} (begun : KeptOf ModelRules DocumentTables V) (first : Stage V) → first.landscape ≡ begun
+-- nothing holds units up at first where no queue is stopped and no unit marked, since all systems are up and no letter was given
+free-first : {V : Type 0} (begun : KeptOf ModelRules DocumentTables V) (first : Stage V) → first.landscape ≡ begun → first_down begun.world ≡ None
     → ((tid : TidOf) → letters_left first.wires tid ≡ []) → IsClear begun.world → IsFree first
-free-first {V} begun first begins none clear = record {
+free-first {V} begun first begins ups none clear = record {
+  up = subst (λ (k : KeptOf ModelRules DocumentTables V). first_down k.world ≡ None) (sym begins) ups;
   clear = subst (λ (k : KeptOf ModelRules DocumentTables V). IsClear k.world) (sym begins) clear;
   none = none;
 }
 
 -- a run from the systems that were opened
-pub ran-from : {V : Type 0} (disk : Disk V) (text : List ℕ) (model : Lists) (masters : List RawUnitDoc) (commands commands_then : List Command)
+pub ran-from : {V : Type 0} (disk : Disk V)
+    → (disk.told → (vols : V) (n : ℕ) (image : List ℕ) → LeftSince disk vols n (disk.moment vols) image → IsImage (disk.volume vols n) image)
+    → (disk.told → (vols : V) (n t : ℕ) (image : List ℕ) → t ≤ disk.moment vols → IsImage (disk.volume vols n) image → LeftSince disk vols n t image)
+    → (disk.told → (vols : V) (n : ℕ) → IsImage (disk.volume vols n) (disk.volume vols n).contents)
+    → (text : List ℕ) (model : Lists) (masters : List RawUnitDoc) (commands commands_then : List Command)
     (before after : V) (report report_then : Report) (clock : Type 0) (given given_then given_after : List ℕ) (status : ℕ) (printed sure : List ℕ)
     (moment : ℕ)
-    (begun : KeptOf ModelRules DocumentTables V) (inputs : Inputs) → Opened disk text model masters commands before after moment begun
+    (begun : KeptOf ModelRules DocumentTables V) (inputs : Inputs) → said text ≡ Some model → Opened disk text model masters commands before after moment begun
     → arc_value inputs.model ≡ model → inputs.masters ≡ masters → (clock → given_then ≡ given ++ moment ∷ []) → commands_then ≡ commands
     → report_then ≡ report → RanFrom disk report_then (arc_value inputs.model) inputs commands_then begun after clock given_then given_after status printed sure
     → RunsTo disk text model masters commands before after report clock given given_after status printed sure
-ran-from disk text model masters commands commands_then before after report report_then clock given given_then given_after status printed sure moment begun
-    inputs
-    opened names masters_are asked same reports from =
+ran-from {V} disk only_now counts_now read_is_image text model masters commands commands_then before after report report_then clock given given_then
+    given_after status printed sure moment begun inputs says opened names masters_are asked same reports from =
     let its : RanFrom disk report model inputs commands begun after clock given_then given_after status printed sure =
     subst (λ one. RanFrom disk one model inputs commands begun after clock given_then given_after status printed sure) reports
     (from-said disk report_then (arc_value inputs.model) model inputs commands_then commands begun after clock given_then given_after status printed sure
     names same from) in
     let run = its.run in
+    let sound = subst (λ (k : KeptOf ModelRules DocumentTables V). LeavesSoundLogs disk k k × GoesSoundly disk k its.left.landscape) its.begins
+    (sound-first disk inputs its.first its.turns its.left run.sound) in
     inr (record {
       moment = moment;
       begun = begun;
@@ -119,5 +128,10 @@ ran-from disk text model masters commands commands_then before after report repo
       given_then = given_then;
       asked = asked;
       from = its;
-      complete = λ clear. run.complete (free-first begun its.first its.begins its.no_letters clear);
+      keeps = subst (KeepsSoundLogs disk (length model.systems) text begun) (sym its.volumes)
+          (keeps-sound disk only_now counts_now read_is_image (length model.systems) text model (Some moment) before begun its.left.landscape opened.world
+          says refl sound.0 sound.1 its.safe its.on_volumes);
+      complete = λ clear.
+          run.complete (free-first begun its.first its.begins (opened-up disk (length model.systems) text (Some moment) before begun opened.world)
+          its.no_letters clear);
     })

@@ -1,6 +1,6 @@
 -- How `run` ends whose files were read: the systems are opened over the volumes, the commands are carried out, and the text of each is
 -- put. This project's own.
-use Rattle.std.specs.Prelude.{◌≡◌, ◌⊎◌, ⊤, ℕ, ◌<◌, List, [], ◌∷◌, ◌++◌, Some, Ok, length, map, codes}
+use Rattle.std.specs.Prelude.{◌≡◌, ◌⊎◌, ⊤, ℕ, ◌-◌, ◌≤◌, ◌<◌, List, [], ◌∷◌, ◌++◌, Some, Ok, length, map, codes}
 use Rattle.std.specs.Arc.{arc_value}
 use Rattle.ale_base.specs.Tid.{TidOf}
 use Rattle.ale_io.specs.Told.{Told}
@@ -24,14 +24,16 @@ use Rattle.landscape.specs.declared.open_end.OpenWhy.{OpenWhy}
 use Rattle.landscape.specs.declared.open_end.OpenWhy.TheVariants as open_why
 use Rattle.landscape.specs.declared.counts.Counts.{Counts}
 use Rattle.landscape.specs.Counted.{held_by}
+use Rattle.landscape.specs.Crashes.{OpeningLeavesOpenable}
 use Rattle.landscape.specs.Opened.{EndedByFault, HasOpened, HoldSoundLogs, LeavesOpening, MayBegin, NoneFailed, WhyEnded, bytes_in}
+use Rattle.status_log.specs.declared.cause.Cause.TheVariants as cause
 use Rattle.report_text.specs.declared.faults.FaultLine.TheVariants as last
 use Rattle.report_text.specs.FaultLine.{fault_line}
 use Rattle.runs.specs.declared.inputs.Inputs.{Inputs}
 use Rattle.runs.specs.declared.run_end.RunEnd.{RunEnd}
 use Rattle.runs.specs.declared.run_end.RunEnd.TheVariants as end
 use Rattle.runs.specs.declared.stage.Stage.{Stage}
-use Rattle.runs.specs.Complete.{AllGoThrough, HoldNothing, OfferAll}
+use Rattle.runs.specs.Complete.{AllGoThrough}
 use Rattle.runs.specs.Run.{AreAsked, Run}
 use Rattle.runs.specs.Turns.{Turn, text_of}
 use Rattle.unit_works.specs.Through.{IsClear}
@@ -82,6 +84,7 @@ abbrev pub status_at : RunEnd → ℕ
 status_at end.Whole = 0
 status_at (end.DownByFault system) = 11
 status_at (end.DownFull system size) = 12
+status_at (end.Changed system number) = 7
 status_at end.WriteFailed = 6
 status_at end.OutOfMemory = 9
 
@@ -90,6 +93,7 @@ abbrev pub IsLine : Lists → RunEnd → List ℕ → Type 0
 IsLine model end.Whole line = line ≡ []
 IsLine model (end.DownByFault system) line = line ≡ fault_line (last.DownByFault (system_name model system))
 IsLine model (end.DownFull system size) line = line ≡ fault_line (last.DownFull (system_name model system) size)
+IsLine model (end.Changed system number) line = line ≡ fault_line (last.Journals (system_name model system) number cause.Changed)
 IsLine model end.WriteFailed line = line ≡ []
 IsLine model end.OutOfMemory line = line ≡ short_line
 
@@ -97,6 +101,7 @@ IsLine model end.OutOfMemory line = line ≡ short_line
 abbrev pub MayBeShort : RunEnd → Type 0
 MayBeShort (end.DownByFault system) = ⊤
 MayBeShort (end.DownFull system size) = ⊤
+MayBeShort (end.Changed system number) = ⊤
 MayBeShort its = ⊥
 
 -- the status of an ending and its line are these; or memory was wanting for the line
@@ -159,6 +164,14 @@ pub record RanFrom {V : Type 0} (disk : Disk V) (report : Report) (model : Lists
   pub causes : AreCausesOf left.landscape.world.systems left.landscape.causes
   pub asked : AreAsked clock given given_after turns run.halted
 
+-- Whatever a crash leaves of the volumes of so many systems, at any one moment since they were opened, holds sound logs of the text, and so does
+-- what a read gives of them now: an opening with that text does not refuse it.
+pub record KeepsSoundLogs {V : Type 0} (disk : Disk V) (many : ℕ) (text : List ℕ) (begun : KeptOf ModelRules DocumentTables V) (after : V) : Type 0 where
+  pub since : disk.told → (moment : ℕ) → disk.moment begun.vols ≤ moment → moment ≤ disk.moment after → (images : ℕ → List ℕ)
+      → ((system : ℕ) → 1 ≤ system → system ≤ many → disk.left_at after (system - 1) moment (images system))
+      → HoldSoundLogs many text images
+  pub now : disk.told → HoldSoundLogs many text (bytes_in disk after)
+
 module _ {V : Type 0} (disk : Disk V) (text : List ℕ) (model : Lists) (masters : List RawUnitDoc) (commands : List Command) (before after : V) where
   abbrev many : ℕ
   many = length model.systems
@@ -166,16 +179,18 @@ module _ {V : Type 0} (disk : Disk V) (text : List ℕ) (model : Lists) (masters
   -- the systems were not opened; volumes that hold sound logs of these systems and of this text are not refused
   pub record NotOpened (moment : ℕ) (why : OpenWhy) : Type 0 where
     pub whys : WhyEnded disk many text (Some moment) before after why
-    pub faulted : EndedByFault many disk before after why
-    pub left : disk.told → LeavesOpening disk many text (Some moment) before after (MayBegin why) ⊤
+    pub faulted : EndedByFault disk many text before after why
+    pub left : disk.told → LeavesOpening disk many text (Some moment) before after (MayBegin why × HoldSoundLogs many text (bytes_in disk before)) ⊤
+    pub opens : OpeningLeavesOpenable disk many text before after
     pub judged : disk.told → HoldSoundLogs many text (bytes_in disk before) → MayBegin why
 
   -- The systems were opened: all are up, and the log of each is the one that its volume held, or, where that was empty, its Genesis. These
   -- logs are legal and keep the exactly-once law.
   pub record Opened (moment : ℕ) (begun : KeptOf ModelRules DocumentTables V) : Type 0 where
     pub world : HasOpened disk many text (Some moment) before begun
-    pub still : NoneFailed many disk before begun.vols
-    pub left : disk.told → LeavesOpening disk many text (Some moment) before begun.vols ⊤ ⊥
+    pub still : NoneFailed disk before begun.vols
+    pub left : disk.told → LeavesOpening disk many text (Some moment) before begun.vols (⊤ × HoldSoundLogs many text (bytes_in disk before)) ⊥
+    pub opens : OpeningLeavesOpenable disk many text before begun.vols
 
   module _ (report : Report) (clock : Type 0) (given given_after : List ℕ) (status : ℕ) (printed sure : List ℕ) where
     -- the systems were not opened, and no command was carried out
@@ -187,9 +202,9 @@ module _ {V : Type 0} (disk : Disk V) (text : List ℕ) (model : Lists) (masters
       pub sure_is : sure ≡ []
       pub asked : clock → given_after ≡ given ++ moment ∷ []
 
-    -- The systems were opened, and the commands carried out. Where no queue was stopped at the start and no unit marked, no command stops a
-    -- queue or gives letters, and receivers offer the functions of all units, each unit that was committed, in this run or before it, went its
-    -- whole way behind each drain that left all systems up.
+    -- The systems were opened, and the commands carried out; the volumes hold sound logs of the text all along. Where no queue was stopped at
+    -- the start and no unit marked, each unit that was committed, in this run or before it, went its whole way behind each drain up to which no
+    -- command stops a queue, gives letters or crashes a system, all systems are up, and receivers offer the functions of all units.
     pub record Ran : Type 0 where
       pub moment : ℕ
       pub begun : KeptOf ModelRules DocumentTables V
@@ -200,7 +215,8 @@ module _ {V : Type 0} (disk : Disk V) (text : List ℕ) (model : Lists) (masters
       pub given_then : List ℕ
       pub asked : clock → given_then ≡ given ++ moment ∷ []
       pub from : RanFrom disk report model inputs commands begun after clock given_then given_after status printed sure
-      pub complete : IsClear begun.world → HoldNothing from.turns → OfferAll from.turns → AllGoThrough from.turns
+      pub keeps : KeepsSoundLogs disk many text begun after
+      pub complete : IsClear begun.world → AllGoThrough from.turns
 
     -- what became of a run
     abbrev pub RunsTo : Type 0

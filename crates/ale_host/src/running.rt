@@ -1,6 +1,6 @@
 //! A run whose files were read: the systems are opened, the commands are carried out, and the last line is put.
 
-ghost use Rattle.std.specs.Prelude.{◌≡◌, ◌≢◌, ◌≤◌, ℕ, List, None, Some, length, IfOk};
+ghost use Rattle.std.specs.Prelude.{◌≡◌, ◌≢◌, ◌≤◌, ℕ, List, Some, length, IfOk};
 ghost use Rattle.std.specs.Arc.{arc_value};
 ghost use Rattle.said_models.specs.Said.{said};
 ghost use Rattle.unit_landscape.specs.declared.beginning.TheConstants.{MOST_TEXT};
@@ -8,7 +8,6 @@ ghost use Rattle.dist_model.specs.Named.{system_name};
 ghost use Rattle.report_text.specs.declared.faults.FaultLine.TheVariants as last;
 ghost use Rattle.report_text.specs.FaultLine.{fault_line};
 ghost use Rattle.runs.specs.declared.run_end.RunEnd.TheVariants as run_end;
-ghost use Rattle.runs.specs.Turns.{first_down};
 ghost use Rattle.runs.specs.Put.{IsPart, IsPut};
 ghost use Rattle.ale_host.specs.Closing.{IsClosed};
 ghost use Rattle.ale_host.specs.EndsSo.{IsFront};
@@ -19,7 +18,7 @@ use crate::ending::OUT_OF_MEMORY;
 use crate::host::{Ended, WRITE_FAULT, put};
 use crate::loading::load_line;
 use crate::prepared::Prepared;
-use crate::unopened::put_unopened;
+use crate::unopened::{journals_text, put_unopened};
 use ale_base::{Items, OutOfMemory, SystemNo};
 use ale_io::{Clock, Gate, Sink, SinkFailed};
 use ale_volumes::Volumes;
@@ -28,6 +27,7 @@ use landscape::{Counts, Landscape, OpenEnd};
 use report_text::{FaultLine, fault_line};
 use runs::{Crew, Inputs, Ran, RunEnd, Stage, run_script};
 use script_text::Command;
+use status_log::Cause;
 use std::alloc::Global;
 use std::sync::Wait;
 use std::thread::Threads;
@@ -101,7 +101,6 @@ fn run_opened<R: Threads + Wait + Sync, G: Gate + Sync, V: Volumes + Send, K: Si
     out: &mut K,
     clock: &mut C,
 ) -> Ended<V>
-    requires up { first_down landscape.world ≡ None }
     ensures ended { result.status ≢ 6 → (printed : List ℕ) × ((sure : List ℕ)
         × RanFrom V.disk
         report_of.Commands (arc_value inputs.now.model) inputs.now commands.now landscape result.vols (C.told clock.new) (C.given clock.old) (C.given clock.new) result.status printed sure
@@ -161,7 +160,6 @@ fn load_opened<R: Threads + Wait + Sync, G: Gate + Sync, V: Volumes + Send, K: S
     out: &mut K,
     clock: &mut C,
 ) -> Ended<V>
-    requires up { first_down landscape.world ≡ None }
     ensures ended { result.status ≢ 6 → (printed : List ℕ) × ((sure : List ℕ)
         × RanFrom V.disk
         report_of.Counts (arc_value inputs.now.model) inputs.now commands.now landscape result.vols (C.told clock.new) (C.given clock.old) (C.given clock.new) result.status printed sure
@@ -208,6 +206,7 @@ fn close<K: Sink>(alloc: Global, model: &Model, end: RunEnd, out: &mut K) -> u8
         RunEnd::OutOfMemory => put(out, 9, OUT_OF_MEMORY),
         RunEnd::DownByFault(system) => put_fault(alloc, model, system, out),
         RunEnd::DownFull(system, size) => put_full(alloc, model, system, size, out),
+        RunEnd::Changed(system, number) => put_changed(alloc, model, system, number, out),
     }
 }
 
@@ -222,8 +221,11 @@ fn close_load<K: Sink>(alloc: Global, model: &Model, counts: Counts, end: RunEnd
 {
     match end {
         RunEnd::Whole => put_counts(alloc, counts, out),
-        RunEnd::DownByFault(_) | RunEnd::DownFull(..) | RunEnd::WriteFailed | RunEnd::OutOfMemory =>
-            close(alloc, model, end, out),
+        RunEnd::DownByFault(_)
+        | RunEnd::DownFull(..)
+        | RunEnd::Changed(..)
+        | RunEnd::WriteFailed
+        | RunEnd::OutOfMemory => close(alloc, model, end, out),
     }
 }
 
@@ -259,6 +261,23 @@ fn put_full<K: Sink>(alloc: Global, model: &Model, system: SystemNo, size: u64, 
 {
     match full_text(alloc, model, system, size) {
         Ok(text) => put(out, 12, text.as_slice()),
+        Err(_) => put(out, 9, OUT_OF_MEMORY),
+    }
+}
+
+/// Puts that a system was to be opened whose journal is another than was kept, and gives the status.
+fn put_changed<K: Sink>(
+    alloc: Global,
+    model: &Model,
+    system: SystemNo,
+    number: u64,
+    out: &mut K,
+) -> u8
+    ensures closed { IsClosed model.now (run_end.Changed system number) result (K.contents out.old) (K.contents out.new) (K.faults out.old) (K.faults out.new) }
+    ensures counted { K.faults out.old ≤ K.faults out.new }
+{
+    match journals_text(alloc, model, system, number, Cause::Changed) {
+        Ok(text) => put(out, 7, text.as_slice()),
         Err(_) => put(out, 9, OUT_OF_MEMORY),
     }
 }

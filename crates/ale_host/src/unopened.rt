@@ -73,7 +73,7 @@ fn refused_text(alloc: Global, model: &Model, refused: Refused) -> Result<Vec<u8
 }
 
 /// The last line where the journal of this system is refused.
-fn journals_text(
+pub(crate) fn journals_text(
     alloc: Global,
     model: &Model,
     system: SystemNo,

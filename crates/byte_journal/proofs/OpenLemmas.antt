@@ -35,6 +35,8 @@ module _ {D : Type 0} (disk : Disk D) (old mid new : D) (n : ℕ)
       not_before = first.not_before;
       not_after = omega (arith, first.not_after, closes.later);
       each = λ image left. ⊎_elim (λ past. inl (first.each image past)) (reads image) (LeavesOnly-before disk mid new n _ closes first.from image left);
+      earlier = λ image moment least less left.
+          first.earlier image moment least less ((closes.past moment image (omega (arith, less, first.not_after))).0 left);
     }
 
     pub open-from_sync : {T : Type 0} (result : Result T OpenFault) (value : T) → result ≡ Ok value
@@ -53,6 +55,7 @@ unclosed-from_sync disk old mid n failed refused so (inr later) = inr (record {
   not_before = later.not_before;
   not_after = later.not_after;
   each = λ image left. inl (later.each image left);
+  earlier = later.earlier;
 })
 
 -- a fault of reading the front is the answer for all

@@ -50,12 +50,14 @@ Answers bytes (Err OutOfMemory) = Unit {0}
 abbrev pub IsBeforeOrAfter : List (List ℕ) → List ℕ → List ℕ → Type 0
 IsBeforeOrAfter log body bytes = Stands bytes log ⊎ Stands bytes (log ++ body ∷ [])
 
--- from some moment between old and new on, a crash leaves of volume n only what has P
+-- from some moment between old and new on, a crash leaves of volume n only what has P; until then it leaves an image of the volume as it was
 pub record LeavesOnlyLater {D : Type 0} (disk : Disk D) (old new : D) (n : ℕ) (P : List ℕ → Type 0) : Type 0 where
   pub from : ℕ
   pub not_before : disk.moment old ≤ from
   pub not_after : from ≤ disk.moment new
   pub each : (image : List ℕ) → LeftSince disk new n from image → P image
+  pub earlier : (image : List ℕ) (moment : ℕ) → disk.moment old ≤ moment → moment < from → disk.left_at new n moment image
+      → IsImage (disk.volume old n) image
 
 -- The first call failed, and volume n is as before; or from some moment on a crash leaves of it only what has P.
 abbrev pub LeavesOnlyFromSync : {D : Type 0} → Disk D → D → D → ℕ → Type 0 → (List ℕ → Type 0) → Type 0

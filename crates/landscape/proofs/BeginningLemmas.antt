@@ -34,7 +34,7 @@ use Rattle.landscape.specs.Begun.{AreBegun, IsBegun}
 use Rattle.landscape.specs.declared.open_end.OpenWhy.{OpenWhy}
 use Rattle.landscape.specs.declared.open_end.OpenWhy.TheVariants as why
 use Rattle.landscape.specs.declared.open_end.Refused.TheVariants as refused
-use Rattle.landscape.specs.Opened.{AreWithin, HasOpened, HoldSoundLogs, IsBreached, IsGoodLog, LeavesOpening, begun_moments}
+use Rattle.landscape.specs.Opened.{AreLogsTo, AreWithin, HasOpened, HoldSoundLogs, IsBreached, IsGoodLog, LeavesOpening, Logs, begun_moments}
 use Rattle.landscape.specs.Opened.{bytes_in, committed_in, logs_in}
 use Rattle.landscape.specs.steps.Opening.{AreBegunSoFar, AreOpened, BeginsNext, HasEnded, begun_of, rules_of}
 use Rattle.landscape.proofs.BegunLemmas.{is_lawful}
@@ -82,6 +82,10 @@ moments-same set (first ∷ rest) log same some = refl
 
 module _ {V : Type 0} (disk : Disk V) (many : ℕ) (text : List ℕ) (set : Option ℕ) (before : V) (now : KeptOf ModelRules DocumentTables V)
     (is : AreOpened disk many text set before many now) where
+  -- the volumes hold sound logs
+  abbrev Sound : Type 0
+  Sound = HoldSoundLogs many text (bytes_in disk before)
+
   within-now : AreWithin many text (log_of now.world)
   within-now system not =
       log-outside now.world.systems system (λ least most. let opened = is.opened in not least (omega (arith, most, opened)))
@@ -111,7 +115,8 @@ module _ {V : Type 0} (disk : Disk V) (many : ℕ) (text : List ℕ) (set : Opti
   ended-breach breach first = record {
     why = broken;
     not_refused = ends-sound disk many text set before now.vols (why.Refused (refused.Breach breach)) broken;
-    leaves = λ tells. left-weaker disk text set before many now.vols ⊥ ⊥ ⊥ ⊤ (λ never. never) (λ never. tt) (is.leaves tells);
+    leaves = λ tells.
+        left-weaker disk text set before many now.vols ⊥ (⊥ × Sound) ⊥ ⊤ (λ never. absurd never) (λ never. tt) (is.leaves tells);
     faulted = is.none_failed;
   }
     where
@@ -128,7 +133,8 @@ module _ {V : Type 0} (disk : Disk V) (many : ℕ) (text : List ℕ) (set : Opti
   ended-unknown = record {
     why = tt;
     not_refused = λ tells hold. tt;
-    leaves = λ tells. left-weaker disk text set before many now.vols ⊥ ⊤ ⊥ ⊤ (λ never. tt) (λ never. tt) (is.leaves tells);
+    leaves = λ tells.
+        left-weaker disk text set before many now.vols ⊥ (⊤ × Sound) ⊥ ⊤ (λ never. absurd never) (λ never. tt) (is.leaves tells);
     faulted = is.none_failed;
   }
 
@@ -144,6 +150,17 @@ module _ {V : Type 0} (disk : Disk V) (many : ℕ) (text : List ℕ) (set : Opti
 
   its-good : IsGoodLog many text system (is.logs.moments system) (is.logs.records system)
   its-good = is.sound.good system least most
+
+  -- the volumes hold sound logs
+  holds-now : disk.told → HoldSoundLogs many text (bytes_in disk before)
+  holds-now tells = (is.logs, is.sound, is.held tells)
+
+  -- where systems may have begun, the volumes hold sound logs
+  left-now : (after : V) (ended : Type 0) → LeavesOpening disk many text set before after ⊤ ended → disk.told
+      → LeavesOpening disk many text set before after (⊤ × HoldSoundLogs many text (bytes_in disk before)) ⊤
+  left-now after ended left tells =
+      left-weaker disk text set before many after ⊤ (⊤ × HoldSoundLogs many text (bytes_in disk before)) ended ⊤ (λ may. (tt, holds-now tells)) (λ ends. tt)
+      left
 
   -- its log is as it was
   its-log : log_of now.world system ≡ is.logs.records system
@@ -196,8 +213,17 @@ module _ {V : Type 0} (disk : Disk V) (many : ℕ) (text : List ℕ) (set : Opti
         (only tells)))
         (others tells) counted
 
-    ended-left : disk.told → LeavesOpening disk many text set before after.vols ⊤ ⊤
-    ended-left tells = left-weaker disk text set before many after.vols ⊤ ⊤ ⊥ ⊤ (λ may. may) (λ never. tt) (begun-left tells)
+    ended-left : disk.told → LeavesOpening disk many text set before after.vols (⊤ × HoldSoundLogs many text (bytes_in disk before)) ⊤
+    ended-left tells = left-now after.vols ⊥ (begun-left tells) tells
+
+    -- the volumes of the systems before it are read as logs
+    logs-before : disk.told → (logs : Logs) × AreLogsTo many text (bytes_in disk before) (system - 1) logs
+    logs-before tells = (
+      is.logs,
+      λ other low high.
+          let within : other ≤ many = omega (arith, high, most) in
+          record { stands = is.held tells other low within; good = is.sound.good other low within },
+    )
 
     -- so it has begun, or why not
     pub begins-by : {T : Type 0} (result : Result T BeginEnd) → BegunAs now after system text result
@@ -224,19 +250,20 @@ module _ {V : Type 0} (disk : Disk V) (many : ℕ) (text : List ℕ) (set : Opti
             ∙ is.moments.others other (omega (arith, more));
       };
       leaves = begun-left;
-      none_failed = none-more disk many before now.vols after.vols (system - 1) is.none_failed counts (λ same. cc);
+      none_failed = none-more disk before now.vols after.vols (system - 1) counts is.none_failed (λ same. cc);
     }
     begins-by (Err begin.Volume) did counts = record {
       why = tt;
       not_refused = λ tells hold. tt;
       leaves = ended-left;
-      faulted = failed-here disk many before now.vols after.vols (system - 1) (omega (arith, least, most)) is.none_failed (counts.rose refl);
+      faulted =
+          failed-here disk before now.vols after.vols (system - 1) counts is.none_failed many text (omega (arith, least, most)) logs-before refl;
     }
     begins-by (Err begin.OutOfMemory) did counts = record {
       why = tt;
       not_refused = λ tells hold. tt;
       leaves = ended-left;
-      faulted = none-more disk many before now.vols after.vols (system - 1) is.none_failed counts (λ same. cc);
+      faulted = none-more disk before now.vols after.vols (system - 1) counts is.none_failed (λ same. cc);
     }
 
   -- memory was wanting before anything was done
@@ -244,7 +271,7 @@ module _ {V : Type 0} (disk : Disk V) (many : ℕ) (text : List ℕ) (set : Opti
   begins-unable = record {
     why = tt;
     not_refused = λ tells hold. tt;
-    leaves = λ tells. left-weaker disk text set before many now.vols ⊤ ⊤ ⊥ ⊤ (λ may. may) (λ never. tt) (is.leaves tells);
+    leaves = λ tells. left-now now.vols ⊥ (is.leaves tells) tells;
     faulted = is.none_failed;
   }
 
@@ -270,8 +297,18 @@ module _ {V : Type 0} (disk : Disk V) (many : ℕ) (text : List ℕ) (set : Opti
   pub holds-sound : disk.told → HoldSoundLogs many text (bytes_in disk before)
   holds-sound tells = (is.logs, is.sound, is.held tells)
 
+  -- and systems have begun only there
+  pub opened-left : disk.told → LeavesOpening disk many text set before now.vols (⊤ × HoldSoundLogs many text (bytes_in disk before)) ⊥
+  opened-left tells =
+      left-weaker disk text set before many now.vols ⊤ (⊤ × HoldSoundLogs many text (bytes_in disk before)) ⊥ ⊥ (λ may. (tt, holds-sound tells))
+      (λ never. never) (is.leaves tells)
+
+-- ---- a landscape that was opened
+
+module _ {V : Type 0} (disk : Disk V) (many : ℕ) (text : List ℕ) (set : Option ℕ) (before : V) (now : KeptOf ModelRules DocumentTables V)
+    (is : HasOpened disk many text set before now) where
   -- a log that begins is that of its system, by this text
-  IsBegun-log : (model : Lists) → said text ≡ Some model → length model.systems ≡ many → (system : ℕ) (moments : List (Option ℕ)) (log now : List Record)
+  pub IsBegun-log : (model : Lists) → said text ≡ Some model → length model.systems ≡ many → (system : ℕ) (moments : List (Option ℕ)) (log now : List Record)
       → IsGoodLog many text system moments log → now ≡ begun_log text system log → IsBegun text many system now
   IsBegun-log model says its system moments [] now good begun = record { rest = []; model = model; first = begun; says = says; many = its }
   IsBegun-log model says its system moments (first ∷ rest) now good begun =
@@ -285,7 +322,7 @@ module _ {V : Type 0} (disk : Disk V) (many : ℕ) (text : List ℕ) (set : Opti
       }
 
   -- all logs begin with the model
-  pub are-begun : (model : Lists) → said text ≡ Some model → length model.systems ≡ many → AreBegun now.world
+  unfoldable pub are-begun : (model : Lists) → said text ≡ Some model → length model.systems ≡ many → AreBegun now.world
   are-begun model says its = record {
     text = text;
     each = λ system least most.

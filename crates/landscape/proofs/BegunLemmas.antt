@@ -19,7 +19,7 @@ meaning rules = model_meaning rules.systems
 pub is_lawful : (rules : ModelRules) → IsLawful (meaning rules)
 is_lawful rules = lawful rules.systems rules.least rules.most
 
-IsBegun-grows : (text : List ℕ) (systems system : ℕ) (log longer : List Record) → IsPrefix log longer → IsBegun text systems system log
+pub IsBegun-grows : (text : List ℕ) (systems system : ℕ) (log longer : List Record) → IsPrefix log longer → IsBegun text systems system log
     → IsBegun text systems system longer
 IsBegun-grows text systems system log longer more is = record {
   rest = is.rest ++ more.0;
@@ -30,7 +30,7 @@ IsBegun-grows text systems system log longer more is = record {
 }
 
 -- where logs have only grown, they have begun as before
-pub begun-grown : (before after : World ModelRules) → AreBegun before → HasGrown before after → AreBegun after
+unfoldable pub begun-grown : (before after : World ModelRules) → AreBegun before → HasGrown before after → AreBegun after
 begun-grown before after begun grown = record {
   text = begun.text;
   each = λ system least most.

@@ -5,7 +5,8 @@ use Rattle.std.proofs.lemmas.Bool.{cases_lt}
 use Rattle.std.proofs.lemmas.List.{length-map}
 use Rattle.std.proofs.lemmas.Option.{get_or_from_slice_get, same_Some, slice_get_within}
 use Rattle.ale_base.specs.Prefix.{IsPrefix}
-use Rattle.ale_volumes.specs.Disk.{Disk}
+use Rattle.ale_volumes.specs.Disk.{Disk, LeftSince}
+use Rattle.ale_volumes.specs.Volume.{IsImage}
 use Rattle.unit_core.specs.declared.records.Record.{Record}
 use Rattle.unit_core.specs.declared.records.Record.TheVariants.{Genesis}
 use Rattle.unit_codec.specs.declared.entry.Entry.{Entry}
@@ -19,14 +20,13 @@ use Rattle.trfc_protocol.proofs.LegalLemmas.{follows-at}
 use Rattle.log_reading.specs.Bad.{Matches, moment_at, moment_before}
 use Rattle.log_reading.specs.Reading.{AreGoodTo}
 use Rattle.unit_landscape.specs.Crashes.{AreFound, AreFoundSince, AreOfSystems, StandsForLog}
-use Rattle.unit_landscape.specs.Kept.{IsLandscape}
 use Rattle.unit_landscape.specs.KeptWorlds.{KeptOf}
 use Rattle.document_state.specs.Meaning.{model_meaning}
 use Rattle.document_state.specs.declared.document_tables.DocumentTables.{DocumentTables}
 use Rattle.document_state.specs.declared.model_rules.ModelRules.{ModelRules}
 use Rattle.landscape.specs.Begun.{AreBegun}
 use Rattle.landscape.specs.Crashes.{GoesSoundly, LeavesOpenable, LeavesSoundLogs, StaysOpenable}
-use Rattle.landscape.specs.Opened.{HoldSoundLogs, IsGoodLog, Logs}
+use Rattle.landscape.specs.Opened.{HoldSoundLogs, IsGoodLog, Logs, bytes_in}
 use Rattle.landscape.proofs.BegunLemmas.{meaning}
 
 -- ---- a log that is legal, has its moments in order, and begins with its Genesis, is good
@@ -66,7 +66,8 @@ module _ (rules : Meaning) (system : ℕ) (text : List ℕ) (moments : List (Opt
       subst (λ r. may_follow rules system (take place log) r ≡ true) (get_or_from_slice_get log place next next at)
       (follows-at rules system log place next legal (slice_get_within log place next at))
 
-  good-legal : (rest : List Record) → log ≡ Genesis system text ∷ rest → AreGoodTo rules system text moments log (length log)
+  -- such a log is good
+  pub good-legal : (rest : List Record) → log ≡ Genesis system text ∷ rest → AreGoodTo rules system text moments log (length log)
   good-legal rest first place next within at = record {
     matches =
         matches-at rules system text rest place next (subst (λ l. slice_get l place ≡ Some next) first at)
@@ -173,13 +174,23 @@ module _ {V : Type 0} (before : KeptOf ModelRules DocumentTables V) (all : lengt
       (with_it.0, its.4 ∙ with_it.1))
 
 -- What a crash inside a call leaves can be opened again, by the text with which the logs begin.
-pub opens-left : {V : Type 0} (disk : Disk V) (before after : KeptOf ModelRules DocumentTables V) → IsLandscape meaning before.world
-    → LeavesSoundLogs disk before after → LeavesOpenable disk before after
-opens-left disk before after is leaves tells begun images left =
-    found-holds before is.safe.systems begun images ((leaves tells).each images left)
+pub opens-left : {V : Type 0} (disk : Disk V) (before after : KeptOf ModelRules DocumentTables V)
+    → length before.world.systems ≡ before.world.rules.systems → LeavesSoundLogs disk before after → LeavesOpenable disk before after
+opens-left disk before after all leaves tells begun images left = found-holds before all begun images ((leaves tells).each images left)
 
 -- So can what one leaves of all volumes at one moment of many calls.
-pub opens-later : {V : Type 0} (disk : Disk V) (before after : KeptOf ModelRules DocumentTables V) → IsLandscape meaning before.world
-    → GoesSoundly disk before after → StaysOpenable disk before after
-opens-later disk before after is goes tells begun moment after_it most images left =
-    found_since-holds before is.safe.systems begun after images ((goes tells).each moment after_it most images left)
+pub opens-later : {V : Type 0} (disk : Disk V) (before after : KeptOf ModelRules DocumentTables V)
+    → length before.world.systems ≡ before.world.rules.systems → GoesSoundly disk before after → StaysOpenable disk before after
+opens-later disk before after all goes tells begun moment after_it most images left =
+    found_since-holds before all begun after images ((goes tells).each moment after_it most images left)
+
+-- The volumes of a landscape hold sound logs, as a read gives them.
+pub holds-now : {V : Type 0} (disk : Disk V)
+    → (disk.told → (vols : V) (n t : ℕ) (image : List ℕ) → t ≤ disk.moment vols → IsImage (disk.volume vols n) image → LeftSince disk vols n t image)
+    → (disk.told → (vols : V) (n : ℕ) → IsImage (disk.volume vols n) (disk.volume vols n).contents)
+    → (now : KeptOf ModelRules DocumentTables V) → LeavesOpenable disk now now → disk.told → (begun : AreBegun now.world)
+    → HoldSoundLogs now.world.rules.systems begun.text (bytes_in disk now.vols)
+holds-now disk counts_now read_is_image now opens tells begun =
+    opens tells begun (bytes_in disk now.vols)
+    (λ system least most. counts_now tells now.vols (system - 1) (disk.moment now.vols) (bytes_in disk now.vols system) (omega arith)
+    (read_is_image tells now.vols (system - 1)))

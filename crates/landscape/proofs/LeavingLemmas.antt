@@ -5,7 +5,7 @@ use Rattle.std.proofs.lemmas.Bool.{cases_eq, cases_lt}
 use Rattle.ale_base.specs.Faults.{Rose}
 use Rattle.ale_volumes.specs.Disk.{Disk, LeftSince}
 use Rattle.ale_volumes.specs.declared.volume.Volume.{Volume as OneVolume}
-use Rattle.ale_volumes.specs.Clock.{KeepsOthers, KeepsVolume, LeavesOnly}
+use Rattle.ale_volumes.specs.Clock.{KeepsOthers, KeepsVolume, LeavesOnly, PastStays}
 use Rattle.ale_volumes.specs.Faults.{CountsFault}
 use Rattle.ale_volumes.specs.Volume.{IsImage}
 use Rattle.ale_volumes.proofs.ClockLemmas.{KeepsVolume-joined, KeepsVolume-other, LeavesOnly-then_kept, StaysAs-none, joined, since-either, started, weaker}
@@ -27,6 +27,8 @@ module _ {V : Type 0} (disk : Disk V) where
     not_before = later.not_before;
     not_after = omega (arith, later.not_after, only.later);
     each = λ image left. ⊎_elim (later.each image) (only.each image) (since-either disk mid new n later.from image only.past left);
+    earlier = λ image moment least less left.
+        later.earlier image moment least less ((only.past moment image (omega (arith, less, later.not_after))).0 left);
   }
 
   -- and after calls on others
@@ -44,6 +46,8 @@ module _ {V : Type 0} (disk : Disk V) where
           left = kept.stays.still now.moment image now.least now.most now.left;
         }))
         (since-either disk mid new n later.from image kept.stays.past left);
+    earlier = λ image moment least less left.
+        later.earlier image moment least less ((kept.stays.past moment image (omega (arith, less, later.not_after))).0 left);
   }
 
   -- what leaves only what has P from some moment on leaves only what has Q
@@ -54,16 +58,23 @@ module _ {V : Type 0} (disk : Disk V) where
     not_before = later.not_before;
     not_after = later.not_after;
     each = λ image left. leads image (later.each image left);
+    earlier = later.earlier;
   }
 
-  -- the moment may be looked for from earlier on
-  later-before : (old mid new : V) (n : ℕ) (P : List ℕ → Type 0) → disk.moment old ≤ disk.moment mid → LeavesOnlyLater disk mid new n P
-      → LeavesOnlyLater disk old new n P
-  later-before old mid new n P goes later = record {
+  -- the moment may be looked for from earlier on, where the volume was kept until then
+  later-before : (old mid new : V) (n : ℕ) (P : List ℕ → Type 0)
+      → LeavesOnly disk old mid n (IsImage (disk.volume old n)) → disk.volume mid n ≡ disk.volume old n → PastStays disk mid new n
+      → LeavesOnlyLater disk mid new n P → LeavesOnlyLater disk old new n P
+  later-before old mid new n P unread known past later = record {
     from = later.from;
-    not_before = omega (arith, goes, later.not_before);
+    not_before = omega (arith, unread.later, later.not_before);
     not_after = later.not_after;
     each = later.each;
+    earlier = λ image moment least less left. elim (cases_lt (disk.moment mid) moment) [
+      | inl after ↦ subst (λ (v : OneVolume). IsImage v image) known (later.earlier image moment (omega (arith, after)) less left)
+      | inr until ↦ unread.each image
+          (record { moment = moment; least = least; most = until; left = (past moment image until).0 left })
+    ];
   }
 
   pub sync-weaker : (old new : V) (n : ℕ) (early later : Type 0) (P Q : List ℕ → Type 0) → (early → later) → ((image : List ℕ) → P image → Q image)
@@ -162,11 +173,12 @@ module _ {V : Type 0} (disk : Disk V) (text : List ℕ) (set : Option ℕ) (befo
 
   -- the next volume is opened
   pub left-opened : (count : ℕ) (now after : V) (early : Type 0) → Left count now ⊥ ⊥
+      → LeavesOnly disk before now count (IsImage (disk.volume before count))
       → LeavesOnly disk now after count (IsLeftByOpening (disk.volume now count))
       → LeavesOnlyFromSync disk now after count early (ReadsAs (disk.volume now count).contents)
       → KeepsOthers disk now after count → ((place : ℕ) → disk.faults now place ≡ disk.faults before place)
       → CountsFault early (disk.faults now) (disk.faults after) count → IsReadAfter disk early now after count → Left (suc count) after ⊥ early
-  left-opened count now after early left only sync others none counts reads = record {
+  left-opened count now after early left unread only sync others none counts reads = record {
     leaves = λ place. elim (cases_eq place count) [
       | inl same ↦ subst (λ m. LeavesOnly disk before after m (One ⊥ m)) (sym same)
           (joined disk before now after count (One ⊥ count) (left.leaves count)
@@ -178,7 +190,7 @@ module _ {V : Type 0} (disk : Disk V) (text : List ℕ) (set : Option ℕ) (befo
     from_sync = λ place less. elim (cases_eq place count) [
       | inl same ↦ subst (λ m. LeavesOnlyFromSync disk before after m early (OneRead ⊥ m)) (sym same)
           (⊎_elim (λ failed. inl (failed.0, failed.1 ∙ known))
-          (λ later. inr (later-before disk before now after count (OneRead ⊥ count) kept.later
+          (λ later. inr (later-before disk before now after count (OneRead ⊥ count) unread known only.past
           (later-weaker disk now after count (ReadsAs (disk.volume now count).contents) (OneRead ⊥ count)
           (λ image reads. inl (subst (λ (v : OneVolume). ReadsAs v.contents image) known reads)) later))) sync)
       | inr other ↦ sync-kept disk before now after place early (OneRead ⊥ place)

@@ -27,7 +27,11 @@ pub mod ReadingLemmas
 pub mod OpeningLemmas
 -- systems that begin where their logs are empty
 pub mod BeginningLemmas
+-- a system that is opened again
+pub mod ReopenedLemmas
 -- volumes are read as one set of logs
 pub mod OneReadingLemmas
 -- what a crash leaves of a landscape is sound logs of its text
 pub mod CrashOpensLemmas
+-- so is what one leaves inside an opening
+pub mod OpeningCrashLemmas

@@ -49,7 +49,7 @@ none-unread (a ∷ log) [] body rest are unread same = unread a are.0 (let first
 none-unread (a ∷ log) (b ∷ front) body rest are unread same = none-unread log front body rest are.1 unread (cc)
 
 module _ (bytes : List ℕ) where
-  one-log : (log other : List Entry) → Stands bytes log → Stands bytes other → log ≡ other
+  pub one-log : (log other : List Entry) → Stands bytes log → Stands bytes other → log ≡ other
   one-log log other stands its =
       same-entries log other stands.entries its.entries ((has_one_answer bytes).one_log (bodies_of log) (bodies_of other) stands.bodies its.bodies)
 

@@ -9,6 +9,7 @@ use Rattle.ale_base.specs.Faults.{Rose}
 use Rattle.ale_volumes.specs.Disk.{Disk, LeftSince}
 use Rattle.ale_volumes.specs.declared.volume.Volume.{Volume as OneVolume}
 use Rattle.ale_volumes.specs.Clock.{KeepsOthers, LeavesOnly}
+use Rattle.ale_volumes.proofs.ClockLemmas.{KeepsVolume-other, LeavesOnly-then_kept, started}
 use Rattle.ale_volumes.specs.Faults.{CountsFault}
 use Rattle.ale_volumes.specs.Volume.{IsImage}
 use Rattle.byte_journal.specs.Bytes.{IsAsBeforeButForATornGate, IsAsBeforeButForTheGate}
@@ -39,7 +40,8 @@ use Rattle.landscape.specs.declared.open_end.OpenWhy.{OpenWhy}
 use Rattle.landscape.specs.declared.open_end.OpenWhy.TheVariants as why
 use Rattle.landscape.specs.declared.open_end.Refused.{Refused}
 use Rattle.landscape.specs.declared.open_end.Refused.TheVariants as refused
-use Rattle.landscape.specs.Opened.{AreLogsTo, AreRefused, EndedByFault, IsBadLog, IsGoodLog, IsRefusedAt, LeavesOpening, MayBegin, NoneFailed, WhyEnded}
+use Rattle.landscape.specs.Opened.{AreLogsTo, AreRefused, EndedByFault, HoldSoundLogs, IsBadLog, IsGoodLog, IsRefusedAt, LeavesOpening, Logs}
+use Rattle.landscape.specs.Opened.{MayBegin, NoneFailed, WhyEnded}
 use Rattle.landscape.specs.Opened.{bytes_in, logs_in}
 use Rattle.landscape.specs.steps.Opening.{AreOpened, HasEnded, IsBadIn, IsReadBy, IsReadLog, IsUpBy, OpensAs, rules_of, why_opened}
 use Rattle.landscape.proofs.OneReadingLemmas.{ends-sound}
@@ -49,15 +51,21 @@ use Rattle.landscape.proofs.LeavingLemmas.{IsReadAfter, left-none, left-opened, 
 pub same_moments : (place : ℕ) (before after : SystemJournals) → SameAt place before after → moments_at after place ≡ moments_at before place
 same_moments place before after same = ap (λ (found : Option (List (Option ℕ))). unwrap_or found []) same.moments
 
--- a call on the volume at a place counts its faults
-module _ {V : Type 0} (disk : Disk V) (many : ℕ) (before now after : V) (n : ℕ) where
-  pub failed-here : n < many → NoneFailed many disk before now → Rose (disk.faults now n) (disk.faults after n)
-      → EndedByFault many disk before after why.Volume
-  failed-here less none rose = (n, less, subst (λ k. Rose k (disk.faults after n)) (none n) rose)
+-- a call on the volume at a place counts its faults, and none of another volume
+module _ {V : Type 0} (disk : Disk V) (before now after : V) (n : ℕ) {Failed : Type 0}
+    (counts : CountsFault Failed (disk.faults now) (disk.faults after) n) (none : NoneFailed disk before now) where
+  pub failed-here : (many : ℕ) (text : List ℕ) → n < many → (disk.told → (logs : Logs) × AreLogsTo many text (bytes_in disk before) n logs) → Failed
+      → EndedByFault disk many text before after why.Volume
+  failed-here many text less logs failed = record {
+    place = n;
+    within = less;
+    rose = subst (λ k. Rose k (disk.faults after n)) (none n) (counts.rose failed);
+    others = λ other differs. counts.others other differs ∙ none other;
+    logs_before = logs;
+  }
 
-  pub none-more : {Failed : Type 0} → NoneFailed many disk before now → CountsFault Failed (disk.faults now) (disk.faults after) n → (Failed → ⊥)
-      → NoneFailed many disk before after
-  none-more none counts not place = elim (cases_eq place n) [
+  pub none-more : (Failed → ⊥) → NoneFailed disk before after
+  none-more not place = elim (cases_eq place n) [
     | inl same ↦ subst (λ m. disk.faults after m ≡ disk.faults before m) (sym same) (counts.quiet not ∙ none n)
     | inr other ↦ counts.others place other ∙ none place
   ]
@@ -84,6 +92,8 @@ opened-none disk many text set before only now all none journals is vols = recor
   good = λ system least most. absurd (omega (arith, least, most));
   held = λ tells system least most. absurd (omega (arith, least, most));
   leaves = λ tells. subst (λ v. LeavesOpening disk 0 text set before v ⊥ ⊥) (sym vols) (left-none disk text set before (only tells));
+  unread = λ tells place behind. subst (λ v. LeavesOnly disk before v place (IsImage (disk.volume before place))) (sym vols)
+      (started disk before place (IsImage (disk.volume before place)) (only tells before place));
   none_failed = λ place. ap (λ v. disk.faults v place) vols;
 }
 
@@ -114,6 +124,10 @@ module _ {V : Type 0} (disk : Disk V) (text : List ℕ) (set : Option ℕ) (befo
   before-here : disk.told → AreLogsTo many text (bytes_in disk before) here (logs_in now)
   before-here tells system least most = record { stands = is.held tells system least most; good = is.good system least most }
 
+  -- systems may have begun, by why an opening ended
+  abbrev Begins : OpenWhy → Type 0
+  Begins end = MayBegin end × HoldSoundLogs many text (bytes_in disk before)
+
   -- a reason why its bytes are no log of its system
   refused-here : (refused : Refused) → disk.told → IsRefusedAt many text (suc here) (bytes_in disk before (suc here)) refused
       → AreRefused many text (bytes_in disk before) refused
@@ -130,8 +144,8 @@ module _ {V : Type 0} (disk : Disk V) (text : List ℕ) (set : Option ℕ) (befo
   ended-left after begins early only sync others counts reads tells =
       left-weaker disk text set before many after ⊥ begins ⊤ ⊤ (λ never. absurd never) (λ ends. tt)
       (left-wider disk text set before (suc here) many after ⊥ early (omega (arith, less))
-      (left-opened disk text set before here now.vols after early (is.leaves tells) (only tells) (sync tells) (others tells) is.none_failed counts
-      (reads tells)))
+      (left-opened disk text set before here now.vols after early (is.leaves tells) (is.unread tells here (omega arith)) (only tells)
+      (sync tells) (others tells) is.none_failed counts (reads tells)))
 
   module _ (system : ℕ) (number : system ≡ suc here) where
     -- the volume is not opened
@@ -145,11 +159,12 @@ module _ {V : Type 0} (disk : Disk V) (text : List ℕ) (set : Option ℕ) (befo
     ended-why after open_fault.OutOfMemory not = tt
 
     ended-fault : (after : V) (fault : OpenFault) → CountsFault (fault ≡ open_fault.Volume) (disk.faults now.vols) (disk.faults after) here
-        → EndedByFault many disk before after (why_opened system fault)
-    ended-fault after open_fault.Volume counts = failed-here disk many before now.vols after here less is.none_failed (counts.rose refl)
-    ended-fault after (open_fault.Damaged place) counts = none-more disk many before now.vols after here is.none_failed counts (λ same. cc)
-    ended-fault after (open_fault.Unread unread) counts = none-more disk many before now.vols after here is.none_failed counts (λ same. cc)
-    ended-fault after open_fault.OutOfMemory counts = none-more disk many before now.vols after here is.none_failed counts (λ same. cc)
+        → EndedByFault disk many text before after (why_opened system fault)
+    ended-fault after open_fault.Volume counts =
+        failed-here disk before now.vols after here counts is.none_failed many text less (λ tells. (logs_in now, before-here tells)) refl
+    ended-fault after (open_fault.Damaged place) counts = none-more disk before now.vols after here counts is.none_failed (λ same. cc)
+    ended-fault after (open_fault.Unread unread) counts = none-more disk before now.vols after here counts is.none_failed (λ same. cc)
+    ended-fault after open_fault.OutOfMemory counts = none-more disk before now.vols after here counts is.none_failed (λ same. cc)
 
     pub opened-not : (failed : NotOpened V) → (disk.told → NoLogAs (disk.volume now.vols here).contents failed.why)
         → (disk.told → LeavesOnly disk now.vols failed.vols here (IsLeftByOpening (disk.volume now.vols here)))
@@ -161,7 +176,7 @@ module _ {V : Type 0} (disk : Disk V) (text : List ℕ) (set : Option ℕ) (befo
     opened-not failed why only sync others counts reads = record {
       why = ended-why failed.vols failed.why why;
       not_refused = ends-sound disk many text set before failed.vols (why_opened system failed.why) (ended-why failed.vols failed.why why);
-      leaves = ended-left failed.vols (MayBegin (why_opened system failed.why)) (failed.why ≡ open_fault.Volume) only sync others counts
+      leaves = ended-left failed.vols (Begins (why_opened system failed.why)) (failed.why ≡ open_fault.Volume) only sync others counts
           (λ tells. read-failed (disk.volume now.vols here) (disk.volume failed.vols here) failed.why (reads tells));
       faulted = ended-fault failed.vols failed.why counts;
     }
@@ -182,8 +197,8 @@ module _ {V : Type 0} (disk : Disk V) (text : List ℕ) (set : Option ℕ) (befo
         sync-weaker disk now.vols volume.kept.vols here ⊥ ⊥ (λ image. Stands image (entries_in volume)) (ReadsAs (disk.volume now.vols here).contents)
         (λ never. never) (λ image holds. inr (bodies_of (entries_in volume), (stands tells).bodies, holds.bodies)) (sync tells)
 
-    none_failed : NoneFailed many disk before volume.kept.vols
-    none_failed = none-more disk many before now.vols volume.kept.vols here is.none_failed counts (λ never. never)
+    none_failed : NoneFailed disk before volume.kept.vols
+    none_failed = none-more disk before now.vols volume.kept.vols here counts is.none_failed (λ never. never)
 
     abbrev moments : List (Option ℕ)
     moments = moments_at volume.kept.journals here
@@ -198,7 +213,7 @@ module _ {V : Type 0} (disk : Disk V) (text : List ℕ) (set : Option ℕ) (befo
     ended-short = record {
       why = tt;
       not_refused = λ tells hold. tt;
-      leaves = ended-left volume.kept.vols ⊤ ⊥ only sync-reads others counts reads-here;
+      leaves = ended-left volume.kept.vols (Begins why.OutOfMemory) ⊥ only sync-reads others counts reads-here;
       faulted = none_failed;
     }
 
@@ -229,7 +244,7 @@ module _ {V : Type 0} (disk : Disk V) (text : List ℕ) (set : Option ℕ) (befo
     ended-read (why.Refused (refused.Bad system bad)) read = record {
       why = is-refused system bad read;
       not_refused = ends-sound disk many text set before volume.kept.vols (why.Refused (refused.Bad system bad)) (is-refused system bad read);
-      leaves = ended-left volume.kept.vols ⊥ ⊥ only sync-reads others counts reads-here;
+      leaves = ended-left volume.kept.vols (Begins (why.Refused (refused.Bad system bad))) ⊥ only sync-reads others counts reads-here;
       faulted = none_failed;
     }
     ended-read (why.Refused (refused.Breach breach)) read = absurd read
@@ -287,9 +302,12 @@ module _ {V : Type 0} (disk : Disk V) (text : List ℕ) (set : Option ℕ) (befo
             found.world read.good);
         held = λ tells. more (λ system m l. Stands (bytes_in disk before system) (entries_of m l)) (is.held tells) (stands-here tells);
         leaves = λ tells. subst (λ v. LeavesOpening disk (suc here) text set before v ⊥ ⊥) (sym up.vols)
-            (left-opened disk text set before here now.vols volume.kept.vols ⊥ (is.leaves tells) (only tells) (sync-reads tells) (others tells)
-            is.none_failed counts (reads-here tells));
-        none_failed = subst (NoneFailed many disk before) (sym up.vols) none_failed;
+            (left-opened disk text set before here now.vols volume.kept.vols ⊥ (is.leaves tells) (is.unread tells here (omega arith)) (only tells)
+            (sync-reads tells) (others tells) is.none_failed counts (reads-here tells));
+        unread = λ tells place behind. subst (λ v. LeavesOnly disk before v place (IsImage (disk.volume before place))) (sym up.vols)
+            (LeavesOnly-then_kept disk before now.vols volume.kept.vols place (IsImage (disk.volume before place)) (is.unread tells place (omega (arith, behind)))
+            (KeepsVolume-other disk now.vols volume.kept.vols here place (only tells).later (λ same. omega (arith, same, behind)) (others tells)));
+        none_failed = subst (NoneFailed disk before) (sym up.vols) none_failed;
       }
 
     -- so the next volume is read, or why not

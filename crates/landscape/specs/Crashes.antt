@@ -1,6 +1,7 @@
 -- What a crash inside a call leaves of a landscape that works by models.
 use Rattle.std.specs.Prelude.{◌<◌, ◌≤◌, ◌-◌, ℕ, List, length}
 use Rattle.ale_volumes.specs.Disk.{Disk, LeftSince}
+use Rattle.ale_volumes.specs.Volume.{IsImage}
 use Rattle.unit_landscape.specs.Crashes.{LeavesSound, StaysSound}
 use Rattle.unit_landscape.specs.KeptWorlds.{KeptOf}
 use Rattle.document_state.specs.declared.document_tables.DocumentTables.{DocumentTables}
@@ -33,3 +34,17 @@ StaysOpenable disk before after =
     → (images : ℕ → List ℕ)
     → ((system : ℕ) → 1 ≤ system → system ≤ length before.world.systems → disk.left_at after.vols (system - 1) moment (images system))
     → HoldSoundLogs before.world.rules.systems begun.text images
+
+-- whatever a crash may leave now of the volumes of so many systems holds sound logs of the text
+abbrev pub AreOpenable : {V : Type 0} → Disk V → ℕ → List ℕ → V → Type 0
+AreOpenable disk many text vols =
+    (images : ℕ → List ℕ) → ((system : ℕ) → 1 ≤ system → system ≤ many → IsImage (disk.volume vols (system - 1)) (images system))
+    → HoldSoundLogs many text images
+
+-- so does whatever a crash inside an opening leaves of them, each at any moment of it, where whatever one left before does: another opening with
+-- that text does not refuse it
+abbrev pub OpeningLeavesOpenable : {V : Type 0} → Disk V → ℕ → List ℕ → V → V → Type 0
+OpeningLeavesOpenable disk many text before after =
+    disk.told → AreOpenable disk many text before → (images : ℕ → List ℕ)
+    → ((system : ℕ) → 1 ≤ system → system ≤ many → LeftSince disk after (system - 1) (disk.moment before) (images system))
+    → HoldSoundLogs many text images

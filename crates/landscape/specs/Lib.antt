@@ -16,6 +16,8 @@ pub mod Shown
 pub mod Counted
 -- a landscape that is opened over empty volumes
 pub mod Opened
+-- a system that is opened again
+pub mod Reopened
 -- what a command asks for
 pub mod Asked
 -- what only private functions cite

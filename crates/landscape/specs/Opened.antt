@@ -1,5 +1,5 @@
 -- A landscape that is opened over volumes that hold logs: what their bytes are read as, what it is, and what is left of the volumes.
-use Rattle.std.specs.Prelude.{◌≡◌, ◌⊎◌, ⊤, ℕ, suc, ◌-◌, ◌≤◌, ◌<◌, Option, List, [], ◌∷◌, length, Result, Ok, Err}
+use Rattle.std.specs.Prelude.{◌≡◌, ◌≢◌, ◌⊎◌, ⊤, ℕ, suc, ◌-◌, ◌≤◌, ◌<◌, Option, List, [], ◌∷◌, length, Result, Ok, Err}
 use Rattle.ale_base.specs.Faults.{Rose}
 use Rattle.ale_volumes.specs.Disk.{Disk}
 use Rattle.ale_volumes.specs.Clock.{KeepsVolume, LeavesOnly}
@@ -163,7 +163,7 @@ MayBegin why.Volume = ⊤
 MayBegin (why.Refused refused) = ⊥
 MayBegin why.OutOfMemory = ⊤
 
--- the same of an answer: the volumes are not refused, so systems may have begun
+-- the same of an answer: the volumes are not refused
 abbrev pub IsNotRefused : {T V : Type 0} → Result T (OpenEnd V) → Type 0
 IsNotRefused (Ok landscape) = ⊤
 IsNotRefused (Err end) = MayBegin end.why
@@ -215,17 +215,26 @@ module _ {V : Type 0} (disk : Disk V) (many : ℕ) (text : List ℕ) (set : Opti
   WhyOpened (Ok landscape) = disk.told → HoldSoundLogs many text (bytes_in disk before)
   WhyOpened (Err end) = WhyEnded end.why
 
-module _ {V : Type 0} (many : ℕ) (disk : Disk V) (before after : V) where
-  -- no volume failed
-  abbrev pub NoneFailed : Type 0
-  NoneFailed = (place : ℕ) → disk.faults after place ≡ disk.faults before place
+-- no volume failed
+abbrev pub NoneFailed : {V : Type 0} → Disk V → V → V → Type 0
+NoneFailed disk before after = (place : ℕ) → disk.faults after place ≡ disk.faults before place
 
-  -- a volume of a system failed where that is told, and else none
+module _ {V : Type 0} (disk : Disk V) (many : ℕ) (text : List ℕ) (before after : V) where
+  -- the volume of one system failed, and no other volume; where that is told, the volumes of the systems before it are read as logs
+  pub record OneFailed : Type 0 where
+    pub place : ℕ
+    pub within : place < many
+    pub rose : Rose (disk.faults before place) (disk.faults after place)
+    pub others : (other : ℕ) → other ≢ place → disk.faults after other ≡ disk.faults before other
+    pub logs_before : disk.told → (logs : Logs) × AreLogsTo many text (bytes_in disk before) place logs
+
+  -- by why an opening ended: one volume failed, or none
   abbrev pub EndedByFault : OpenWhy → Type 0
-  EndedByFault why.Volume = (place : ℕ) × (place < many) × Rose (disk.faults before place) (disk.faults after place)
-  EndedByFault (why.Refused refused) = NoneFailed
-  EndedByFault why.OutOfMemory = NoneFailed
+  EndedByFault why.Volume = OneFailed
+  EndedByFault (why.Refused refused) = NoneFailed disk before after
+  EndedByFault why.OutOfMemory = NoneFailed disk before after
 
+  -- the same of an answer
   abbrev pub FaultsOpened : {T : Type 0} → Result T (OpenEnd V) → Type 0
-  FaultsOpened (Ok landscape) = NoneFailed
+  FaultsOpened (Ok landscape) = NoneFailed disk before after
   FaultsOpened (Err end) = EndedByFault end.why

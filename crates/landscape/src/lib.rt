@@ -5,7 +5,7 @@
 //! logs name. The definitions are in `specs/`: `Begun` (what is kept), `Standing` (the tables of a system), `Carried` (what commands ask
 //! for, and how they are carried out), `Asked` (which record a command asks for by a log, or its first refusal),
 //! `Operator` (what an operator asks for), `Shown` (what an operator is shown), `Counted` (how much the logs hold), `Working` (what is
-//! prepared for the work of a claim) and `Opened` (a landscape that is opened).
+//! prepared for the work of a claim), `Opened` (a landscape that is opened) and `Reopened` (a system of it that is opened again).
 #![tactic(auto)]
 
 mod commands;
@@ -15,9 +15,11 @@ mod landscape;
 mod open_end;
 mod passing;
 mod putting;
+mod reopen_end;
 mod sending;
 mod wanted;
 
 pub use counts::{Counts, Gathered, Sent};
 pub use landscape::Landscape;
 pub use open_end::{OpenEnd, OpenWhy, Refused};
+pub use reopen_end::ReopenEnd;

@@ -1,7 +1,7 @@
 -- Where nothing holds units up, no command does but those that stop a queue or give letters; and behind a drain each unit went its whole way.
 use Rattle.std.specs.Option.{option_map_or}
 use Rattle.std.proofs.Common.{◌≡◌, ◌<◌, ◌&&◌, ℕ, zero, suc, not, Bool, true, false, cond, length, Option, Some, None, Result, Ok, Err, List, [], ◌∷◌, ◌++◌, inl}
-use Rattle.std.proofs.Common.{inr, refl, sym, subst, ◌∙◌, append-nil, arith}
+use Rattle.std.proofs.Common.{inr, refl, sym, ap, subst, ◌∙◌, append-nil, arith}
 use Rattle.std.specs.Prelude.{⊤, slice_get}
 use Rattle.std.proofs.lemmas.Bool.{and_parts, cases_Bool}
 use Rattle.ale_volumes.specs.Disk.{Disk}
@@ -34,6 +34,7 @@ use Rattle.status_log.specs.declared.show.Show.{Show}
 use Rattle.status_log.specs.declared.show.Show.TheVariants as show
 use Rattle.unit_landscape.specs.declared.answers.Late.{Late}
 use Rattle.unit_landscape.specs.Kept.{IsLandscape}
+use Rattle.unit_landscape.specs.Reopening.{IsDown}
 use Rattle.unit_landscape.specs.Late.{IsLate, is_of_loss}
 use Rattle.landscape.specs.Asked.{Asked, asked_app, asked_dispatch, asked_gather, asked_put, asked_repost, has_inbound, pointers_noted}
 use Rattle.unit_landscape.specs.KeptWorlds.{KeptOf}
@@ -58,13 +59,19 @@ use Rattle.unit_works.proofs.WorkedLemmas.{meaning}
 use Rattle.runs.specs.declared.answered.Answered.{Answered}
 use Rattle.runs.specs.declared.inputs.Inputs.{Inputs}
 use Rattle.runs.specs.declared.stage.Stage.{Stage}
-use Rattle.runs.specs.Complete.{AllGoThrough, HoldNothing, IsFree, OfferAll, holds_nothing}
-use Rattle.runs.specs.Does.{At, Carries, Commits, Does, Drains, Lates, Leads, Operates, Queues, Shows, asked_master, numbered, shown_gathered, shown_sent}
+use Rattle.runs.specs.Complete.{AllGoThrough, HoldsNothing, IsFree, holds_nothing}
+use Rattle.runs.specs.Does.{At, Carries, Commits, Does, Drains, Lates, Leads, Opens, Operates, Queues, Shows}
+use Rattle.runs.specs.Does.{asked_master, numbered, shown_gathered, shown_sent}
 use Rattle.runs.specs.Does.{answer_of, drained_as, shown_late}
 use Rattle.runs.specs.Turns.{Turn, at_moment, down_from, first_down}
 use Rattle.runs.specs.steps.Keeping.{KeepsFree}
 
 -- ---- all systems are up
+
+found-within : {A : Type 0} (xs : List A) (k : ℕ) (x : A) → slice_get xs k ≡ Some x → k < length xs
+found-within [] k x is = cc
+found-within (first ∷ xs) zero x is = omega arith
+found-within (first ∷ xs) (suc k) x is = let less = found-within xs k x is in omega (arith, less)
 
 none-down : (number : ℕ) (systems : List SystemState) → down_from number systems ≡ None → (k : ℕ) → k < length systems
     → up_or_not (slice_get systems k) ≡ true
@@ -83,6 +90,14 @@ none-down number (state ∷ states) none (suc k) within = elim (cases_Bool state
       let is : down_from number (state ∷ states) ≡ Some number = rw down refl in
       let wrong = sym is ∙ none in cc
 ]
+
+-- where none is down no system of the landscape is
+none-down-at : (world : World ModelRules) → first_down world ≡ None → (system : ℕ) → IsDown world system → ⊥
+none-down-at world none zero is = let lies = is.known in cc
+none-down-at world none (suc k) is =
+    let known : slice_get world.systems k ≡ Some is.state = is.known in
+    let up : is.state.up ≡ true = sym (ap up_or_not known) ∙ none-down 1 world.systems none k (found-within world.systems k is.state known) in
+    let wrong = sym up ∙ is.down in cc
 
 -- where none of a landscape is down all are up
 pub all-up : (world : World ModelRules) → IsLandscape meaning world → first_down world ≡ None → AreUp world
@@ -166,18 +181,20 @@ lost-marked : (mark : Option Cause) (done : Bool) → mark ≡ None → (is_of_l
 lost-marked None done none lost = cc
 lost-marked (Some cause) done none lost = cc
 
-module _ {V : Type 0} (disk : Disk V) (before after : Stage V) (answered : Answered) (free : IsFree before) where
+module _ {V : Type 0} (disk : Disk V) (before after : Stage V) (answered : Answered) (free : IsFree before)
+    (all_up : first_down after.landscape.world ≡ None) where
   free-same : after ≡ before → IsFree after
   free-same same = subst (λ (stage : Stage V). IsFree stage) (sym same) free
 
   free-still : after.landscape ≡ before.landscape → after.wires ≡ before.wires → IsFree after
   free-still same letters = record {
+    up = all_up;
     clear = subst (λ (k : KeptOf ModelRules DocumentTables V). IsClear k.world) (sym same) free.clear;
     none = subst NoneLeft (sym letters) free.none;
   }
 
   free-so : IsClear after.landscape.world → after.wires ≡ before.wires → IsFree after
-  free-so clear letters = record { clear = clear; none = subst NoneLeft (sym letters) free.none }
+  free-so clear letters = record { up = all_up; clear = clear; none = subst NoneLeft (sym letters) free.none }
 
   carries-free : {T : Type 0} (system : ℕ) (of : Record → Event) (asked : Asked) (answers : T → Type 0) (shown : T → Reply)
       → ((next : Record) → asked ≡ Ok (Some next) → (is_up before.landscape.world system ≡ true)
@@ -306,6 +323,16 @@ module _ {V : Type 0} (disk : Disk V) (before after : Stage V) (answered : Answe
       → Harmless next
   retry-harmless systems system tid records next is = if-asked _ (log.Retry (way_at system tid) tid) next refusal.N6 refl is
 
+  -- a system is opened: where all are up that is refused
+  opens-free : (system : ℕ) → Opens disk before (Ok answered) after system → IsFree after
+  opens-free system did = elim did [
+    | inl unknown ↦ free-same unknown.2
+    | inr asked ↦ elim asked.1 [
+      | inl refused ↦ free-still refused.same asked.3
+      | inr opening ↦ absurd (none-down-at before.landscape.world free.up system opening.down)
+    ]
+  ]
+
   -- a drain
   drains-free : AreUp after.landscape.world → AreOffered after.landscape.world → Drains disk before (Ok answered) after
       → IsFree after × AreThrough after.landscape.world
@@ -315,7 +342,7 @@ module _ {V : Type 0} (disk : Disk V) (before after : Stage V) (answered : Answe
           → Ok answered ≡ drained_as result → IsFree after × AreThrough after.landscape.world
       drained (Ok n) is answer_is =
           let through = is.through free.clear free.none ups offers in
-          (record { clear = through.0; none = through.1 }, through.2)
+          (record { up = all_up; clear = through.0; none = through.1 }, through.2)
       drained (Err short) is answer_is = cc
 
   module _ (inputs : Inputs) (ups : AreUp after.landscape.world) (offers : AreOffered after.landscape.world) where
@@ -392,6 +419,12 @@ module _ {V : Type 0} (disk : Disk V) (before after : Stage V) (answered : Answe
           pass-harmless (has_inbound records doc.0) (stands_at records 51 doc.0) (log.Repost (record { 0 = doc.0 })) next refl asked) does,
       λ drain. cc,
     )
+    does-kept (form.Crash sys) does is = cc
+    does-kept (form.Open sys) does is = (
+      at-free inputs (system_named sys (arc_value inputs.model)) (λ system. Opens disk before (Ok answered) after system)
+          (λ system its. opens-free system its) does,
+      λ drain. cc,
+    )
     does-kept (form.ShowDocs sys) does is = (shows-at inputs sys (λ system. show.Docs system) does, λ drain. cc)
     does-kept (form.ShowDoc sys doc) does is = (shows-at inputs sys (λ system. show.Doc system doc) does, λ drain. cc)
     does-kept (form.ShowUnits sys) does is = (shows-at inputs sys (λ system. show.Units system) does, λ drain. cc)
@@ -402,22 +435,24 @@ module _ {V : Type 0} (disk : Disk V) (before after : Stage V) (answered : Answe
 pub keeps-free : {V : Type 0} (disk : Disk V) (inputs : Inputs) (moment : ℕ) (before after : Stage V) (answered : Answered) (asked : Form)
     → IsLandscape meaning after.landscape.world → Does disk inputs (at_moment moment before) (Ok answered) after asked → KeepsFree before after asked
 keeps-free disk inputs moment before after answered asked is does holds up offers free =
-    does-kept disk (at_moment moment before) after answered (record { clear = free.clear; none = free.none }) inputs
+    does-kept disk (at_moment moment before) after answered (record { up = free.up; clear = free.clear; none = free.none }) up inputs
     (all-up after.landscape.world is up) offers asked does holds
 
 -- ---- turns
 
+-- none of these turns holds a unit up
+abbrev pub AllHoldNothing : {V : Type 0} → List (Turn V) → Type 0
+AllHoldNothing [] = ⊤
+AllHoldNothing (turn ∷ turns) = HoldsNothing turn × AllHoldNothing turns
+
 module _ {V : Type 0} (next : Turn V) where
-  pub hold-first : (turns : List (Turn V)) → HoldNothing (turns ++ next ∷ []) → HoldNothing turns × (holds_nothing next.command.form ≡ true)
+  pub hold-first : (turns : List (Turn V)) → AllHoldNothing (turns ++ next ∷ []) → AllHoldNothing turns × HoldsNothing next
   hold-first [] all = (tt, all.0)
   hold-first (turn ∷ turns) all = let rest = hold-first turns all.1 in ((all.0, rest.0), rest.1)
 
-  pub offer-first : (turns : List (Turn V)) → OfferAll (turns ++ next ∷ []) → OfferAll turns × AreOffered next.after.landscape.world
-  offer-first [] all = (tt, all.0)
-  offer-first (turn ∷ turns) all = let rest = offer-first turns all.1 in ((all.0, rest.0), rest.1)
-
   pub through-last : (turns : List (Turn V)) → AllGoThrough turns
-      → (next.command.form ≡ form.Drain → first_down next.after.landscape.world ≡ None → AreThrough next.after.landscape.world)
+      → (AllHoldNothing turns → HoldsNothing next → next.command.form ≡ form.Drain → AreThrough next.after.landscape.world)
       → AllGoThrough (turns ++ next ∷ [])
-  through-last [] all last = (last, tt)
-  through-last (turn ∷ turns) all last = (all.0, through-last turns all.1 last)
+  through-last [] all last = λ holds. (last tt holds, tt)
+  through-last (turn ∷ turns) all last = λ holds.
+      let rest = all holds in (rest.0, through-last turns rest.1 (λ held. last (holds, held)))

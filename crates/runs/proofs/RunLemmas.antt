@@ -1,5 +1,5 @@
 -- A run goes on by one command, and ends.
-use Rattle.std.proofs.Common.{◌≡◌, ℕ, ◌+◌, ◌<◌, ◌≤◌, Option, None, Some, Result, Ok, List, []}
+use Rattle.std.proofs.Common.{◌≡◌, ℕ, ◌+◌, ◌<◌, ◌≤◌, Option, None, Some, Result, Ok, Err, List, []}
 use Rattle.std.proofs.Common.{◌∷◌, ◌++◌, length, take, drop, get_or, refl, sym, ap, subst, ◌∙◌, append-nil, append_assoc, take-append-drop}
 use Rattle.std.specs.Prelude.{⊤, MatchOption}
 use Rattle.std.specs.Option.{unwrap_or}
@@ -9,10 +9,11 @@ use Rattle.std.proofs.KnownBytes.{Appends-nil, Appends-trans}
 use Rattle.std.proofs.Math.Seq.{take-append-add}
 use Rattle.ale_volumes.specs.Disk.{Disk}
 use Rattle.ale_base.specs.Faults.{Rose}
-use Rattle.ale_base.specs.declared.out_of_memory.OutOfMemory.{OutOfMemory as Short}
 use Rattle.ale_io.specs.Written.{AppendsFront}
 use Rattle.script_text.specs.declared.command.Command.{Command}
 use Rattle.runs.specs.declared.answered.Answered.{Answered}
+use Rattle.runs.specs.declared.halt.Halt.{Halt}
+use Rattle.runs.specs.declared.halt.Halt.TheVariants as halt
 use Rattle.runs.specs.declared.inputs.Inputs.{Inputs}
 use Rattle.runs.specs.declared.run_end.RunEnd.{RunEnd}
 use Rattle.runs.specs.declared.run_end.RunEnd.TheVariants as end
@@ -20,18 +21,18 @@ use Rattle.runs.specs.declared.stage.Stage.{Stage}
 use Rattle.runs.specs.declared.turns.TurnEnd.{TurnEnd}
 use Rattle.runs.specs.declared.turns.TurnEnd.TheVariants as turn
 use Rattle.runs.specs.Does.{IsCarriedOut}
-use Rattle.runs.specs.Complete.{AllGoThrough, HoldNothing, IsComplete, IsFree, OfferAll}
+use Rattle.runs.specs.Complete.{AllGoThrough, IsComplete, IsFree}
 use Rattle.runs.specs.Run.{AreAsked, Ends, Follow, IsSoundFromEach, Run}
-use Rattle.runs.specs.Turns.{Turn, at_moment, commands_of, moments_of, text_of, last_stage, first_down, first_faulted, length_at}
+use Rattle.runs.specs.Turns.{Turn, at_moment, commands_of, moments_of, text_of, last_stage, first_faulted, first_overran, length_at}
 use Rattle.runs.specs.Text.{shown}
 use Rattle.runs.specs.steps.Keeping.{KeepsFree}
 use Rattle.runs.specs.Put.{IsPut, IsPart, IsCut, IsPutAt}
-use Rattle.runs.specs.steps.Put.{IsReported, IsTurn, GivesOne, down_end_of, end_behind}
+use Rattle.runs.specs.steps.Put.{IsReported, IsTurn, GivesOne, end_behind, halted_as, last_end_of}
 use Rattle.landscape.specs.Crashes.{GoesSoundly, LeavesSoundLogs}
 use Rattle.landscape.proofs.SoundLemmas.{goes-none, goes-on}
 use Rattle.unit_landscape.specs.Kept.{IsLandscape}
 use Rattle.unit_works.proofs.WorkedLemmas.{meaning}
-use Rattle.runs.proofs.CompleteLemmas.{hold-first, keeps-free, offer-first, through-last}
+use Rattle.runs.proofs.CompleteLemmas.{AllHoldNothing, hold-first, keeps-free, through-last}
 
 -- ---- one turn more at the end
 
@@ -55,11 +56,10 @@ last_stage-push before [] next = refl
 last_stage-push before (first ∷ turns) next = last_stage-push first.after turns next
 
 Follow-push : {V : Type 0} (disk : Disk V) (inputs : Inputs) (before : Stage V) (turns : List (Turn V)) (next : Turn V) → Follow disk inputs before turns
-    → first_down (last_stage before turns).landscape.world ≡ None
     → IsCarriedOut disk inputs (at_moment next.moment (last_stage before turns)) (Ok next.answered) next.after next.command.form → Follow disk inputs before
     (turns ++ next ∷ [])
-Follow-push disk inputs before [] next follow up does = (up, does, tt)
-Follow-push disk inputs before (first ∷ turns) next follow up does = (follow.0, follow.1, Follow-push disk inputs first.after turns next follow.2 up does)
+Follow-push disk inputs before [] next follow does = (does, tt)
+Follow-push disk inputs before (first ∷ turns) next follow does = (follow.0, Follow-push disk inputs first.after turns next follow.1 does)
 
 -- ---- what a crash leaves, from each stage on
 
@@ -93,6 +93,12 @@ pub IsPut-then : (a b c : Option (List ℕ)) (faults faults_b faults_c : ℕ) (f
 IsPut-then a b c faults faults_b faults_c first second one two =
     record { appends = Appends-trans a b c first second one.appends two.appends; quiet = two.quiet ∙ one.quiet }
 
+-- nothing is put of a command that is not answered
+pub reported-halted : (its : Halt) (answer : Result Answered Halt) (text : Answered → List ℕ) (old : Option (List ℕ)) (faults : ℕ) → answer ≡ Err its
+    → IsReported (halted_as its) answer text old old faults faults
+reported-halted (halt.Changed system number) answer text old faults is = (is, record { appends = Appends-nil old; quiet = refl })
+reported-halted halt.OutOfMemory answer text old faults is = record { appends = Appends-nil old; quiet = refl }
+
 pub IsPart-then : (a b c : Option (List ℕ)) (faults faults_b faults_c : ℕ) (first second : List ℕ) → IsPut a b faults faults_b first → IsPart b c faults_b
     faults_c second
     → IsPart a c faults faults_c (first ++ second)
@@ -110,7 +116,7 @@ IsCut-then a b c faults faults_b faults_c first second one two = record {
 
 -- ---- one command
 
-done-of : {V : Type 0} (disk : Disk V) (inputs : Inputs) (moment : ℕ) (command : Command) (before began after : Stage V) (answer : Result Answered Short)
+done-of : {V : Type 0} (disk : Disk V) (inputs : Inputs) (moment : ℕ) (command : Command) (before began after : Stage V) (answer : Result Answered Halt)
     (answered : Answered) → began ≡ at_moment moment before → answer ≡ Ok answered → IsCarriedOut disk inputs began answer after command.form
     → IsCarriedOut disk inputs (at_moment moment before) (Ok answered) after command.form
 done-of disk inputs moment command before began after answer answered begins is does =
@@ -119,7 +125,7 @@ done-of disk inputs moment command before began after answer answered begins is 
 
 -- what a command did, by what was put of it
 pub turn-of : {V : Type 0} (disk : Disk V) (inputs : Inputs) (how : TurnEnd) (moment : ℕ) (command : Command) (before began after : Stage V)
-    (answer : Result Answered Short) (old new : Option (List ℕ)) (put put_new : ℕ) → began ≡ at_moment moment before
+    (answer : Result Answered Halt) (old new : Option (List ℕ)) (put put_new : ℕ) → began ≡ at_moment moment before
     → IsLandscape meaning after.landscape.world → IsCarriedOut disk inputs began answer after command.form
     → IsReported how answer (λ answered. shown command answered after) old new put put_new
     → IsTurn disk inputs how moment command before after old new put put_new
@@ -129,6 +135,11 @@ turn-of disk inputs turn.Done moment command before began after answer old new p
 turn-of disk inputs turn.WriteFailed moment command before began after answer old new put put_new begins is does text =
     let done = done-of disk inputs moment command before began after answer text.0 begins text.1 does in
     (text.0, done, text.2, keeps-free disk inputs moment before after text.0 command.form is done.does)
+turn-of disk inputs (turn.Changed system number) moment command before began after answer old new put put_new begins is does text = (
+  subst (λ stage. IsCarriedOut disk inputs stage (Err (halt.Changed system number)) after command.form) begins
+      (subst (λ one. IsCarriedOut disk inputs began one after command.form) text.0 does),
+  text.1,
+)
 turn-of disk inputs turn.OutOfMemory moment command before began after answer old new put put_new begins is does text =
     (answer, subst (λ stage. IsCarriedOut disk inputs stage answer after command.form) begins does, text)
 
@@ -143,8 +154,8 @@ pub record SoFar {V : Type 0} (disk : Disk V) (inputs : Inputs) (commands : List
   pub last : now ≡ last_stage before turns
   pub put_is : IsPut old new put put_now (text_of turns)
   pub asked : told → given_now ≡ given ++ moments_of turns
-  pub up : first_down now.landscape.world ≡ None
-  pub free : IsFree before → HoldNothing turns → OfferAll turns → IsFree now × AllGoThrough turns
+  pub free : IsFree before → AllHoldNothing turns → IsFree now
+  pub through : IsFree before → AllGoThrough turns
   pub sound : IsSoundFromEach disk inputs before turns now
 
 abbrev turned : {V : Type 0} → Command → ℕ → Answered → Stage V → Turn V
@@ -159,37 +170,55 @@ HasRun {V} disk inputs commands before after its old new put put_new told given 
 
 module _ {V : Type 0} (disk : Disk V) (inputs : Inputs) (commands : List Command) (before : Stage V) (old : Option (List ℕ)) (put : ℕ) (given : List ℕ)
   where
-    pub SoFar-start : (told : Type 0) → first_down before.landscape.world ≡ None → LeavesSoundLogs disk before.landscape before.landscape
+    pub SoFar-start : (told : Type 0) → LeavesSoundLogs disk before.landscape before.landscape
         → SoFar disk inputs commands 0 before before old old put put told given given
-    SoFar-start told up now = record {
+    SoFar-start told now = record {
       turns = [];
       these = refl;
       follow = tt;
       last = refl;
       put_is = record { appends = Appends-nil old; quiet = refl };
       asked = λ tells. sym (append-nil given);
-      up = up;
-      free = λ free hold offer. (free, tt);
+      free = λ free held. free;
+      through = λ free. tt;
       sound = (now, goes-none disk before.landscape before.landscape refl refl);
     }
 
     pub Run-whole : (i : ℕ) (after : Stage V) (new : Option (List ℕ)) (put_new : ℕ) (told : Type 0) (given_new : List ℕ)
         → SoFar disk inputs commands i before after old new put put_new told given given_new → length commands ≤ i
-        → HasRun disk inputs commands before after end.Whole old new put put_new told given given_new
-    Run-whole i after new put_new told given_new so_far all = (
-      so_far.turns,
-      record {
-        left = [];
-        these = sym (take_all i commands all) ∙ sym so_far.these ∙ sym (append-nil (commands_of so_far.turns));
-        follow = so_far.follow;
-        halted = [];
-        ends = (refl, refl, so_far.last, so_far.up);
-        complete = λ free hold offer. (so_far.free free hold offer).1;
-        sound = so_far.sound;
-      },
-      so_far.put_is,
-      λ tells. so_far.asked tells ∙ ap (λ moments. given ++ moments) (sym (append-nil (moments_of so_far.turns))),
-    )
+        → (its : RunEnd) → its ≡ last_end_of (length_at after) (first_faulted after) (first_overran after)
+        → HasRun disk inputs commands before after its old new put put_new told given given_new
+    Run-whole i after new put_new told given_new so_far all its is = of (first_faulted after) (first_overran after) refl refl is
+      where
+        ended : (an_end : RunEnd) → Ends disk inputs an_end [] [] before so_far.turns after → IsPutAt an_end old new put put_new so_far.turns
+            → HasRun disk inputs commands before after an_end old new put put_new told given given_new
+        ended an_end ends was_put = (
+          so_far.turns,
+          record {
+            left = [];
+            these = sym (take_all i commands all) ∙ sym so_far.these ∙ sym (append-nil (commands_of so_far.turns));
+            follow = so_far.follow;
+            halted = [];
+            ends = ends;
+            complete = so_far.through;
+            sound = so_far.sound;
+          },
+          was_put,
+          λ tells. so_far.asked tells ∙ ap (λ moments. given ++ moments) (sym (append-nil (moments_of so_far.turns))),
+        )
+
+        of : (faulted overran : Option ℕ) → first_faulted after ≡ faulted → first_overran after ≡ overran
+            → its ≡ last_end_of (length_at after) faulted overran
+            → HasRun disk inputs commands before after its old new put put_new told given given_new
+        of (Some system) overran fault over same =
+            subst (λ (e : RunEnd). HasRun disk inputs commands before after e old new put put_new told given given_new) (sym same)
+            (ended (end.DownByFault system) (refl, refl, so_far.last, fault) so_far.put_is)
+        of None (Some system) fault over same =
+            subst (λ (e : RunEnd). HasRun disk inputs commands before after e old new put put_new told given given_new) (sym same)
+            (ended (end.DownFull system (length_at after system)) (refl, refl, so_far.last, fault, over, refl) so_far.put_is)
+        of None None fault over same =
+            subst (λ (e : RunEnd). HasRun disk inputs commands before after e old new put put_new told given given_new) (sym same)
+            (ended end.Whole (refl, refl, so_far.last, fault, over) so_far.put_is)
 
     module _ (i : ℕ) (command d : Command) (mid after : Stage V) (mid_put new : Option (List ℕ)) (put_mid put_new : ℕ) (told_mid told : Type 0)
         (given_mid given_new : List ℕ)
@@ -217,7 +246,6 @@ module _ {V : Type 0} (disk : Disk V) (inputs : Inputs) (commands : List Command
           → Follow disk inputs before (so_far.turns ++ turned command moment answered after ∷ [])
       followed answered does =
           Follow-push disk inputs before so_far.turns (turned command moment answered after) so_far.follow
-          (subst (λ stage. first_down stage.landscape.world ≡ None) so_far.last so_far.up)
           (subst (λ stage. IsCarriedOut disk inputs (at_moment moment stage) (Ok answered) after command.form) so_far.last does)
 
       text_pushed : (answered : Answered) → text_of (so_far.turns ++ turned command moment answered after ∷ []) ≡ text_of so_far.turns
@@ -230,21 +258,18 @@ module _ {V : Type 0} (disk : Disk V) (inputs : Inputs) (commands : List Command
 
       -- behind each drain each unit went its whole way
       completed : (answered : Answered) → KeepsFree mid after command.form → IsComplete before (so_far.turns ++ turned command moment answered after ∷ [])
-      completed answered keeps free hold offer =
-          let holds = hold-first (turned command moment answered after) so_far.turns hold in
-          let offers = offer-first (turned command moment answered after) so_far.turns offer in
-          let first = so_far.free free holds.0 offers.0 in
-          through-last (turned command moment answered after) so_far.turns first.1
-          (λ drain up. (keeps holds.1 up offers.1 first.0).1 drain)
+      completed answered keeps free =
+          through-last (turned command moment answered after) so_far.turns (so_far.through free)
+          (λ held holds drain. (keeps holds.command holds.up holds.offered (so_far.free free held)).1 drain)
 
       -- all of the commands are those that were done, and those behind them
       split : (answered : Answered) → commands ≡ commands_of (so_far.turns ++ turned command moment answered after ∷ []) ++ drop (i + 1) commands
       split answered = sym (take-append-drop (i + 1) commands) ∙ ap (λ done. done ++ drop (i + 1) commands) (taken ∙ sym (pushed answered))
 
       SoFar-done : (answered : Answered) → IsCarriedOut disk inputs (at_moment moment mid) (Ok answered) after command.form
-          → IsPut mid_put new put_mid put_new (shown command answered after) → KeepsFree mid after command.form → first_down after.landscape.world ≡ None
+          → IsPut mid_put new put_mid put_new (shown command answered after) → KeepsFree mid after command.form
           → SoFar disk inputs commands (i + 1) before after old new put put_new told given given_new
-      SoFar-done answered does text keeps up = record {
+      SoFar-done answered does text keeps = record {
         turns = so_far.turns ++ turned command moment answered after ∷ [];
         these = pushed answered ∙ sym taken;
         follow = followed answered does;
@@ -252,12 +277,10 @@ module _ {V : Type 0} (disk : Disk V) (inputs : Inputs) (commands : List Command
         put_is = subst (IsPut old new put put_new) (sym (text_pushed answered))
             (IsPut-then old mid_put new put put_mid put_new (text_of so_far.turns) (shown command answered after) so_far.put_is text);
         asked = asked_pushed answered;
-        up = up;
-        free = λ free hold offer.
-            let holds = hold-first (turned command moment answered after) so_far.turns hold in
-            let offers = offer-first (turned command moment answered after) so_far.turns offer in
-            let kept = keeps holds.1 up offers.1 (so_far.free free holds.0 offers.0).0 in
-            (kept.0, completed answered keeps free hold offer);
+        free = λ free all.
+            let held = hold-first (turned command moment answered after) so_far.turns all in
+            (keeps held.1.command held.1.up held.1.offered (so_far.free free held.0)).0;
+        through = completed answered keeps;
         sound = sound_pushed answered;
       }
 
@@ -294,28 +317,6 @@ module _ {V : Type 0} (disk : Disk V) (inputs : Inputs) (commands : List Command
         sound = sound_pushed answered;
       }
 
-      -- a system went down in the command
-      Run-found : (answered : Answered) → DoneWith answered → IsPut mid_put new put_mid put_new (shown command answered after)
-          → KeepsFree mid after command.form → (faulted down : Option ℕ) → first_faulted after ≡ faulted →
-          first_down after.landscape.world ≡ down
-          → (its : RunEnd) → down_end_of (length_at after) faulted down ≡ Some its → Ended its
-      unfolding ran
-      Run-found answered does text keeps None None no_fault down its same = absurd (subst (λ (o : Option RunEnd). MatchOption o ⊤ (λ some. ⊥)) same tt)
-      Run-found answered does text keeps (Some system) found fault down its same =
-          subst Ended (ap (λ (o : Option RunEnd). unwrap_or o its) same) (
-            so_far.turns ++ turned command moment answered after ∷ [],
-            ran answered does keeps (end.DownByFault system) (refl, left_last answered, fault),
-            put_whole answered text,
-            asked_done answered,
-          )
-      Run-found answered does text keeps None (Some system) no_fault down its same =
-          subst Ended (ap (λ (o : Option RunEnd). unwrap_or o its) same) (
-            so_far.turns ++ turned command moment answered after ∷ [],
-            ran answered does keeps (end.DownFull system (length_at after system)) (refl, left_last answered, no_fault, down, refl),
-            put_whole answered text,
-            asked_done answered,
-          )
-
       -- the text of the command was not taken whole
       Run-unwritten : (answered : Answered) → DoneWith answered → IsPart mid_put new put_mid put_new (shown command answered after)
           → KeepsFree mid after command.form → Ended end.WriteFailed
@@ -334,50 +335,65 @@ module _ {V : Type 0} (disk : Disk V) (inputs : Inputs) (commands : List Command
         asked_done answered,
       )
 
+      -- the command was not answered
+      unanswered : (its : RunEnd) → Ends disk inputs its (command ∷ drop (i + 1) commands) (moment ∷ []) before so_far.turns after
+          → Run disk inputs commands before after its so_far.turns
+      unanswered its ends = record {
+        left = command ∷ drop (i + 1) commands;
+        these = sym (take-append-drop i commands)
+            ∙ ap (λ rest. take i commands ++ rest) (drop_more commands i d below ∙ ap (λ one. one ∷ drop (i + 1) commands) (sym is))
+            ∙ ap (λ done. done ++ command ∷ drop (i + 1) commands) (sym so_far.these);
+        follow = so_far.follow;
+        halted = moment ∷ [];
+        ends = ends;
+        complete = so_far.through;
+        sound = sound_on;
+      }
+
+      none_more : IsPut mid_put new put_mid put_new [] → IsPut old new put put_new (text_of so_far.turns)
+      none_more none =
+          subst (IsPut old new put put_new) (append-nil (text_of so_far.turns))
+          (IsPut-then old mid_put new put put_mid put_new (text_of so_far.turns) [] so_far.put_is none)
+
       -- memory ran out in the command, or behind it
-      Run-halted : (answer : Result Answered Short) → IsCarriedOut disk inputs (at_moment moment mid) answer after command.form
+      Run-halted : (answer : Result Answered Halt) → IsCarriedOut disk inputs (at_moment moment mid) answer after command.form
           → IsPut mid_put new put_mid put_new [] → Ended end.OutOfMemory
+      unfolding unanswered
       Run-halted answer does none = (
         so_far.turns,
-        record {
-          left = command ∷ drop (i + 1) commands;
-          these = sym (take-append-drop i commands)
-              ∙ ap (λ rest. take i commands ++ rest) (drop_more commands i d below ∙ ap (λ one. one ∷ drop (i + 1) commands) (sym is))
-              ∙ ap (λ done. done ++ command ∷ drop (i + 1) commands) (sym so_far.these);
-          follow = so_far.follow;
-          halted = moment ∷ [];
-          ends = (
-            moment,
-            refl,
-            (
-              subst (λ stage. first_down stage.landscape.world ≡ None) so_far.last so_far.up,
-              (answer, subst (λ stage. IsCarriedOut disk inputs (at_moment moment stage) answer after command.form) so_far.last does),
-            ),
-          );
-          complete = λ free hold offer. (so_far.free free hold offer).1;
-          sound = sound_on;
-        },
-        subst (IsPut old new put put_new) (append-nil (text_of so_far.turns))
-            (IsPut-then old mid_put new put put_mid put_new (text_of so_far.turns) [] so_far.put_is none),
+        unanswered end.OutOfMemory
+            (moment, refl, (answer, subst (λ stage. IsCarriedOut disk inputs (at_moment moment stage) answer after command.form) so_far.last does)),
+        none_more none,
         asked_more,
       )
 
-      pub Run-behind : (how : TurnEnd) → IsTurn disk inputs how moment command mid after mid_put new put_mid put_new → (its : RunEnd) → end_behind after how
-          ≡ Some its → Ended its
-      Run-behind turn.Done did its same = Run-found did.0 did.1 did.2 did.3 (first_faulted after) (first_down after.landscape.world) refl refl
-          its
-          same
+      -- the command found another log than was kept
+      Run-changed : (system number : ℕ) → IsCarriedOut disk inputs (at_moment moment mid) (Err (halt.Changed system number)) after command.form
+          → IsPut mid_put new put_mid put_new [] → Ended (end.Changed system number)
+      unfolding unanswered
+      Run-changed system number does none = (
+        so_far.turns,
+        unanswered (end.Changed system number) (
+          moment,
+          refl,
+          subst (λ stage. IsCarriedOut disk inputs (at_moment moment stage) (Err (halt.Changed system number)) after command.form)
+              so_far.last does,
+        ),
+        none_more none,
+        asked_more,
+      )
+
+      pub Run-behind : (how : TurnEnd) → IsTurn disk inputs how moment command mid after mid_put new put_mid put_new → (its : RunEnd) → end_behind how ≡ Some its
+          → Ended its
+      Run-behind turn.Done did its same = absurd (subst (λ (o : Option RunEnd). MatchOption o ⊤ (λ some. ⊥)) same tt)
       Run-behind turn.WriteFailed did its same = subst Ended (ap (λ (o : Option RunEnd). unwrap_or o its) same) (Run-unwritten did.0 did.1 did.2 did.3)
+      Run-behind (turn.Changed system number) did its same =
+          subst Ended (ap (λ (o : Option RunEnd). unwrap_or o its) same) (Run-changed system number did.0 did.1)
       Run-behind turn.OutOfMemory did its same = subst Ended (ap (λ (o : Option RunEnd). unwrap_or o its) same) (Run-halted did.0 did.1 did.2)
 
-      none_down : (faulted down : Option ℕ) → down_end_of (length_at after) faulted down ≡ None → down ≡ None
-      none_down None None same = refl
-      none_down (Some system) down same = absurd (subst (λ (o : Option RunEnd). MatchOption o ⊥ (λ some. ⊤)) same tt)
-      none_down None (Some system) same = absurd (subst (λ (o : Option RunEnd). MatchOption o ⊥ (λ some. ⊤)) same tt)
-
-      pub SoFar-next : (how : TurnEnd) → IsTurn disk inputs how moment command mid after mid_put new put_mid put_new → end_behind after how ≡ None
+      pub SoFar-next : (how : TurnEnd) → IsTurn disk inputs how moment command mid after mid_put new put_mid put_new → end_behind how ≡ None
           → SoFar disk inputs commands (i + 1) before after old new put put_new told given given_new
       SoFar-next turn.Done did same = SoFar-done did.0 did.1 did.2 did.3
-          (none_down (first_faulted after) (first_down after.landscape.world) same)
       SoFar-next turn.WriteFailed did same = absurd (subst (λ (o : Option RunEnd). MatchOption o ⊥ (λ some. ⊤)) same tt)
+      SoFar-next (turn.Changed system number) did same = absurd (subst (λ (o : Option RunEnd). MatchOption o ⊥ (λ some. ⊤)) same tt)
       SoFar-next turn.OutOfMemory did same = absurd (subst (λ (o : Option RunEnd). MatchOption o ⊥ (λ some. ⊤)) same tt)

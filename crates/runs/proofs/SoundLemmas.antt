@@ -15,26 +15,31 @@ use Rattle.status_log.specs.declared.show.Show.TheVariants as show
 use Rattle.unit_landscape.specs.Crashes.{HasGrown}
 use Rattle.unit_landscape.specs.Kept.{IsLandscape}
 use Rattle.unit_landscape.specs.KeptWorlds.{KeptOf}
-use Rattle.unit_landscape.proofs.GrownLemmas.{grown-none}
+use Rattle.unit_landscape.proofs.GrownLemmas.{grown-happened, grown-none}
 use Rattle.document_state.specs.declared.document_tables.DocumentTables.{DocumentTables}
 use Rattle.document_state.specs.declared.model_rules.ModelRules.{ModelRules}
 use Rattle.landscape.specs.Asked.{Asked, asked_app, asked_dispatch, asked_gather, asked_put, asked_repost, pointers_noted}
 use Rattle.landscape.specs.Carried.{asked_at, counts_asked, operator_event, sent_counts, status_at}
 use Rattle.landscape.specs.Crashes.{GoesSoundly}
 use Rattle.landscape.specs.Operator.{asked_queue, asked_retry, start_of, stop_of}
+use Rattle.landscape.proofs.BegunLemmas.{is_lawful}
+use Rattle.landscape.proofs.ReopenedLemmas.{opens-grown}
 use Rattle.landscape.proofs.SoundLemmas.{came-grown, carried-grown, goes-none, goes-one}
 use Rattle.report_text.specs.declared.reply.Reply.{Reply}
 use Rattle.report_text.specs.declared.reply.Reply.TheVariants as reply
 use Rattle.script_text.specs.declared.form.Form.{Form}
 use Rattle.script_text.specs.declared.form.Form.TheVariants as form
+use Rattle.unit_works.specs.Drained.{DrainedAs}
+use Rattle.unit_works.specs.Worked.{Lines}
 use Rattle.unit_works.proofs.WorkedLemmas.{meaning}
 use Rattle.runs.specs.declared.answered.Answered.{Answered}
+use Rattle.runs.specs.declared.halt.Halt.{Halt}
 use Rattle.runs.specs.declared.inputs.Inputs.{Inputs}
 use Rattle.runs.specs.declared.stage.Stage.{Stage}
-use Rattle.runs.specs.Does.{At, Carries, Commits, Does, Goes, IsOneCall, Leads, Operates, Queues, Shows, Wired, asked_master, numbered}
+use Rattle.runs.specs.Does.{At, Carries, Commits, Crashes, Does, Goes, IsOneCall, Leads, Opens, Operates, Queues, Shows, Wired, asked_master, numbered}
 use Rattle.runs.specs.Does.{shown_gathered, shown_sent}
 
-module _ {V : Type 0} (disk : Disk V) (before : Stage V) (answer : Result Answered OutOfMemory) (after : Stage V)
+module _ {V : Type 0} (disk : Disk V) (before : Stage V) (answer : Result Answered Halt) (after : Stage V)
     (is : IsLandscape meaning before.landscape.world) where
   -- logs have only grown
   abbrev Grown : Type 0
@@ -48,10 +53,22 @@ module _ {V : Type 0} (disk : Disk V) (before : Stage V) (answer : Result Answer
   grown-carries system of asked answers shown did =
       carried-grown disk before.landscape after.landscape is system of asked answers did.result did.carried
 
-  grown-wired : (tid : TidOf) (letters : List ℕ) (given : Result Answered OutOfMemory) → Wired disk before answer after tid letters given → Grown
+  grown-wired : (tid : TidOf) (letters : List ℕ) (given : Result Answered Halt) → Wired disk before answer after tid letters given → Grown
   grown-wired tid letters (Ok answered) did =
       grown-none before.landscape.world after.landscape.world (ap (λ (kept : KeptOf ModelRules DocumentTables V). kept.world) did.1)
-  grown-wired tid letters (Err short) did = grown-still did
+  grown-wired tid letters (Err halt) did = grown-still did
+
+  grown-crashes : (system : ℕ) → Crashes disk before answer after system → Grown
+  grown-crashes system did = elim did [
+    | inl fell ↦ grown-happened meaning is_lawful disk before.landscape after.landscape is.safe (event.Fall system None) fell.4
+    | inr refused ↦ grown-still refused.2
+  ]
+
+  grown-opens : (system : ℕ) → Opens disk before answer after system → Grown
+  grown-opens system did = elim did [
+    | inl unknown ↦ grown-still unknown.2
+    | inr asked ↦ opens-grown disk before.landscape after.landscape system is asked.0 asked.1
+  ]
 
   module _ (inputs : Inputs) where
     -- a command for the system of a name
@@ -144,8 +161,20 @@ module _ {V : Type 0} (disk : Disk V) (before : Stage V) (answer : Result Answer
     goes-command (form.Repost sys doc) does goes =
         by-call (grown-operates sys (λ system log. asked_repost log doc.0)
         (λ system status. status ≡ status_at after.landscape.world system doc.0) reply.Posted does) goes
+    goes-command (form.Crash sys) does goes =
+        by-call (grown-at (system_named sys (arc_value inputs.model)) (λ system. Crashes disk before answer after system) (λ system its. grown-crashes system its)
+        does) goes
+    goes-command (form.Open sys) does goes =
+        by-call (grown-at (system_named sys (arc_value inputs.model)) (λ system. Opens disk before answer after system) (λ system its. grown-opens system its)
+        does) goes
     goes-command (form.ShowDocs sys) does goes = by-call (grown-shows sys (λ system. show.Docs system) does) goes
     goes-command (form.ShowDoc sys doc) does goes = by-call (grown-shows sys (λ system. show.Doc system doc) does) goes
     goes-command (form.ShowUnits sys) does goes = by-call (grown-shows sys (λ system. show.Units system) does) goes
     goes-command (form.ShowQueues sys) does goes = by-call (grown-shows sys (λ system. show.Queues system) does) goes
     goes-command (form.ShowObjects sys) does goes = by-call (grown-shows sys (λ system. show.Objects system) does) goes
+
+-- however a drain ends, it goes soundly
+pub drained-goes : {V : Type 0} (disk : Disk V) (before : KeptOf ModelRules DocumentTables V) (lines : Lines) (after : KeptOf ModelRules DocumentTables V)
+    (lines_after : Lines) (result : Result ℕ OutOfMemory) → DrainedAs disk before lines after lines_after result → GoesSoundly disk before after
+drained-goes disk before lines after lines_after (Ok count) did = did.worked.went.sound
+drained-goes disk before lines after lines_after (Err short) did = did.sound

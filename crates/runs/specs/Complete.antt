@@ -6,34 +6,48 @@ use Rattle.unit_works.specs.Through.{AreOffered, AreThrough, IsClear, NoneLeft}
 use Rattle.runs.specs.declared.stage.Stage.{Stage}
 use Rattle.runs.specs.Turns.{Turn, first_down}
 
--- a command stops no queue and gives no letters to a unit
+-- a command stops no queue, gives no letters to a unit and crashes no system
 abbrev pub holds_nothing : Form → Bool
 holds_nothing (form.Stop sys destination queue) = false
 holds_nothing (form.Wire tid letters) = false
-holds_nothing _ = true
+holds_nothing (form.Crash sys) = false
+holds_nothing (form.Send sys number) = true
+holds_nothing (form.Put sys change) = true
+holds_nothing (form.Gather sys message) = true
+holds_nothing (form.Dispatch sys) = true
+holds_nothing form.Drain = true
+holds_nothing (form.Start sys destination queue) = true
+holds_nothing (form.Retry sys tid) = true
+holds_nothing (form.Late tid) = true
+holds_nothing (form.App sys doc) = true
+holds_nothing (form.Repost sys doc) = true
+holds_nothing (form.Open sys) = true
+holds_nothing (form.ShowDocs sys) = true
+holds_nothing (form.ShowDoc sys doc) = true
+holds_nothing (form.ShowUnits sys) = true
+holds_nothing (form.ShowQueues sys) = true
+holds_nothing (form.ShowObjects sys) = true
 
 module _ {V : Type 0} where
-  -- nothing holds units up: no queue is stopped, no unit is marked, and none has a letter left
+  -- nothing holds units up: all systems are up, no queue is stopped, no unit is marked, and none has a letter left
   pub record IsFree (stage : Stage V) : Type 0 where
+    pub up : first_down stage.landscape.world ≡ None
     pub clear : IsClear stage.landscape.world
     pub none : NoneLeft stage.wires
 
-  -- no command of these turns holds units up
-  abbrev pub HoldNothing : List (Turn V) → Type 0
-  HoldNothing [] = ⊤
-  HoldNothing (turn ∷ turns) = (holds_nothing turn.command.form ≡ true) × HoldNothing turns
+  -- a turn holds no unit up: its command does not, all systems are up behind it, and each unit that was committed has a function that its
+  -- receiver offers
+  pub record HoldsNothing (turn : Turn V) : Type 0 where
+    pub command : holds_nothing turn.command.form ≡ true
+    pub up : first_down turn.after.landscape.world ≡ None
+    pub offered : AreOffered turn.after.landscape.world
 
-  -- behind each of these turns each unit that was committed has a function that its receiver offers
-  abbrev pub OfferAll : List (Turn V) → Type 0
-  OfferAll [] = ⊤
-  OfferAll (turn ∷ turns) = AreOffered turn.after.landscape.world × OfferAll turns
-
-  -- behind each drain that left all systems up each unit that was committed went its whole way
+  -- behind each drain each unit that was committed went its whole way, as long as no turn up to it holds any up
   abbrev pub AllGoThrough : List (Turn V) → Type 0
   AllGoThrough [] = ⊤
   AllGoThrough (turn ∷ turns) =
-      (turn.command.form ≡ form.Drain → first_down turn.after.landscape.world ≡ None → AreThrough turn.after.landscape.world) × AllGoThrough turns
+      HoldsNothing turn → (turn.command.form ≡ form.Drain → AreThrough turn.after.landscape.world) × AllGoThrough turns
 
-  -- so it is where nothing holds units up at first, no command does, and all is offered
+  -- so it is where nothing holds units up at first
   abbrev pub IsComplete : Stage V → List (Turn V) → Type 0
-  IsComplete before turns = IsFree before → HoldNothing turns → OfferAll turns → AllGoThrough turns
+  IsComplete before turns = IsFree before → AllGoThrough turns

@@ -1,5 +1,5 @@
 -- What one command of a script does: how it is answered, and what becomes of the systems and of the letters. This project's own.
-use Rattle.std.specs.Prelude.{◌≡◌, ◌⊎◌, ⊤, ℕ, suc, ◌-◌, ◌^◌, ◌==◌, List, Option, Some, None, Result, Ok, Err, length, slice_get, if◌then◌else◌}
+use Rattle.std.specs.Prelude.{◌≡◌, ◌⊎◌, ⊤, ℕ, suc, ◌-◌, ◌^◌, ◌<◌, ◌==◌, true, false, List, Option, Some, None, Result, Ok, Err, length, slice_get, if◌then◌else◌}
 use Rattle.std.specs.Arc.{arc_value}
 use Rattle.ale_volumes.specs.Disk.{Disk}
 use Rattle.ale_base.specs.Tid.{TidOf}
@@ -9,13 +9,16 @@ use Rattle.unit_core.specs.declared.raw_unit_doc.RawUnitDoc.{RawUnitDoc}
 use Rattle.unit_core.specs.declared.records.Record.{Record}
 use Rattle.trfc_protocol.specs.declared.event.Event.{Event}
 use Rattle.trfc_protocol.specs.declared.event.Event.TheVariants as event
-use Rattle.trfc_protocol.specs.Worlds.{log_of}
+use Rattle.trfc_protocol.specs.Worlds.{is_up, log_of}
 use Rattle.status_log.specs.declared.listing.Listing.{Listing}
 use Rattle.status_log.specs.declared.listing.Listing.TheVariants as listing
 use Rattle.status_log.specs.declared.refusal.Refusal.{Refusal}
 use Rattle.status_log.specs.declared.refusal.Refusal.TheVariants as refusal
 use Rattle.status_log.specs.declared.show.Show.{Show}
 use Rattle.status_log.specs.declared.show.Show.TheVariants as show
+use Rattle.unit_landscape.specs.Ends.{Happened}
+use Rattle.unit_landscape.specs.LogAnswers.{KeepsDisk}
+use Rattle.document_state.specs.Meaning.{model_meaning}
 use Rattle.unit_landscape.specs.declared.answers.Late.{Late}
 use Rattle.unit_landscape.specs.declared.answers.Late.TheVariants as late
 use Rattle.landscape.specs.Asked.{Asked, asked_send, asked_put, asked_gather, asked_dispatch, asked_app, asked_repost, pointers_noted}
@@ -24,6 +27,9 @@ use Rattle.landscape.specs.declared.counts.Sent.{Sent}
 use Rattle.landscape.specs.Carried.{CarriedAs, asked_at, counts_asked, operator_event, sent_counts, status_at}
 use Rattle.landscape.specs.Crashes.{GoesSoundly, LeavesSoundLogs}
 use Rattle.landscape.specs.Operator.{asked_queue, asked_retry, start_of, stop_of}
+use Rattle.landscape.specs.declared.reopen_end.ReopenEnd.{ReopenEnd}
+use Rattle.landscape.specs.declared.reopen_end.ReopenEnd.TheVariants as reopen
+use Rattle.landscape.specs.Reopened.{OpensAs}
 use Rattle.landscape.specs.Shown.{ShownAs}
 use Rattle.landscape.specs.Working.{CameOrRefused}
 use Rattle.report_text.specs.declared.reply.Reply.{Reply}
@@ -33,23 +39,25 @@ use Rattle.script_text.specs.declared.form.Form.TheVariants as form
 use Rattle.unit_works.specs.Drained.{DrainedAs}
 use Rattle.unit_works.specs.Wires.{after_add, letters_left, letters_said}
 use Rattle.runs.specs.declared.answered.Answered.{Answered}
+use Rattle.runs.specs.declared.halt.Halt.{Halt}
+use Rattle.runs.specs.declared.halt.Halt.TheVariants as halt
 use Rattle.runs.specs.declared.inputs.Inputs.{Inputs}
 use Rattle.runs.specs.declared.stage.Stage.{Stage}
 
 -- ---- answers
 
 -- a reply with nothing listed
-abbrev pub plain : Reply → Result Answered OutOfMemory
+abbrev pub plain : Reply → Result Answered Halt
 plain its = Ok (record { reply = its; listing = None })
 
 -- how a refusal is answered: by its number, or as the fault of a volume; with no memory there is no answer
-abbrev pub refused_as : Refusal → Result Answered OutOfMemory
+abbrev pub refused_as : Refusal → Result Answered Halt
 refused_as refusal.Volume = plain reply.Fault
-refused_as refusal.OutOfMemory = Err (record {})
+refused_as refusal.OutOfMemory = Err halt.OutOfMemory
 refused_as why = plain (reply.Refused why)
 
 -- how a command is answered that was carried out, or refused
-abbrev pub answer_of : {T : Type 0} → (T → Reply) → Result T Refusal → Result Answered OutOfMemory
+abbrev pub answer_of : {T : Type 0} → (T → Reply) → Result T Refusal → Result Answered Halt
 answer_of shown (Ok done) = plain (shown done)
 answer_of shown (Err why) = refused_as why
 
@@ -67,19 +75,27 @@ count_of (listing.Queues lines) = Some (length lines)
 count_of (listing.Objects lines) = Some (length lines)
 
 -- how a listing of so many lines is answered
-abbrev pub counted_as : Listing → Option ℕ → Result Answered OutOfMemory
+abbrev pub counted_as : Listing → Option ℕ → Result Answered Halt
 counted_as lines (Some count) = Ok (record { reply = reply.Lines count; listing = Some lines })
-counted_as lines None = Err (record {})
+counted_as lines None = Err halt.OutOfMemory
 
 -- how a listing is answered
-abbrev pub listed_as : Result Listing Refusal → Result Answered OutOfMemory
+abbrev pub listed_as : Result Listing Refusal → Result Answered Halt
 listed_as (Ok lines) = counted_as lines (count_of lines)
 listed_as (Err why) = refused_as why
 
 -- how a drain is answered
-abbrev pub drained_as : Result ℕ OutOfMemory → Result Answered OutOfMemory
+abbrev pub drained_as : Result ℕ OutOfMemory → Result Answered Halt
 drained_as (Ok count) = plain (reply.Finished count)
-drained_as (Err short) = Err short
+drained_as (Err short) = Err halt.OutOfMemory
+
+-- how the opening of a system is answered: 9 refuses where it is up; where its volume holds another log there is no answer
+abbrev pub opened_as : {T : Type 0} → ℕ → Result T ReopenEnd → Result Answered Halt
+opened_as system (Ok done) = plain reply.Carried
+opened_as system (Err reopen.Refused) = refused_as refusal.N9
+opened_as system (Err reopen.Volume) = plain reply.Fault
+opened_as system (Err (reopen.Changed number)) = Err (halt.Changed system number)
+opened_as system (Err reopen.OutOfMemory) = Err halt.OutOfMemory
 
 -- ---- what commands speak of
 
@@ -113,14 +129,14 @@ IsOneCall disk before after = (after.landscape ≡ before.landscape) ⊎ LeavesS
 
 module _ {V : Type 0} (disk : Disk V) where
   -- a system carries a command out, by the record that it asks for, or refuses it; and the letters of units stay
-  pub record Carries {T : Type 0} (before : Stage V) (answer : Result Answered OutOfMemory) (after : Stage V) (system : ℕ) (of : Record → Event) (asked : Asked)
+  pub record Carries {T : Type 0} (before : Stage V) (answer : Result Answered Halt) (after : Stage V) (system : ℕ) (of : Record → Event) (asked : Asked)
       (answers : T → Type 0) (shown : T → Reply) : Type 0 where
     pub result : Result T Refusal
     pub carried : CarriedAs disk before.landscape after.landscape system of asked answers result
     pub answer_is : answer ≡ answer_of shown result
     pub letters : after.wires ≡ before.wires
 
-  module _ (before : Stage V) (answer : Result Answered OutOfMemory) (after : Stage V) where
+  module _ (before : Stage V) (answer : Result Answered Halt) (after : Stage V) where
     -- something is listed, and nothing changes
     abbrev pub Shows : Show → Type 0
     Shows what = (result : Result Listing Refusal) × ShownAs before.landscape.world what result × (answer ≡ listed_as result) × (after ≡ before)
@@ -131,18 +147,34 @@ module _ {V : Type 0} (disk : Disk V) where
         × (answer ≡ answer_of shown_late result) × (after.wires ≡ before.wires)
 
     -- letters are given to a unit, behind those that it has; or memory was wanting, and nothing changes
-    abbrev pub Wired : TidOf → List ℕ → Result Answered OutOfMemory → Type 0
+    abbrev pub Wired : TidOf → List ℕ → Result Answered Halt → Type 0
     Wired tid letters (Ok answered) =
         (answer ≡ plain reply.Carried) × (after.landscape ≡ before.landscape)
         × ((other : TidOf) → letters_left after.wires other ≡ after_add tid (letters_said letters) (letters_left before.wires) other)
     Wired tid letters (Err short) = after ≡ before
+
+    -- a system that is up falls, with nothing to be found at its opening; 2 refuses where it is down, and nothing changes
+    abbrev pub Crashes : ℕ → Type 0
+    Crashes system =
+        ((is_up before.landscape.world system ≡ true) × (answer ≡ plain reply.Carried) × (after.wires ≡ before.wires)
+        × KeepsDisk before.landscape after.landscape
+        × Happened (model_meaning before.landscape.world.rules.systems) disk before.landscape after.landscape (event.Fall system None))
+        ⊎ ((is_up before.landscape.world system ≡ false) × (answer ≡ refused_as refusal.N2) × (after ≡ before))
+
+    -- a system that is down is opened over its volume, or not; 9 refuses where it is up, and 1 where the landscape has none of its number;
+    -- and the letters of units stay
+    abbrev pub Opens : ℕ → Type 0
+    Opens system =
+        ((before.landscape.world.rules.systems < system) × (answer ≡ refused_as refusal.N1) × (after ≡ before))
+        ⊎ ((result : Result (Unit {0}) ReopenEnd) × OpensAs disk before.landscape after.landscape system result × (answer ≡ opened_as system result)
+        × (after.wires ≡ before.wires))
 
     -- units are shipped, executed and confirmed, until none is offered
     abbrev pub Drains : Type 0
     Drains = (result : Result ℕ OutOfMemory) × DrainedAs disk before.landscape before.wires after.landscape after.wires result
         × (answer ≡ drained_as result)
 
-  module _ (inputs : Inputs) (before : Stage V) (answer : Result Answered OutOfMemory) (after : Stage V) where
+  module _ (inputs : Inputs) (before : Stage V) (answer : Result Answered Halt) (after : Stage V) where
     -- a command is for the system of a name; 1 refuses where there is none, and nothing changes
     abbrev pub At : Option ℕ → (ℕ → Type 0) → Type 0
     At (Some system) obeys = obeys system
@@ -192,6 +224,8 @@ module _ {V : Type 0} (disk : Disk V) where
         (λ status. status ≡ status_at after.landscape.world system doc.0) reply.Posted)
     Does (form.Repost sys doc) = named sys (λ system. Operates system (λ log. asked_repost log doc.0)
         (λ status. status ≡ status_at after.landscape.world system doc.0) reply.Posted)
+    Does (form.Crash sys) = named sys (λ system. Crashes before answer after system)
+    Does (form.Open sys) = named sys (λ system. Opens before answer after system)
     Does (form.ShowDocs sys) = named sys (λ system. Shows before answer after (show.Docs system))
     Does (form.ShowDoc sys doc) = named sys (λ system. Shows before answer after (show.Doc system doc))
     Does (form.ShowUnits sys) = named sys (λ system. Shows before answer after (show.Units system))

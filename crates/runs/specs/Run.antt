@@ -1,41 +1,49 @@
 -- A run of a script: a list of turns, in each of which a command does what it asks for; and why the run ends. This project's own.
-use Rattle.std.specs.Prelude.{◌≡◌, ⊤, ℕ, List, [], ◌∷◌, ◌++◌, Some, None, Result, Ok}
+use Rattle.std.specs.Prelude.{◌≡◌, ⊤, ℕ, List, [], ◌∷◌, ◌++◌, Some, None, Result, Ok, Err}
 use Rattle.ale_volumes.specs.Disk.{Disk}
-use Rattle.ale_base.specs.declared.out_of_memory.OutOfMemory.{OutOfMemory as Short}
 use Rattle.landscape.specs.Crashes.{GoesSoundly, LeavesSoundLogs}
 use Rattle.script_text.specs.declared.command.Command.{Command}
 use Rattle.runs.specs.declared.answered.Answered.{Answered}
+use Rattle.runs.specs.declared.halt.Halt.{Halt}
+use Rattle.runs.specs.declared.halt.Halt.TheVariants as halt
 use Rattle.runs.specs.declared.inputs.Inputs.{Inputs}
 use Rattle.runs.specs.declared.run_end.RunEnd.{RunEnd}
-use Rattle.runs.specs.declared.run_end.RunEnd.TheVariants.{Whole, DownByFault, DownFull, WriteFailed, OutOfMemory}
+use Rattle.runs.specs.declared.run_end.RunEnd.TheVariants.{Whole, DownByFault, DownFull, Changed, WriteFailed, OutOfMemory}
 use Rattle.runs.specs.declared.stage.Stage.{Stage}
 use Rattle.runs.specs.Complete.{IsComplete}
 use Rattle.runs.specs.Does.{IsCarriedOut}
-use Rattle.runs.specs.Turns.{Turn, at_moment, commands_of, first_down, first_faulted, last_stage, length_at, moments_of}
+use Rattle.runs.specs.Turns.{Turn, at_moment, commands_of, first_faulted, first_overran, last_stage, length_at, moments_of}
 
 module _ {V : Type 0} (disk : Disk V) (inputs : Inputs) where
-  -- each command does what it asks for, where the one before it left off; while a system is down none is done
+  -- each command does what it asks for, where the one before it left off
   abbrev pub Follow : Stage V → List (Turn V) → Type 0
   Follow before [] = ⊤
   Follow before (turn ∷ turns) =
-      (first_down before.landscape.world ≡ None)
-      × IsCarriedOut disk inputs (at_moment turn.moment before) (Ok turn.answered) turn.after turn.command.form
+      IsCarriedOut disk inputs (at_moment turn.moment before) (Ok turn.answered) turn.after turn.command.form
       × Follow turn.after turns
 
   -- a command that began at a moment, with all systems up, did what it asks for, and memory ran out in it or behind it
   abbrev pub IsHalted : List Command → ℕ → Stage V → Stage V → Type 0
   IsHalted [] moment before after = ⊥
   IsHalted (command ∷ commands) moment before after =
-      (first_down before.landscape.world ≡ None)
-      × ((answer : Result Answered Short) × IsCarriedOut disk inputs (at_moment moment before) answer after command.form)
+      (answer : Result Answered Halt) × IsCarriedOut disk inputs (at_moment moment before) answer after command.form
 
-  -- why a run ends so behind these turns, with these commands left; the moment of a command in which memory ran out is kept, and else none is
+  -- a command that began at a moment did what it asked for, and found at this system another log than was kept
+  abbrev pub FindsChanged : List Command → ℕ → Stage V → Stage V → ℕ → ℕ → Type 0
+  FindsChanged [] moment before after system number = ⊥
+  FindsChanged (command ∷ commands) moment before after system number =
+      IsCarriedOut disk inputs (at_moment moment before) (Err (halt.Changed system number)) after command.form
+
+  -- why a run ends so behind these turns, with these commands left; the moment of a command that was not answered is kept, and else none is
   abbrev pub Ends : RunEnd → List Command → List ℕ → Stage V → List (Turn V) → Stage V → Type 0
-  Ends Whole left halted before turns after = (halted ≡ []) × (left ≡ []) × (after ≡ last_stage before turns) × (first_down after.landscape.world ≡ None)
-  Ends (DownByFault system) left halted before turns after = (halted ≡ []) × (after ≡ last_stage before turns) × (first_faulted after
-      ≡ Some system)
-  Ends (DownFull system size) left halted before turns after = (halted ≡ []) × (after ≡ last_stage before turns) × (first_faulted after ≡ None)
-      × (first_down after.landscape.world ≡ Some system) × (size ≡ length_at after system)
+  Ends Whole left halted before turns after = (halted ≡ []) × (left ≡ []) × (after ≡ last_stage before turns) × (first_faulted after ≡ None)
+      × (first_overran after ≡ None)
+  Ends (DownByFault system) left halted before turns after = (halted ≡ []) × (left ≡ []) × (after ≡ last_stage before turns)
+      × (first_faulted after ≡ Some system)
+  Ends (DownFull system size) left halted before turns after = (halted ≡ []) × (left ≡ []) × (after ≡ last_stage before turns)
+      × (first_faulted after ≡ None) × (first_overran after ≡ Some system) × (size ≡ length_at after system)
+  Ends (Changed system number) left halted before turns after = (moment : ℕ) × (halted ≡ moment ∷ [])
+      × FindsChanged left moment (last_stage before turns) after system number
   Ends WriteFailed left halted before turns after = (halted ≡ []) × (after ≡ last_stage before turns)
   Ends OutOfMemory left halted before turns after = (moment : ℕ) × (halted ≡ moment ∷ []) × IsHalted left moment (last_stage before turns) after
 
@@ -59,6 +67,6 @@ module _ {V : Type 0} (disk : Disk V) (inputs : Inputs) where
     pub complete : IsComplete before turns
     pub sound : IsSoundFromEach before turns after
 
--- a clock, where it tells what it gave, gave the moments of the turns, and behind them that of the command in which memory ran out
+-- a clock, where it tells what it gave, gave the moments of the turns, and behind them that of a command that was not answered
 abbrev pub AreAsked : {V : Type 0} → Type 0 → List ℕ → List ℕ → List (Turn V) → List ℕ → Type 0
 AreAsked told before after turns halted = told → after ≡ before ++ (moments_of turns ++ halted)

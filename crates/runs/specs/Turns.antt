@@ -9,6 +9,8 @@ use Rattle.trfc_protocol.specs.declared.world.SystemState.{SystemState}
 use Rattle.trfc_protocol.specs.declared.world.World.{World}
 use Rattle.document_state.specs.declared.model_rules.ModelRules.{ModelRules}
 use Rattle.runs.specs.declared.answered.Answered.{Answered}
+use Rattle.runs.specs.declared.lengths.DownBy.{DownBy}
+use Rattle.runs.specs.declared.lengths.DownBy.TheVariants.{Fault, Overrun}
 use Rattle.runs.specs.declared.stage.Stage.{Stage}
 use Rattle.runs.specs.Text.{shown}
 
@@ -41,10 +43,11 @@ abbrev pub last_stage : {V : Type 0} → Stage V → List (Turn V) → Stage V
 last_stage before [] = before
 last_stage before (turn ∷ turns) = last_stage turn.after turns
 
--- whether a system is down since its volume failed
-abbrev pub is_faulted : Cause → Bool
-is_faulted Faulted = true
-is_faulted _ = false
+-- whether a system of a cause is down by this: its volume failed, or a record did not fit on it
+abbrev pub is_by : DownBy → Cause → Bool
+is_by Fault Faulted = true
+is_by Overrun (Overran size) = true
+is_by by cause = false
 
 -- how long a volume would have been with a record that did not fit; 0 for each other cause
 abbrev pub size_of : Cause → ℕ
@@ -56,17 +59,22 @@ abbrev pub down_from : ℕ → List SystemState → Option ℕ
 down_from number [] = None
 down_from number (state ∷ states) = if state.up then down_from (suc number) states else Some number
 
--- the first of these systems, of which the first has this number, that is down since its volume failed
-abbrev pub faulted_from : (ℕ → Cause) → ℕ → List SystemState → Option ℕ
-faulted_from cause number [] = None
-faulted_from cause number (state ∷ states) =
-    if not state.up && is_faulted (cause number) then Some number else faulted_from cause (suc number) states
+-- the first of these systems, of which the first has this number, that is down by this
+abbrev pub down_by_from : DownBy → (ℕ → Cause) → ℕ → List SystemState → Option ℕ
+down_by_from by cause number [] = None
+down_by_from by cause number (state ∷ states) =
+    if not state.up && is_by by (cause number) then Some number else down_by_from by cause (suc number) states
 
 abbrev pub first_down : World ModelRules → Option ℕ
 first_down world = down_from 1 world.systems
 
+-- the first system that is down since its volume failed
 abbrev pub first_faulted : {V : Type 0} → Stage V → Option ℕ
-first_faulted stage = faulted_from (cause_at stage.landscape) 1 (stage.landscape).world.systems
+first_faulted stage = down_by_from Fault (cause_at stage.landscape) 1 (stage.landscape).world.systems
+
+-- the first system that is down since a record did not fit on its volume
+abbrev pub first_overran : {V : Type 0} → Stage V → Option ℕ
+first_overran stage = down_by_from Overrun (cause_at stage.landscape) 1 (stage.landscape).world.systems
 
 -- how long the volume of a system would have been with the record by which it fell; 0 where it fell otherwise
 abbrev pub length_at : {V : Type 0} → Stage V → ℕ → ℕ

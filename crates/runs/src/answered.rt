@@ -6,7 +6,7 @@ ghost use Rattle.report_text.specs.declared.reply.Reply.TheVariants as Reply;
 ghost use Rattle.runs.specs.Does.{plain, refused_as, answer_of, count_of, counted_as, listed_as, one_more};
 ghost use Rattle.runs.specs.Text.{IsPrintable};
 
-use ale_base::OutOfMemory;
+use crate::Halt;
 use report_text::Reply;
 use status_log::{Listing, Refusal};
 
@@ -20,7 +20,7 @@ pub struct Answered {
 }
 
 /// A reply with nothing listed.
-pub(crate) fn plain(reply: Reply) -> Result<Answered, OutOfMemory>
+pub(crate) fn plain(reply: Reply) -> Result<Answered, Halt>
     ensures { result ≡ plain reply }
 {
     Ok(Answered {
@@ -30,19 +30,19 @@ pub(crate) fn plain(reply: Reply) -> Result<Answered, OutOfMemory>
 }
 
 /// How a refusal is answered: by its number, or as the fault of a volume; with no memory there is no answer.
-pub(crate) fn refused(why: Refusal) -> Result<Answered, OutOfMemory>
+pub(crate) fn refused(why: Refusal) -> Result<Answered, Halt>
     ensures answer { result ≡ refused_as why }
     ensures printable { IfOk result IsPrintable }
 {
     match why {
         Refusal::Volume => plain(Reply::Fault),
-        Refusal::OutOfMemory => Err(OutOfMemory),
+        Refusal::OutOfMemory => Err(Halt::OutOfMemory),
         why => plain(Reply::Refused(why)),
     }
 }
 
 /// How a command is answered that was carried out with nothing to tell, or refused.
-pub(crate) fn carried(done: Result<(), Refusal>) -> Result<Answered, OutOfMemory>
+pub(crate) fn carried(done: Result<(), Refusal>) -> Result<Answered, Halt>
     ensures answer { result ≡ answer_of (λ (none : Unit {0}). Reply.Carried) done }
     ensures printable { IfOk result IsPrintable }
 {
@@ -53,7 +53,7 @@ pub(crate) fn carried(done: Result<(), Refusal>) -> Result<Answered, OutOfMemory
 }
 
 /// How a listing is answered: with the count of its lines.
-pub(crate) fn listed(lines: Result<Listing, Refusal>) -> Result<Answered, OutOfMemory>
+pub(crate) fn listed(lines: Result<Listing, Refusal>) -> Result<Answered, Halt>
     ensures answer { result ≡ listed_as lines }
     ensures printable { IfOk lines IsListingPrintable → IfOk result IsPrintable }
 {
@@ -64,12 +64,12 @@ pub(crate) fn listed(lines: Result<Listing, Refusal>) -> Result<Answered, OutOfM
 }
 
 /// A listing with the count of its lines.
-fn counted(listing: Listing) -> Result<Answered, OutOfMemory>
+fn counted(listing: Listing) -> Result<Answered, Halt>
     ensures answer { result ≡ counted_as listing (count_of listing) }
     ensures printable { IsListingPrintable listing → IfOk result IsPrintable }
 {
     match count_of(&listing) {
-        None => Err(OutOfMemory),
+        None => Err(Halt::OutOfMemory),
         Some(count) => Ok(Answered {
             reply: Reply::Lines(count),
             listing: Some(listing),

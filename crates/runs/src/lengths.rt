@@ -1,7 +1,7 @@
-//! What is read of the systems behind each command: how long their logs are, and which of them is down.
+//! What is read of the systems behind each command: how long their logs are, and which of them are down.
 
 ghost use Rattle.std.specs.Prelude.{◌≡◌, ◌≤◌, ◌<◌, suc, map, length, IfOk};
-ghost use Rattle.runs.specs.Turns.{down_from, faulted_from, is_faulted, size_of};
+ghost use Rattle.runs.specs.Turns.{down_by_from, is_by, size_of};
 ghost use Rattle.unit_landscape.specs.KeptWorlds.{cause_at};
 ghost use Rattle.trfc_protocol.specs.declared.world.SystemState.{SystemState as StateOf};
 
@@ -23,41 +23,43 @@ pub(crate) fn log_lengths(alloc: Global, systems: &[SystemState]) -> Result<Vec<
     Ok(lengths)
 }
 
-/// The number of the first system that is down. None exactly where all are up.
-pub(crate) fn first_down(systems: &[SystemState]) -> Option<SystemNo>
-    requires { length systems.now ≤ 16 }
-    ensures { result ≡ down_from 1 systems.now }
-{
-    for (place, state) in systems.iter().enumerate() {
-        if !state.up {
-            return Some(numbered(place));
-        }
-    }
-    None
+/// What a system may be down by that is told at the end of a run.
+#[derive(Clone, Copy)]
+pub(crate) enum DownBy {
+    /// Its volume failed.
+    Fault,
+    /// A record did not fit on its volume.
+    Overrun,
 }
 
-/// The number of the first of these systems of a landscape that is down since its volume failed. None exactly where there is none.
-pub(crate) fn first_faulted<V: Volumes>(
+impl DownBy {
+    /// Whether a system of this cause is down by this.
+    fn is_cause(self, cause: Cause) -> bool
+        ensures { result ≡ is_by self cause }
+    {
+        match (self, cause) {
+            (DownBy::Fault, Cause::Faulted) | (DownBy::Overrun, Cause::Overran(_)) => true,
+            _ => false,
+        }
+    }
+}
+
+/// The number of the first of these systems of a landscape that is down by this. None exactly where there is none.
+pub(crate) fn first_down_by<V: Volumes>(
+    by: DownBy,
     landscape: &Landscape<V>,
     systems: &[SystemState],
 ) -> Option<SystemNo>
     requires { length systems.now ≤ 16 }
-    ensures { result ≡ faulted_from (cause_at landscape.now) 1 systems.now }
+    ensures { result ≡ down_by_from by (cause_at landscape.now) 1 systems.now }
 {
     for (place, state) in systems.iter().enumerate() {
         let system = numbered(place);
-        if !state.up && is_faulted(landscape.cause(system)) {
+        if !state.up && by.is_cause(landscape.cause(system)) {
             return Some(system);
         }
     }
     None
-}
-
-/// Whether a system of this cause is down since its volume failed.
-fn is_faulted(cause: Cause) -> bool
-    ensures { result ≡ is_faulted cause }
-{
-    matches!(cause, Cause::Faulted)
 }
 
 /// How long a volume would have been with a record that did not fit; 0 for each other cause.

@@ -15,14 +15,14 @@ mod operating;
 mod showing;
 
 use crate::answered::plain;
-use crate::{Answered, Crew, Inputs, Stage};
+use crate::{Answered, Crew, Halt, Inputs, Stage};
 use ale_base::OutOfMemory;
 use ale_io::Gate;
 use ale_volumes::Volumes;
 use changing::{app, put, repost};
 use committing::{dispatch, gather, send};
 use drain_desk::{Drained, drain};
-use operating::{late, retry, start, stop, wire};
+use operating::{crash, late, open, retry, start, stop, wire};
 use report_text::Reply;
 use script_text::Form;
 use showing::{show_doc, show_docs, show_objects, show_queues, show_units};
@@ -34,7 +34,7 @@ use std::thread::Threads;
 #[derive(Drop)]
 pub(crate) struct Performed<V: Volumes> {
     pub(crate) stage: Stage<V>,
-    pub(crate) answer: Result<Answered, OutOfMemory>,
+    pub(crate) answer: Result<Answered, Halt>,
 }
 
 /// Carries out a command.
@@ -83,13 +83,13 @@ fn drained<R: Threads + Wait + Sync, V: Volumes + Send, G: Gate + Sync>(
 }
 
 /// How a drain is answered.
-fn finished(end: Result<u64, OutOfMemory>) -> Result<Answered, OutOfMemory>
+fn finished(end: Result<u64, OutOfMemory>) -> Result<Answered, Halt>
     ensures answer { result ≡ drained_as end }
     ensures printable { IfOk result IsPrintable }
 {
     match end {
         Ok(count) => plain(Reply::Finished(count)),
-        Err(OutOfMemory) => Err(OutOfMemory),
+        Err(OutOfMemory) => Err(Halt::OutOfMemory),
     }
 }
 
@@ -98,7 +98,7 @@ fn carry_out<V: Volumes>(
     stage: &mut Stage<V>,
     inputs: &Inputs,
     form: &Form,
-) -> Result<Answered, OutOfMemory>
+) -> Result<Answered, Halt>
     requires { form.now ≢ Drain }
     ensures does { Does V.disk inputs.now stage.old result stage.new form.now }
     ensures calls { Goes V.disk inputs.now stage.old result stage.new form.now }
@@ -128,6 +128,8 @@ fn carry_out<V: Volumes>(
             destination,
             queue,
         } => start(stage, inputs, sys.as_slice(), destination, queue.as_slice()),
+        Form::Crash { sys } => crash(stage, inputs, sys.as_slice()),
+        Form::Open { sys } => open(stage, inputs, sys.as_slice()),
         Form::ShowDocs { sys } => show_docs(stage, inputs, sys.as_slice()),
         Form::ShowDoc { sys, doc } => show_doc(stage, inputs, sys.as_slice(), *doc),
         Form::ShowUnits { sys } => show_units(stage, inputs, sys.as_slice()),

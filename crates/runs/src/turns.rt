@@ -1,21 +1,21 @@
 //! The commands of a script, one after the other.
 
-ghost use Rattle.std.specs.Prelude.{◌≡◌, ◌≤◌, ℕ, List, None, IfOk};
+ghost use Rattle.std.specs.Prelude.{◌≡◌, ◌≤◌, ℕ, List, Ok, IfOk};
 ghost use Rattle.document_state.specs.declared.model_rules.ModelRules.{ModelRules};
 ghost use Rattle.document_state.specs.Meaning.{model_meaning};
 ghost use Rattle.landscape.specs.Crashes.{GoesSoundly, LeavesSoundLogs};
 ghost use Rattle.unit_landscape.specs.Kept.{IsLandscape};
 ghost use Rattle.runs.specs.Run.{AreAsked, Run};
-ghost use Rattle.runs.specs.Turns.{Turn, at_moment, first_down, first_faulted, length_at};
+ghost use Rattle.runs.specs.Turns.{Turn, at_moment, first_faulted, first_overran, length_at};
 ghost use Rattle.runs.specs.Text.{IsPrintable, shown};
 ghost use Rattle.runs.specs.Put.{IsPutAt};
-ghost use Rattle.runs.specs.steps.Put.{GivesOne, IsReported, IsTurn, down_end_of, end_behind};
+ghost use Rattle.runs.specs.steps.Put.{GivesOne, IsReported, IsTurn, end_behind, halted_as, last_end_of};
 
-use crate::lengths::{first_down, first_faulted, size_of};
+use crate::lengths::{DownBy, first_down_by, size_of};
 use crate::performing::{Performed, perform};
 use crate::report::shown;
-use crate::{Answered, Crew, Inputs, RunEnd, Stage};
-use ale_base::OutOfMemory;
+use crate::{Answered, Crew, Halt, Inputs, RunEnd, Stage};
+use ale_base::SystemNo;
 use ale_io::{Clock, Gate, Sink};
 use ale_volumes::Volumes;
 use script_text::Command;
@@ -39,19 +39,22 @@ pub(crate) enum TurnEnd {
     Done,
     /// The sink did not take its text.
     WriteFailed,
+    /// A system was to be opened, and its volume holds another log than was kept.
+    Changed(SystemNo, u64),
     /// Memory ran out.
     OutOfMemory,
 }
 
 /// Carries out commands one after the other, and puts the text of each behind it; a drain is done by the workers of a crew. Before each
-/// command the clock is asked, and its records are written with that moment. A system that goes down ends the run behind the command, and so
-/// does a text that the sink did not take, and want of memory.
+/// command the clock is asked, and its records are written with that moment. A text that the sink did not take ends the run behind its
+/// command; want of memory, and an `open` that finds another log than was kept, end it in theirs, which is not answered. A system that goes
+/// down ends nothing.
 ///
 /// Whatever a crash leaves of all volumes at one moment of the run stands for logs that are sound. No record is missing that a log had before the
 /// run, or when a command ended before that moment.
 ///
-/// Where nothing holds units up at first, no command does, and what is sent is offered by its receiver, each unit that was committed went its
-/// whole way behind each drain that left all systems up.
+/// Where nothing holds units up at first, and up to a drain no command does, what is sent is offered by its receiver and all systems are up,
+/// each unit that was committed went its whole way behind that drain.
 pub fn run_script<R: Threads + Wait + Sync, V: Volumes + Send, G: Gate + Sync, K: Sink, C: Clock>(
     crew: &Crew<'_, R, G>,
     alloc: Global,
@@ -61,7 +64,6 @@ pub fn run_script<R: Threads + Wait + Sync, V: Volumes + Send, G: Gate + Sync, K
     out: &mut K,
     clock: &mut C,
 ) -> Ran<V>
-    requires up { first_down stage.landscape.world ≡ None }
     ensures run { (turns : List (Turn V)) × (run : Run V.disk inputs.now commands.now stage result.stage result.end turns)
         × IsPutAt result.end (K.contents out.old) (K.contents out.new) (K.faults out.old) (K.faults out.new) turns
         × AreAsked (C.told clock.new) (C.given clock.old) (C.given clock.new) turns run.halted }
@@ -73,15 +75,13 @@ pub fn run_script<R: Threads + Wait + Sync, V: Volumes + Send, G: Gate + Sync, K
     for command in commands {
         let Turned { stage: after, end } = turn(crew, alloc, stage, inputs, command, out, clock);
         stage = after;
-        match behind(&stage, end) {
+        match behind(end) {
             None => {}
             Some(end) => return Ran { stage, end },
         }
     }
-    Ran {
-        stage,
-        end: RunEnd::Whole,
-    }
+    let end = last_end(&stage);
+    Ran { stage, end }
 }
 
 /// A command that ended, and what it left.
@@ -133,7 +133,7 @@ fn report<V: Volumes, K: Sink>(
     alloc: Global,
     stage: &Stage<V>,
     command: &Command,
-    answer: Result<Answered, OutOfMemory>,
+    answer: Result<Answered, Halt>,
     out: &mut K,
 ) -> TurnEnd
     requires { IfOk answer IsPrintable }
@@ -141,10 +141,36 @@ fn report<V: Volumes, K: Sink>(
         (K.contents out.old) (K.contents out.new) (K.faults out.old) (K.faults out.new) }
     ensures counted { K.faults out.old ≤ K.faults out.new }
 {
-    let Ok(answered) = answer else {
-        return TurnEnd::OutOfMemory;
-    };
-    match shown(alloc, command, &answered, stage) {
+    match answer {
+        Ok(answered) => put_shown(alloc, stage, command, &answered, out),
+        Err(halt) => halted(halt),
+    }
+}
+
+/// How a command ends that is not answered.
+fn halted(halt: Halt) -> TurnEnd
+    ensures { result ≡ halted_as halt }
+{
+    match halt {
+        Halt::Changed(system, number) => TurnEnd::Changed(system, number),
+        Halt::OutOfMemory => TurnEnd::OutOfMemory,
+    }
+}
+
+/// Puts the text of a command that was answered.
+fn put_shown<V: Volumes, K: Sink>(
+    alloc: Global,
+    stage: &Stage<V>,
+    command: &Command,
+    answered: &Answered,
+    out: &mut K,
+) -> TurnEnd
+    requires { IsPrintable answered.now }
+    ensures reported { IsReported result (Ok answered.now) (λ answered. shown command.now answered stage.now)
+        (K.contents out.old) (K.contents out.new) (K.faults out.old) (K.faults out.new) }
+    ensures counted { K.faults out.old ≤ K.faults out.new }
+{
+    match shown(alloc, command, answered, stage) {
         Err(_) => TurnEnd::OutOfMemory,
         Ok(text) => match out.put(text.as_slice()) {
             Ok(()) => TurnEnd::Done,
@@ -153,31 +179,28 @@ fn report<V: Volumes, K: Sink>(
     }
 }
 
-/// Whether a run ends behind a command that ended so, and why. Where the command was answered, it is the first system that is down.
-fn behind<V: Volumes>(stage: &Stage<V>, end: TurnEnd) -> Option<RunEnd>
-    ensures { result ≡ end_behind stage.now end }
+/// Why a run ends behind a command that ended so. None where it goes on.
+fn behind(end: TurnEnd) -> Option<RunEnd>
+    ensures { result ≡ end_behind end }
 {
     match end {
-        TurnEnd::Done => down_end(stage),
+        TurnEnd::Done => None,
         TurnEnd::WriteFailed => Some(RunEnd::WriteFailed),
+        TurnEnd::Changed(system, number) => Some(RunEnd::Changed(system, number)),
         TurnEnd::OutOfMemory => Some(RunEnd::OutOfMemory),
     }
 }
 
-/// The ending where a system is down. None exactly where all are up.
-fn down_end<V: Volumes>(stage: &Stage<V>) -> Option<RunEnd>
-    ensures { result ≡ down_end_of (length_at stage.now) (first_faulted stage.now) (first_down stage.now.landscape.world) }
+/// The ending behind the last command, by what systems are down.
+fn last_end<V: Volumes>(stage: &Stage<V>) -> RunEnd
+    ensures { result ≡ last_end_of (length_at stage.now) (first_faulted stage.now) (first_overran stage.now) }
 {
     let systems = stage.landscape.world().systems.as_slice();
-    match (
-        first_faulted(&stage.landscape, systems),
-        first_down(systems),
-    ) {
-        (Some(system), _) => Some(RunEnd::DownByFault(system)),
-        (None, Some(system)) => {
-            let size = size_of(stage.landscape.cause(system));
-            Some(RunEnd::DownFull(system, size))
-        }
-        (None, None) => None,
+    if let Some(system) = first_down_by(DownBy::Fault, &stage.landscape, systems) {
+        return RunEnd::DownByFault(system);
+    }
+    match first_down_by(DownBy::Overrun, &stage.landscape, systems) {
+        Some(system) => RunEnd::DownFull(system, size_of(stage.landscape.cause(system))),
+        None => RunEnd::Whole,
     }
 }

@@ -42,6 +42,8 @@ pattern_of shape.Retry = just (The keyword.Retry ∷ Any ∷ Id ∷ [])
 pattern_of shape.Late = just (The keyword.Late ∷ Id ∷ [])
 pattern_of shape.App = just (The keyword.App ∷ Any ∷ Number ∷ [])
 pattern_of shape.Repost = just (The keyword.Repost ∷ Any ∷ Number ∷ [])
+pattern_of shape.Crash = just (The keyword.Crash ∷ Any ∷ [])
+pattern_of shape.Open = just (The keyword.Open ∷ Any ∷ [])
 pattern_of shape.ShowDocs = just (The keyword.Show ∷ The keyword.Docs ∷ Any ∷ [])
 pattern_of shape.ShowDoc = just (The keyword.Show ∷ The keyword.Doc ∷ Any ∷ Number ∷ [])
 pattern_of shape.ShowUnits = just (The keyword.Show ∷ The keyword.Units ∷ Any ∷ [])
@@ -93,6 +95,8 @@ said shape.Retry w = option_map (λ tid. form.Retry (word_at w 1) tid) (tid_of (
 said shape.Late w = option_map (λ tid. form.Late tid) (tid_of (word_at w 1))
 said shape.App w = option_map (λ doc. form.App (word_at w 1) doc) (doc_at w 2)
 said shape.Repost w = option_map (λ doc. form.Repost (word_at w 1) doc) (doc_at w 2)
+said shape.Crash w = Some (form.Crash (word_at w 1))
+said shape.Open w = Some (form.Open (word_at w 1))
 said shape.ShowDocs w = Some (form.ShowDocs (word_at w 2))
 said shape.ShowDoc w = option_map (λ doc. form.ShowDoc (word_at w 2) doc) (doc_at w 3)
 said shape.ShowUnits w = Some (form.ShowUnits (word_at w 2))
@@ -103,7 +107,8 @@ said shape.ShowObjects w = Some (form.ShowObjects (word_at w 2))
 abbrev pub shapes : List Shape
 shapes =
     shape.Send ∷ shape.Put ∷ shape.Gather ∷ shape.Dispatch ∷ shape.Drain ∷ shape.Wire ∷ shape.StopOut ∷ shape.StopIn ∷ shape.StartOut ∷ shape.StartIn
-    ∷ shape.Retry ∷ shape.Late ∷ shape.App ∷ shape.Repost ∷ shape.ShowDocs ∷ shape.ShowDoc ∷ shape.ShowUnits ∷ shape.ShowQueues ∷ shape.ShowObjects ∷ []
+    ∷ shape.Retry ∷ shape.Late ∷ shape.App ∷ shape.Repost ∷ shape.Crash ∷ shape.Open ∷ shape.ShowDocs ∷ shape.ShowDoc ∷ shape.ShowUnits ∷ shape.ShowQueues
+    ∷ shape.ShowObjects ∷ []
 
 -- the first shape in which words are written, if they are written in one
 unfoldable pub shape_of : List (List ℕ) → Option Shape
@@ -127,4 +132,10 @@ verb_of (form.Retry sys tid) = codes "retry"
 verb_of (form.Late tid) = codes "late"
 verb_of (form.App sys doc) = codes "app"
 verb_of (form.Repost sys doc) = codes "repost"
-verb_of _ = codes "show"
+verb_of (form.Crash sys) = codes "crash"
+verb_of (form.Open sys) = codes "open"
+verb_of (form.ShowDocs sys) = codes "show"
+verb_of (form.ShowDoc sys doc) = codes "show"
+verb_of (form.ShowUnits sys) = codes "show"
+verb_of (form.ShowQueues sys) = codes "show"
+verb_of (form.ShowObjects sys) = codes "show"

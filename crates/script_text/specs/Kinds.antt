@@ -27,6 +27,8 @@ text_of keyword.Retry = codes "retry"
 text_of keyword.Late = codes "late"
 text_of keyword.App = codes "app"
 text_of keyword.Repost = codes "repost"
+text_of keyword.Crash = codes "crash"
+text_of keyword.Open = codes "open"
 text_of keyword.Show = codes "show"
 text_of keyword.Out = codes "out"
 text_of keyword.In = codes "in"
@@ -45,10 +47,10 @@ is_number (b ∷ bs) = not (b == 48) && (nat_le (length (b ∷ bs)) MOST_DIGITS 
 abbrev pub number_of : List ℕ → Option ℕ
 number_of word = if is_number word then Some (decimal_value word) else None
 
--- a letter says what becomes of one shipment: all goes through, the request is lost, the reply is lost, the request
--- arrives twice, the confirmation is lost
+-- a letter says what becomes of one shipment: all goes through, the request is lost, the reply is lost, the request arrives twice, the
+-- confirmation is lost, the receiver falls once it has handled the request
 abbrev pub is_letter : ℕ → Bool
-is_letter b = list_any (λ letter. letter == b) (codes "oqrtc")
+is_letter b = list_any (λ letter. letter == b) (codes "oqrtcf")
 
 -- there are 1 to 64 letters
 abbrev pub are_letters : List ℕ → Bool

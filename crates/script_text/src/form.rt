@@ -41,7 +41,7 @@ pub enum Form {
     Wire {
         /// The unit.
         tid: Tid,
-        /// A letter a shipment, 1 to 64 of `oqrtc`.
+        /// A letter a shipment, 1 to 64 of `oqrtcf`.
         letters: Items<u8>,
     },
     /// `stop SYS out DEST QUEUE` or `stop SYS in QUEUE`: stop a queue.
@@ -87,6 +87,16 @@ pub enum Form {
         sys: Items<u8>,
         /// The document.
         doc: DocNum,
+    },
+    /// `crash SYS`: a system falls.
+    Crash {
+        /// The system.
+        sys: Items<u8>,
+    },
+    /// `open SYS`: open a system that is down.
+    Open {
+        /// The system.
+        sys: Items<u8>,
     },
     /// `show docs SYS`: list documents and their statuses.
     ShowDocs {
@@ -135,6 +145,8 @@ impl Form {
             Form::Late { .. } => b"late",
             Form::App { .. } => b"app",
             Form::Repost { .. } => b"repost",
+            Form::Crash { .. } => b"crash",
+            Form::Open { .. } => b"open",
             Form::ShowDocs { .. }
             | Form::ShowDoc { .. }
             | Form::ShowUnits { .. }

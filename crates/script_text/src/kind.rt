@@ -78,7 +78,7 @@ fn has_letters_alone(word: &[u8]) -> bool
 fn is_letter(byte: u8) -> bool
     ensures { result ≡ is_letter byte }
 {
-    b"oqrtc".iter().any(|letter| *letter == byte)
+    b"oqrtcf".iter().any(|letter| *letter == byte)
 }
 
 /// Whether a word is `FIELD=VALUE`: whether it has an equals sign.

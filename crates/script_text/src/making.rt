@@ -40,6 +40,8 @@ fn said(alloc: Global, shape: Shape, words: &[&[u8]]) -> Result<Option<Form>, Ou
         Shape::Late => Ok(late(words)),
         Shape::App => app(alloc, words),
         Shape::Repost => repost(alloc, words),
+        Shape::Crash => crash(alloc, words),
+        Shape::Open => open(alloc, words),
         Shape::ShowDocs => show_docs(alloc, words),
         Shape::ShowDoc => show_doc(alloc, words),
         Shape::ShowUnits => show_units(alloc, words),
@@ -218,6 +220,22 @@ fn repost(alloc: Global, words: &[&[u8]]) -> Result<Option<Form>, OutOfMemory>
         })),
         None => Ok(None),
     }
+}
+
+fn crash(alloc: Global, words: &[&[u8]]) -> Result<Option<Form>, OutOfMemory>
+    ensures { IfOk result (λ form. form ≡ said Shape.Crash (texts words.now)) }
+{
+    Ok(Some(Form::Crash {
+        sys: name_at(alloc, words, 1)?,
+    }))
+}
+
+fn open(alloc: Global, words: &[&[u8]]) -> Result<Option<Form>, OutOfMemory>
+    ensures { IfOk result (λ form. form ≡ said Shape.Open (texts words.now)) }
+{
+    Ok(Some(Form::Open {
+        sys: name_at(alloc, words, 1)?,
+    }))
 }
 
 fn show_docs(alloc: Global, words: &[&[u8]]) -> Result<Option<Form>, OutOfMemory>

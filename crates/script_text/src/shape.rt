@@ -27,6 +27,8 @@ pub(crate) enum Shape {
     Late,
     App,
     Repost,
+    Crash,
+    Open,
     ShowDocs,
     ShowDoc,
     ShowUnits,
@@ -36,7 +38,7 @@ pub(crate) enum Shape {
 
 impl Shape {
     /// All shapes, in the order of the table.
-    const ALL: [Shape; 19] = [
+    const ALL: [Shape; 21] = [
         Shape::Send,
         Shape::Put,
         Shape::Gather,
@@ -51,6 +53,8 @@ impl Shape {
         Shape::Late,
         Shape::App,
         Shape::Repost,
+        Shape::Crash,
+        Shape::Open,
         Shape::ShowDocs,
         Shape::ShowDoc,
         Shape::ShowUnits,
@@ -77,6 +81,8 @@ impl Shape {
             Shape::Late => &[The(Keyword::Late), Id],
             Shape::App => &[The(Keyword::App), Any, Number],
             Shape::Repost => &[The(Keyword::Repost), Any, Number],
+            Shape::Crash => &[The(Keyword::Crash), Any],
+            Shape::Open => &[The(Keyword::Open), Any],
             Shape::ShowDocs => &[The(Keyword::Show), The(Keyword::Docs), Any],
             Shape::ShowDoc => &[The(Keyword::Show), The(Keyword::Doc), Any, Number],
             Shape::ShowUnits => &[The(Keyword::Show), The(Keyword::Units), Any],

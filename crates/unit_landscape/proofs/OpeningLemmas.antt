@@ -209,6 +209,7 @@ found-later disk old new n bytes log Failed never stands (inr later) = record {
   not_before = later.not_before;
   not_after = later.not_after;
   each = λ image left. found-read bytes image log stands (later.each image left);
+  earlier = later.earlier;
 }
 
 -- the fault that is told is the same where the volumes are given back with it

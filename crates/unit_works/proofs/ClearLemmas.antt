@@ -36,12 +36,13 @@ use Rattle.unit_landscape.specs.Kept.{IsLandscape}
 use Rattle.document_state.specs.declared.document_tables.DocumentTables.{DocumentTables}
 use Rattle.document_state.specs.declared.model_rules.ModelRules.{ModelRules}
 use Rattle.document_state.specs.Meaning.{offered}
+use Rattle.unit_works.specs.declared.letter.Letter.{Letter}
 use Rattle.unit_works.specs.declared.letter.Letter.TheVariants.{Whole}
 use Rattle.unit_works.specs.Wires.{letters_left, next_letter, rest_letters}
 use Rattle.unit_works.specs.Acts.{Act, Acted, HaveActed, confirm, execute, loses, ship}
 use Rattle.unit_works.specs.Events.{is_works_record}
 use Rattle.unit_works.specs.Through.{AreOffered, AreUp, IsClear, NoneLeft}
-use Rattle.unit_works.specs.Trips.{AppendedAs, HaveGrown, Wholly, confirmation, execution, forgot, records_at, shipment}
+use Rattle.unit_works.specs.Trips.{AppendedAs, HaveGrown, ShippedSo, Wholly, confirmation, execution, forgot, records_at, shipment}
 use Rattle.unit_works.specs.Went.{HaveWorksBehind}
 use Rattle.unit_works.specs.Worked.{HasTaken, HaveOnlyClaimed, Lines}
 use Rattle.unit_works.proofs.LogLemmas.{EachIs, all-at, fold-all, offers-log, works-on, works-same}
@@ -181,11 +182,11 @@ module _ {V : Type 0} (disk : Disk V) where
       (all-works acts did.1 after did.2 lines_after did.5))
 
   -- the units that are committed stay
-  acted-same : (before after : KeptOf ModelRules DocumentTables V) (lines lines_after : Lines) (act : Act) → Acted disk before lines act after lines_after
+  pub acted-same : (before after : KeptOf ModelRules DocumentTables V) (lines lines_after : Lines) (act : Act) → Acted disk before lines act after lines_after
       → (tid : TidOf) → committed_unit (meaning after.world.rules) after.world tid ≡ committed_unit (meaning before.world.rules) before.world tid
   acted-same before after lines lines_after act did = let went = acted-went disk before after lines lines_after act did in went.committed
 
-  all-same : (acts : List Act) (before after : KeptOf ModelRules DocumentTables V) (lines lines_after : Lines)
+  pub all-same : (acts : List Act) (before after : KeptOf ModelRules DocumentTables V) (lines lines_after : Lines)
       → HaveActed disk before lines acts after lines_after → (tid : TidOf)
       → committed_unit (meaning after.world.rules) after.world tid ≡ committed_unit (meaning before.world.rules) before.world tid
   all-same [] before after lines lines_after did tid = only-committed before after did.0 tid
@@ -263,6 +264,17 @@ module _ {V : Type 0} (disk : Disk V) where
         let next : Writing = did.2 in
         absurd (both_ways (is_up after.world next.system) cut.fell (stay next.system cut.up))
 
+    -- so is a shipment
+    shipped-whole : {R A T : Type 0} (now after : KeptOf R A T) (letter : Letter) (given : Answer) (unit : AleUnit) (whole : Bool)
+        → ShippedSo now after letter given unit whole → ((system : ℕ) → is_up now.world system ≡ true → is_up after.world system ≡ true)
+        → Wholly now.world after.world (shipment letter given unit)
+    shipped-whole now after letter given unit true did stay = did.0
+    shipped-whole now after letter given unit false did stay = elim did [
+      | inl cut ↦ acted-whole now after (shipment letter given unit) false cut stay
+      | inr felled ↦
+          let fell = felled.1 in absurd (both_ways (is_up after.world unit.receiver) fell.fell (stay unit.receiver fell.up))
+    ]
+
     -- an act holds nothing up, takes no letter but one under which all comes, and loses no confirmation
     record Went (now after : KeptOf ModelRules DocumentTables V) (lines_after : Lines) (act : Act) : Type 0 where
       clear : IsClear after.world
@@ -277,7 +289,7 @@ module _ {V : Type 0} (disk : Disk V) where
           let unit : AleUnit = was.unit in
           let given = answer_to (meaning now.world.rules) now.world unit in
           let comes : letter ≡ Whole = was.next ∙ ap next_letter (none tid) in
-          let grew = acted-whole now after (shipment letter given unit) whole was.grew stay in
+          let grew = shipped-whole now after letter given unit whole was.grew stay in
           record {
             clear = clear-grown now.world after.world (shipment letter given unit) grew.grew
                 (subst (λ l. EachIs HoldsNothing (shipment l given unit)) (sym comes) (arrives-well now.world leads tid unit was.committed)) clear;

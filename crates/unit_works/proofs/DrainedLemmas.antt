@@ -46,6 +46,7 @@ use Rattle.unit_works.specs.Works.{ExecutedAs, ShippedAs}
 use Rattle.unit_works.specs.Rounds.{HasVisited, IsTo, RoundsAs, VisitedSo}
 use Rattle.unit_works.specs.steps.Rounds.{NothingAt, NothingTo, joined}
 use Rattle.unit_works.proofs.ClearLemmas.{acts-clear}
+use Rattle.unit_works.proofs.FelledLemmas.{all-felled}
 use Rattle.unit_works.proofs.IdleLemmas.{idle-through}
 use Rattle.unit_works.proofs.LossLemmas.{all-up, due-or-on, lost-or-due, only-committed, only-due}
 use Rattle.unit_works.proofs.OnceLemmas.{all-done, none-taken, once-on, once-shipped}
@@ -673,6 +674,7 @@ module _ {V : Type 0} (disk : Disk V) where
         unclaimed = unclaimed;
         lost = lost;
         once = visited-once before between after lines lines_between lines_after is first bare n gone;
+        felled = all-felled disk (one.acts ++ two.acts) before after lines lines_after both.did;
         through = went-through (one.acts ++ two.acts) before after lines lines_after is is_after went.rules both.did second.1 unclaimed lost;
       }
   drained-on before start between after lines lines_between lines_after (Err why) is is_after begun only none visited second =

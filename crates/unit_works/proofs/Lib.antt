@@ -16,6 +16,8 @@ pub mod WentLemmas
 pub mod PreparedLemmas
 -- what is appended, one after the other, until a system falls
 pub mod GrowthLemmas
+-- a system is felled
+pub mod FellingLemmas
 -- a unit is claimed
 pub mod ClaimingLemmas
 -- a unit that is shipped arrives
@@ -38,6 +40,8 @@ pub mod OnceLemmas
 pub mod IdleLemmas
 -- acts hold nothing up where all comes and all is offered
 pub mod ClearLemmas
+-- a system that was felled was by an act
+pub mod FelledLemmas
 -- works until none is left
 pub mod DrainedLemmas
 -- the numbers by which letters are kept

@@ -33,13 +33,13 @@ use Rattle.unit_landscape.specs.KeptWorlds.{KeptOf}
 use Rattle.document_state.specs.declared.document_tables.DocumentTables.{DocumentTables}
 use Rattle.document_state.specs.declared.model_rules.ModelRules.{ModelRules}
 use Rattle.unit_works.specs.declared.letter.Letter.{Letter}
-use Rattle.unit_works.specs.declared.letter.Letter.TheVariants.{Whole, LostRequest, LostReply, Twice, LostConfirmation}
+use Rattle.unit_works.specs.declared.letter.Letter.TheVariants.{Whole, LostRequest, LostReply, Twice, LostConfirmation, ReceiverFalls}
 use Rattle.unit_works.specs.Acts.{Act, Acted, HasConfirmed, HasShipped, HaveActed, confirm, execute, loses, ship, takes}
 use Rattle.unit_works.specs.Events.{arrives_under, is_confirmation, is_confirmed_under, is_execution, is_sent_under, is_shipping, is_work}
-use Rattle.unit_works.specs.Trips.{AppendedAs, HaveGrown, closing, confirmation, execution, forgot, is_done, is_due, learnt_under, may_ship, noted_of, one_at}
-use Rattle.unit_works.specs.Trips.{records_at, shipment, taken_in}
+use Rattle.unit_works.specs.Trips.{AppendedAs, HaveGrown, ShippedSo, closing, confirmation, execution, fells, forgot, is_done, is_due, learnt_under, may_ship}
+use Rattle.unit_works.specs.Trips.{noted_of, noted_under, one_at, records_at, shipment, taken_in}
 use Rattle.unit_works.specs.Worked.{HaveOnlyClaimed, Lines, Worked}
-use Rattle.unit_works.proofs.GrowthLemmas.{appended-up}
+use Rattle.unit_works.proofs.GrowthLemmas.{appended-up, shipped-up}
 use Rattle.unit_works.proofs.LogLemmas.{EachIs, each-append, each-first, each-if, each-next, each-wider, listed-behind, record-here, records-on}
 use Rattle.unit_works.proofs.TripLemmas.{due-parts}
 use Rattle.unit_works.proofs.WorkedLemmas.{confirmation-works, execution-works, meaning, shipping-works, wider}
@@ -118,8 +118,9 @@ each-shipped P unit accept direct done refused lost forget ended letter given =
     let learnt = learnt_under letter given in
     let first = cond (arrives_under letter) (taken_in given unit) [] in
     let last = cond (is_confirmed_under letter && is_done learnt) (closing unit) [] in
-    each-append P (first ++ noted_of learnt unit.tid) last
-    (each-append P first (noted_of learnt unit.tid) (each-if P (arrives_under letter) (taken_in given unit) (taken given)) (noted learnt))
+    each-append P (first ++ noted_under letter given unit.tid) last
+    (each-append P first (noted_under letter given unit.tid) (each-if P (arrives_under letter) (taken_in given unit) (taken given))
+    (unless (fells letter given) (noted_of learnt unit.tid) (noted learnt)))
     (each-if P (is_confirmed_under letter && is_done learnt) (closing unit) (forget, (ended, tt)))
   where
     taken : (a : Answer) → EachIs P (taken_in a unit)
@@ -129,6 +130,10 @@ each-shipped P unit accept direct done refused lost forget ended letter given =
     taken answer.Busy = tt
     taken answer.SysFail = tt
     taken answer.Down = tt
+
+    unless : (b : Bool) (xs : List Writing) → EachIs P xs → EachIs P (cond b [] xs)
+    unless true xs each = tt
+    unless false xs each = each
 
     noted : (learnt : Option CoreAnswer) → EachIs P (noted_of learnt unit.tid)
     noted (Some core.Done) = (done, tt)
@@ -159,6 +164,15 @@ are-appended P before after added true did each = (added, did.grew, each)
 are-appended P before after added false did each =
     let cut = did.4 in (did.0, cut.grew, each-first P did.0 (did.2 ∷ did.1) (subst (EachIs P) did.3 each))
 
+-- so are those of a shipment
+pub are-shipped : {R A V : Type 0} (P : Writing → Type 0) (before after : KeptOf R A V) (letter : Letter) (given : Answer) (unit : AleUnit) (whole : Bool)
+    → ShippedSo before after letter given unit whole → EachIs P (shipment letter given unit) → AreAppended P before.world after.world
+are-shipped P before after letter given unit true did each = are-appended P before after (shipment letter given unit) true did.0 each
+are-shipped P before after letter given unit false did each = elim did [
+  | inl cut ↦ are-appended P before after (shipment letter given unit) false cut each
+  | inr felled ↦ let fell = felled.1 in (shipment letter given unit, fell.grew, each)
+]
+
 -- a record that does not count spares each id
 none-spares : (of : Record → Option TidOf) (tid : TidOf) (next : Record) → of next ≡ None → Spares of tid next
 none-spares of tid next none named some = let wrong = sym none ∙ some in cc
@@ -180,6 +194,12 @@ ship-ends LostReply answer.Known unit other = inl (refl, tt)
 ship-ends LostReply answer.Busy unit other = inl (refl, tt)
 ship-ends LostReply answer.SysFail unit other = inl (refl, tt)
 ship-ends LostReply answer.Down unit other = inl (refl, tt)
+ship-ends ReceiverFalls answer.New unit other = inl (refl, tt)
+ship-ends ReceiverFalls answer.Run unit other = inl (refl, tt)
+ship-ends ReceiverFalls answer.Known unit other = inl tt
+ship-ends ReceiverFalls answer.Busy unit other = inl tt
+ship-ends ReceiverFalls answer.SysFail unit other = inl tt
+ship-ends ReceiverFalls answer.Down unit other = inl (refl, tt)
 ship-ends Whole answer.New unit other = inr (
   one_at unit.receiver (log.Accept unit) ++ one_at unit.tid.system (log.Done unit.tid) ++ one_at unit.receiver
       (log.Forget unit.tid),
@@ -217,6 +237,7 @@ confirm-ends Whole forgotten unit other = (cond forgotten [] (one_at unit.receiv
 confirm-ends Twice forgotten unit other = (cond forgotten [] (one_at unit.receiver (log.Forget unit.tid)), refl)
 confirm-ends LostRequest forgotten unit other = (cond forgotten [] (one_at unit.receiver (log.Forget unit.tid)), refl)
 confirm-ends LostReply forgotten unit other = (cond forgotten [] (one_at unit.receiver (log.Forget unit.tid)), refl)
+confirm-ends ReceiverFalls forgotten unit other = (cond forgotten [] (one_at unit.receiver (log.Forget unit.tid)), refl)
 
 -- ---- what is due before and after
 
@@ -322,8 +343,7 @@ module _ {V : Type 0} (disk : Disk V) where
         → is_up before.world system ≡ true
     acted-up (ship tid letter whole) did system up =
         let was = did.was in
-        appended-up before after
-        (shipment letter (answer_to (meaning before.world.rules) before.world was.unit) was.unit) whole was.grew system up
+        shipped-up before after letter (answer_to (meaning before.world.rules) before.world was.unit) was.unit whole was.grew system up
     acted-up (execute place tid whole) did system up =
         let executed = did.0 in
         appended-up before after
@@ -354,7 +374,7 @@ module _ {V : Type 0} (disk : Disk V) where
         let differs : is_tid unit.tid tid ≡ false = ap (λ t. is_tid t tid) its ∙ off in
         let given = answer_to (meaning before.world.rules) before.world unit in
         leaves-reads before.world after.world tid
-        (are-appended (Leaves tid) before after (shipment letter given unit) whole was.grew
+        (are-shipped (Leaves tid) before after letter given unit whole was.grew
         (each-shipped (Leaves tid) unit (leaves-none tid (at unit.receiver (log.Accept unit)) refl refl)
         (leaves-none tid (at unit.receiver (log.Direct unit)) refl refl)
         (one-spares done_by tid (log.Done unit.tid) unit.tid refl differs, none-spares ended_by tid (log.Done unit.tid) refl)
@@ -401,9 +421,10 @@ module _ {V : Type 0} (disk : Disk V) where
             (subst (λ (t : TidOf). is_listed sent.tid (done_in (log_of before.world t.system)) ≡ false) same
             (may-undone (meaning before.world.rules) before.world tid sent (did.was).committed did.may))
 
-        wrong : (l : Letter) → letter ≡ l → (l ≡ LostConfirmation → ⊥) → (b : Bool) → AppendedAs before after
-            (shipment l (answer_to (meaning before.world.rules) before.world unit) unit) b → ⊥
-        wrong l is other true grew =
+        wrong : (l : Letter) → letter ≡ l → (l ≡ LostConfirmation → ⊥) → (b : Bool)
+            → ShippedSo before after l (answer_to (meaning before.world.rules) before.world unit) unit b → ⊥
+        wrong l is other true did_so =
+            let grew = did_so.0 in
             let reads = due-reads after.world unit due in
             let given = answer_to (meaning before.world.rules) before.world unit in
             elim (ship-ends l given unit other) [
@@ -416,16 +437,22 @@ module _ {V : Type 0} (disk : Disk V) where
                   both_ways (is_listed unit.tid (ended_in (log_of after.world unit.tid.system))) reads.1
                   (ended-last before.world after.world unit.tid ends.0 (subst (HaveGrown before.world after.world) ends.1 grew.grew))
             ]
-        wrong l is other false grew =
+        wrong l is other false did_so =
             let given = answer_to (meaning before.world.rules) before.world unit in
-            cut-due before after unit (shipment l given unit) grew
-            (each-shipped (IsAt unit) unit (inl refl) (inl refl) (inr refl) (inr refl) (inr refl) (inl refl) (inr refl) l given) due
+            elim did_so [
+              | inl grew ↦
+                  cut-due before after unit (shipment l given unit) grew
+                  (each-shipped (IsAt unit) unit (inl refl) (inl refl) (inr refl) (inr refl) (inr refl) (inl refl) (inr refl) l given) due
+              | inr felled ↦
+                  let fell = felled.1 in
+                  let parts = due-parts after.world unit due in
+                  both_ways (is_up after.world unit.receiver) fell.fell parts.1
+            ]
 
-        grew_so : (l : Letter) → letter ≡ l
-            → AppendedAs before after (shipment l (answer_to (meaning before.world.rules) before.world unit) unit) whole
+        grew_so : (l : Letter) → letter ≡ l → ShippedSo before after l (answer_to (meaning before.world.rules) before.world unit) unit whole
         grew_so l is =
-            subst (λ m. AppendedAs before after (shipment m (answer_to (meaning before.world.rules) before.world unit) unit) whole) is
-            (subst (λ (u : AleUnit). AppendedAs before after (shipment letter (answer_to (meaning before.world.rules) before.world u) u) whole)
+            subst (λ m. ShippedSo before after m (answer_to (meaning before.world.rules) before.world unit) unit whole) is
+            (subst (λ (u : AleUnit). ShippedSo before after letter (answer_to (meaning before.world.rules) before.world u) u whole)
             equal
             (did.was).grew)
 
@@ -435,6 +462,7 @@ module _ {V : Type 0} (disk : Disk V) where
         by LostRequest is = absurd (wrong LostRequest is (λ lost. cc) whole (grew_so LostRequest is))
         by LostReply is = absurd (wrong LostReply is (λ lost. cc) whole (grew_so LostReply is))
         by Twice is = absurd (wrong Twice is (λ lost. cc) whole (grew_so Twice is))
+        by ReceiverFalls is = absurd (wrong ReceiverFalls is (λ lost. cc) whole (grew_so ReceiverFalls is))
 
     -- so did a confirmation
     confirmed-lost : (unit : AleUnit) (tid : TidOf) (letter : Letter) (whole : Bool) → tid ≡ unit.tid
@@ -473,6 +501,7 @@ module _ {V : Type 0} (disk : Disk V) where
         by LostRequest is = absurd (wrong LostRequest (λ lost. cc) whole (grew_so LostRequest is))
         by LostReply is = absurd (wrong LostReply (λ lost. cc) whole (grew_so LostReply is))
         by Twice is = absurd (wrong Twice (λ lost. cc) whole (grew_so Twice is))
+        by ReceiverFalls is = absurd (wrong ReceiverFalls (λ lost. cc) whole (grew_so ReceiverFalls is))
 
     -- an act on the unit of an id that is due after it lost its confirmation
     lost-on : (unit : AleUnit) (act : Act) → Acted disk before lines act after lines_after → takes unit.tid act ≡ true

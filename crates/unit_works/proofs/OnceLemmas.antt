@@ -40,11 +40,12 @@ use Rattle.unit_works.specs.Acts.{Act, Acted, HasShipped, HaveActed, confirm, ea
 use Rattle.unit_works.specs.Claims.{NoneRuns}
 use Rattle.unit_works.specs.Drained.{IsSettled, TakesOnce, is_round}
 use Rattle.unit_works.specs.Events.{is_answered_under, is_confirmed_under, is_works_record}
-use Rattle.unit_works.specs.Trips.{HaveGrown, back_of, closing, confirmation, execution, forgot, is_done, learnt_under, noted_of, one_at, records_at, shipment}
+use Rattle.unit_works.specs.Trips.{HaveGrown, back_of, closing, confirmation, execution, fells, forgot, is_done, learnt_under, noted_of, one_at, records_at}
+use Rattle.unit_works.specs.Trips.{shipment}
 use Rattle.unit_works.specs.Worked.{HaveOnlyClaimed, Lines}
 use Rattle.unit_works.specs.steps.Arriving.{delivery}
 use Rattle.unit_works.proofs.LogLemmas.{EachIs, records-on}
-use Rattle.unit_works.proofs.LossLemmas.{AreAppended, are-appended, at, each-confirmed, each-executed, each-shipped, listed-grown, may-undone, only-log}
+use Rattle.unit_works.proofs.LossLemmas.{AreAppended, are-appended, are-shipped, at, each-confirmed, each-executed, each-shipped, listed-grown, may-undone, only-log}
 use Rattle.unit_works.proofs.WorkedLemmas.{meaning}
 
 -- ---- a unit that is done or marked stays so
@@ -171,7 +172,7 @@ execution-works : (offered : Bool) (system : ℕ) (tid : TidOf) → EachIs IsOfW
 execution-works offered system tid = each-executed IsOfWork system tid refl refl offered
 
 module _ (before after : World ModelRules) (unit : AleUnit) (letter : Letter) (given : Answer)
-    (grew : HaveGrown before after (shipment letter given unit)) where
+    (grew : HaveGrown before after (shipment letter given unit)) (unfelled : fells letter given ≡ false) where
   abbrev Closing : List Writing
   Closing = cond (is_confirmed_under letter && is_done (learnt_under letter given)) (closing unit) []
 
@@ -187,7 +188,8 @@ module _ (before after : World ModelRules) (unit : AleUnit) (letter : Letter) (g
       → HaveGrown before after (delivery letter given unit ++ at unit.tid.system next ∷ Closing)
   there learnt next is notes =
       subst (HaveGrown before after)
-      (ap (λ l. delivery letter given unit ++ noted_of l unit.tid ++ Closing) is
+      (ap (λ b. delivery letter given unit ++ cond b [] (noted_of (learnt_under letter given) unit.tid) ++ Closing) unfelled
+      ∙ ap (λ l. delivery letter given unit ++ noted_of l unit.tid ++ Closing) is
       ∙ ap (λ xs. delivery letter given unit ++ xs ++ Closing) notes
       ∙ append_assoc (delivery letter given unit) (one_at unit.tid.system next) Closing) grew
 
@@ -211,9 +213,10 @@ module _ {V : Type 0} (disk : Disk V) where
         let unit : AleUnit = was.unit in
         let its : unit.tid ≡ tid = (unit_named-Some tid (committed_by (meaning before.world.rules) before.world tid.system) unit was.committed).1 in
         let given = answer_to (meaning before.world.rules) before.world unit in
-        let grew = was.grew in
+        let did_so = was.grew in
+        let grew = did_so.0 in
         subst (IsSettled after.world) its
-        (noted-settles before.world after.world unit letter given grew.grew (learnt_under letter given) refl
+        (noted-settles before.world after.world unit letter given grew.grew did_so.1 (learnt_under letter given) refl
         (λ busy. never-busy (meaning before.world.rules) before.world unit none (busy-is (is_answered_under letter) given busy)))
 
     -- an act appends records of works
@@ -221,7 +224,7 @@ module _ {V : Type 0} (disk : Disk V) where
     acted-appended (ship tid letter whole) did =
         let was = did.was in
         let given = answer_to (meaning before.world.rules) before.world was.unit in
-        are-appended IsOfWork before after (shipment letter given was.unit) whole was.grew (shipment-works letter given was.unit)
+        are-shipped IsOfWork before after letter given was.unit whole was.grew (shipment-works letter given was.unit)
     acted-appended (execute system tid whole) did =
         let executed = did.0 in
         let offered = offers_received_now (meaning before.world.rules) before.world system tid in

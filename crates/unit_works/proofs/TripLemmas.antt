@@ -3,6 +3,7 @@ use Rattle.std.specs.Prelude.{Contains, filter}
 use Rattle.std.specs.List.{filter_map}
 use Rattle.std.specs.Option.{option_map_or}
 use Rattle.std.proofs.Common.{◌≡◌, ◌==◌, ◌&&◌, ℕ, not, Bool, true, false, cond, Option, Some, None, List, [], ◌∷◌, ◌++◌, inl, inr, refl, sym, ap, subst, ◌∙◌}
+use Rattle.std.proofs.Common.{append-nil}
 use Rattle.std.proofs.lemmas.Bool.{and_from, and_parts, both_ways, cases_Bool, false_from_ne_true, not-true}
 use Rattle.std.proofs.lemmas.List.Elements.{All-contains}
 use Rattle.ale_base.specs.Tid.{TidOf, is_tid}
@@ -44,18 +45,20 @@ use Rattle.unit_landscape.specs.declared.claims.OutClaim.{OutClaim}
 use Rattle.unit_landscape.specs.Appending.{HoldsIn}
 use Rattle.unit_landscape.specs.Calls.{is_refused, reply_event, stands_out, was_received}
 use Rattle.unit_works.specs.declared.letter.Letter.{Letter}
-use Rattle.unit_works.specs.declared.letter.Letter.TheVariants.{Whole, LostRequest, LostReply, Twice, LostConfirmation}
-use Rattle.unit_works.specs.Events.{arrives_under, is_answered_under, is_confirmed_under, told_of}
-use Rattle.unit_works.specs.Trips.{Appended, AppendedAs, HaveGrown, Wholly, back_of, closing, confirmation, forgot, is_done, is_due, learnt_under, noted_of}
-use Rattle.unit_works.specs.Trips.{one_at, run_at, shipment, taken_in}
-use Rattle.unit_works.specs.steps.Arriving.{AnsweredSo, ClaimsAre, HasAnswered, HasArrived, HasDelivered, Says, Tells, accepted, back_under, delivery, event_of}
+use Rattle.unit_works.specs.declared.letter.Letter.TheVariants.{Whole, LostRequest, LostReply, Twice, LostConfirmation, ReceiverFalls}
+use Rattle.unit_works.specs.Events.{arrives_under, falls_under, is_answered_under, is_confirmed_under, told_of}
+use Rattle.unit_works.specs.Trips.{Appended, AppendedAs, Felled, HaveGrown, Shipped, ShippedSo, Wholly, back_of, closing, confirmation, fells, forgot, is_done}
+use Rattle.unit_works.specs.Trips.{is_down, is_due, learnt_under, noted_of, noted_under, one_at, run_at, shipment, taken_in}
+use Rattle.unit_works.specs.steps.Arriving.{AnsweredSo, ClaimsAre, DeliveredSo, HasAnswered, HasArrived, HasDelivered, Says, Tells, accepted, back_under}
+use Rattle.unit_works.specs.steps.Arriving.{delivery, event_of}
 use Rattle.unit_works.specs.steps.Arriving.{run_held, run_of}
 use Rattle.unit_works.specs.steps.Claims.{WasCut}
+use Rattle.unit_works.specs.steps.Felling.{FellIf, HandledSo, WasFelled}
 use Rattle.unit_works.specs.steps.Confirming.{sent_to}
 use Rattle.unit_works.specs.steps.Ending.{FinishedSo, IsRun}
 use Rattle.unit_works.proofs.ClaimLemmas.{found-last, held-out, without-last}
-use Rattle.unit_works.proofs.GrowthLemmas.{appended-on, cut-before, wholly-on, wholly-same}
-use Rattle.unit_works.proofs.LogLemmas.{EachIs, NoneCounts, among-behind, each-first, each-next, same-grown, listed-behind, offers-log, read-same, record-here}
+use Rattle.unit_works.proofs.GrowthLemmas.{appended-on, cut-before, felled-behind, wholly-on, wholly-same}
+use Rattle.unit_works.proofs.LogLemmas.{EachIs, NoneCounts, among-behind, each-first, each-if, each-next, same-grown, listed-behind, offers-log, read-same, record-here}
 
 -- ---- a unit arrives, and is answered
 
@@ -293,6 +296,107 @@ module _ {R A V : Type 0} (before between after : KeptOf R A V) (unit : AleUnit)
     claims = fell.claims;
   }
 
+-- ---- its receiver falls behind that
+
+-- a receiver that is up answers, and one that is down does not
+answered-down : (up among claimed empty offers : Bool)
+    → is_down (cond (not up) answer.Down (cond among answer.Known (cond claimed answer.Busy (cond empty (cond offers answer.Run answer.SysFail) answer.New))))
+    ≡ not up
+answered-down false among claimed empty offers = refl
+answered-down true true claimed empty offers = refl
+answered-down true false true empty offers = refl
+answered-down true false false true true = refl
+answered-down true false false true false = refl
+answered-down true false false false offers = refl
+
+-- so a letter that fells the receiver does where that is up
+fells-up : {R : Type 0} (rules : Meaning) (world : World R) (unit : AleUnit) (letter : Letter)
+    → fells letter (answer_to rules world unit) ≡ (falls_under letter && is_up world unit.receiver)
+fells-up rules world unit letter =
+    ap (λ b. falls_under letter && not b)
+    (answered-down (is_up world unit.receiver) (is_among unit.tid (received (log_of world unit.receiver))) (is_claimed Direct unit.tid world.claims)
+    (is_empty unit.inq) (offers_now rules world unit.receiver unit.function))
+    ∙ ap (λ b. falls_under letter && b) (twice-not (is_up world unit.receiver))
+  where
+    twice-not : (b : Bool) → not (not b) ≡ b
+    twice-not true = refl
+    twice-not false = refl
+
+-- a receiver appends what is delivered
+delivery-here : (letter : Letter) (given : Answer) (unit : AleUnit) → EachIs (λ it. it.system ≡ unit.receiver) (delivery letter given unit)
+delivery-here letter given unit = each-if (λ it. it.system ≡ unit.receiver) (arrives_under letter) (taken_in given unit) (taken given)
+  where
+    taken : (a : Answer) → EachIs (λ it. it.system ≡ unit.receiver) (taken_in a unit)
+    taken answer.New = (refl, tt)
+    taken answer.Run = (refl, tt)
+    taken answer.Known = tt
+    taken answer.Busy = tt
+    taken answer.SysFail = tt
+    taken answer.Down = tt
+
+module _ {R A V : Type 0} (meaning : R → Meaning) (before between after : KeptOf R A V) (claim : OutClaim) (unit : AleUnit) (letter : Letter)
+    (told : Reply) where
+  abbrev Answers : Answer
+  Answers = answer_to (meaning before.world.rules) before.world unit
+
+  -- a letter fells the receiver of a unit that was delivered where that is up then
+  fells-then : HasDelivered (meaning between.world.rules) before.world between.world claim unit letter Answers told
+      → fells letter Answers ≡ (falls_under letter && is_up between.world unit.receiver)
+  fells-then came =
+      let grew = came.grew in
+      fells-up (meaning before.world.rules) before.world unit letter ∙ ap (λ b. falls_under letter && b) (sym (grew.stand unit.receiver).0)
+
+  -- a unit was delivered, and its receiver fell, or did not
+  pub handled : DeliveredSo (meaning between.world.rules) before between claim unit letter Answers told
+      → FellIf between after (falls_under letter && is_up between.world unit.receiver) unit.receiver
+      → HandledSo (meaning after.world.rules) before after claim unit letter Answers told
+  handled did fell = elim (cases_Bool (falls_under letter && is_up between.world unit.receiver)) [
+    | inl falls ↦ felled falls (subst (λ b. FellIf between after b unit.receiver) falls fell)
+    | inr stays ↦ still stays (subst (λ b. FellIf between after b unit.receiver) stays fell)
+  ]
+    where
+      felled : (falls_under letter && is_up between.world unit.receiver) ≡ true → FellIf between after true unit.receiver
+          → HandledSo (meaning after.world.rules) before after claim unit letter Answers told
+      felled falls its = elim did [
+        | inl came ↦
+            inr (inr (record {
+              fells_it = fells-then came ∙ falls;
+              felled = subst (λ xs. Felled before after xs unit.receiver) (append-nil (delivery letter Answers unit))
+                  (felled-behind before between after (delivery letter Answers unit) [] unit.receiver came.grew its.0);
+              claims = its.1;
+            }))
+        | inr fell_then ↦
+            let done = fell_then.cut in
+            let cut = done.4 in
+            let here : done.2.system ≡ unit.receiver =
+            each-next (λ it. it.system ≡ unit.receiver) done.0 done.2 done.1
+            (subst (EachIs (λ it. it.system ≡ unit.receiver)) done.3 (delivery-here letter Answers unit)) in
+            let fell_now = its.0 in
+            absurd (both_ways (is_up between.world unit.receiver) (subst (λ s. is_up between.world s ≡ false) here cut.fell) fell_now.up)
+      ]
+
+      still : (falls_under letter && is_up between.world unit.receiver) ≡ false → after ≡ between
+          → HandledSo (meaning after.world.rules) before after claim unit letter Answers told
+      still stays same = elim did [
+        | inl came ↦
+            inl (
+              subst (λ (k : KeptOf R A V). HasDelivered (meaning k.world.rules) before.world k.world claim unit letter Answers told) (sym same) came,
+              fells-then came ∙ stays,
+            )
+        | inr fell_then ↦ inr (inl (subst (λ (k : KeptOf R A V). WasCut before k (delivery letter Answers unit)) (sym same) fell_then))
+      ]
+
+-- what is appended as a unit is shipped under a letter that fells its receiver is what that takes in
+felled-shipment : (letter : Letter) (given : Answer) (unit : AleUnit) → fells letter given ≡ true → shipment letter given unit ≡ delivery letter given unit
+felled-shipment ReceiverFalls given unit is =
+    ap (λ b. taken_in given unit ++ cond b [] (noted_of None unit.tid) ++ []) is
+    ∙ append-nil (taken_in given unit ++ []) ∙ append-nil (taken_in given unit)
+felled-shipment Whole given unit is = cc
+felled-shipment LostRequest given unit is = cc
+felled-shipment LostReply given unit is = cc
+felled-shipment Twice given unit is = cc
+felled-shipment LostConfirmation given unit is = cc
+
 -- ---- the sender learns of it
 
 -- what a sender is told under a letter is what it learns
@@ -304,6 +408,7 @@ event-told rules world claim LostRequest given told same = refl
 event-told rules world claim LostReply given told same = refl
 event-told rules world claim Twice given told same = same
 event-told rules world claim LostConfirmation given told same = same
+event-told rules world claim ReceiverFalls given told same = refl
 
 -- ---- what the sender and the receiver read then
 
@@ -436,6 +541,11 @@ module _ {R A V : Type 0} (rules : Meaning) (lawful : IsLawful rules) (before de
   open_ : IsOpen before.world unit
   open_ = claimed-open rules lawful before.world safe claim stands unit named
 
+  -- where the letter fells no receiver, these are the records
+  all-noted : fells letter (answer_to rules before.world unit) ≡ false
+      → Taken ++ noted_of Learnt unit.tid ++ Closing ≡ shipment letter (answer_to rules before.world unit) unit
+  all-noted none = sym (ap (λ b. Taken ++ cond b [] (noted_of Learnt unit.tid) ++ Closing) none)
+
   -- what was taken in says of no unit that it is done
   taken-counts : {T : Type 0} (of : Record → Option T) → of (log.Accept unit) ≡ None → of (log.Direct unit) ≡ None → NoneCounts of Taken
   taken-counts of accept direct = if-none of (arrives_under letter) (taken_in Given unit) (taken-none of unit accept direct Given)
@@ -448,28 +558,47 @@ module _ {R A V : Type 0} (rules : Meaning) (lawful : IsLawful rules) (before de
       (ap (λ b. b && not (is_listed claim.tid (ended_in (log_of world claim.tid.system))))
       (subst (λ (t : TidOf). is_listed t (done_in (log_of world t.system)) ≡ false) its undone))
 
+  -- a unit that was delivered, and of which no more is known, is not unconfirmed
+  undone-grown : (after : KeptOf R A V) (done : List Writing) → HaveGrown before.world delivered.world done → NoneCounts done_by done → after ≡ delivered
+      → (is_up after.world claim.tid.system && is_unconfirmed claim.tid (log_of after.world claim.tid.system)) ≡ false
+  undone-grown after done grew none still =
+      undone-not after.world
+      (ap (λ (k : KeptOf R A V). is_listed unit.tid (done_in (log_of k.world unit.tid.system))) still
+      ∙ ap (is_listed unit.tid) (grown-read done_by before.world delivered.world done grew none unit.tid.system)
+      ∙ open_.not_done)
+
   -- its receiver fell as it was delivered, and then nothing happened
   pub shipped-cut : WasCut before delivered Taken → (replied confirmed : KeptOf R A V) → replied ≡ delivered
       → ((is_up replied.world claim.tid.system && is_unconfirmed claim.tid (log_of replied.world claim.tid.system)) ≡ false → confirmed ≡ replied)
-      → Appended before confirmed (shipment letter (answer_to rules before.world unit) unit)
-  shipped-cut fell replied confirmed still same = (
-    false,
-    subst (λ (k : KeptOf R A V). AppendedAs before k (shipment letter (answer_to rules before.world unit) unit) false) (sym (same undone ∙ still))
-        (cut-before before delivered (Taken ++ noted_of Learnt unit.tid) Closing
-        (cut-before before delivered Taken (noted_of Learnt unit.tid) fell.cut)),
-  )
-    where
-      undone : (is_up replied.world claim.tid.system && is_unconfirmed claim.tid (log_of replied.world claim.tid.system)) ≡ false
-      undone =
-          let cut = fell.cut in
-          let at = cut.4 in
-          let none : NoneCounts done_by cut.0 =
-          each-first (λ it. done_by it.next ≡ None) cut.0 (cut.2 ∷ cut.1)
-          (subst (EachIs (λ it. done_by it.next ≡ None)) cut.3 (taken-counts done_by refl refl)) in
-          undone-not replied.world
-          (ap (λ (k : KeptOf R A V). is_listed unit.tid (done_in (log_of k.world unit.tid.system))) still
-          ∙ ap (is_listed unit.tid) (grown-read done_by before.world delivered.world cut.0 at.grew none unit.tid.system)
-          ∙ open_.not_done)
+      → Shipped before confirmed letter (answer_to rules before.world unit) unit
+  shipped-cut fell replied confirmed still same =
+      let cut = fell.cut in
+      let at = cut.4 in
+      let none : NoneCounts done_by cut.0 =
+      each-first (λ it. done_by it.next ≡ None) cut.0 (cut.2 ∷ cut.1)
+      (subst (EachIs (λ it. done_by it.next ≡ None)) cut.3 (taken-counts done_by refl refl)) in
+      let undone = undone-grown replied cut.0 at.grew none still in (
+        false,
+        inl (subst (λ (k : KeptOf R A V). AppendedAs before k (shipment letter (answer_to rules before.world unit) unit) false) (sym (same undone ∙ still))
+            (cut-before before delivered (Taken ++ noted_under letter Given unit.tid) Closing
+            (cut-before before delivered Taken (noted_under letter Given unit.tid) fell.cut))),
+      )
+
+  -- so it was where its receiver was felled behind that
+  pub shipped-felled : WasFelled before delivered unit letter (answer_to rules before.world unit) → (replied confirmed : KeptOf R A V)
+      → replied ≡ delivered
+      → ((is_up replied.world claim.tid.system && is_unconfirmed claim.tid (log_of replied.world claim.tid.system)) ≡ false → confirmed ≡ replied)
+      → Shipped before confirmed letter (answer_to rules before.world unit) unit
+  shipped-felled felled replied confirmed still same =
+      let fell = felled.felled in
+      let undone = undone-grown replied Taken fell.grew (taken-counts done_by refl refl) still in (
+        false,
+        inr (
+          felled.fells_it,
+          subst (λ (k : KeptOf R A V). Felled before k (shipment letter (answer_to rules before.world unit) unit) unit.receiver) (sym (same undone ∙ still))
+              (subst (λ xs. Felled before delivered xs unit.receiver) (sym (felled-shipment letter Given unit felled.fells_it)) fell),
+        ),
+      )
 
   module _ (replied confirmed : KeptOf R A V) (first : Wholly before.world delivered.world Taken) where
     module _ (second : Wholly delivered.world replied.world (noted_of Learnt unit.tid)) where
@@ -517,13 +646,20 @@ module _ {R A V : Type 0} (rules : Meaning) (lawful : IsLawful rules) (before de
           ∙ grown-read done_by before.world delivered.world Taken first.grew (taken-counts done_by refl refl) unit.tid.system)
           ∙ open_.not_done
 
+    -- where the letter fells no receiver, the sender notes what it learns
+    so-shipped : fells letter Given ≡ false → (whole : Bool) → AppendedAs before confirmed (Taken ++ noted_of Learnt unit.tid ++ Closing) whole
+        → ShippedSo before confirmed letter Given unit whole
+    so-shipped none true did = (subst (λ xs. AppendedAs before confirmed xs true) (all-noted none) did, none)
+    so-shipped none false did = inl (subst (λ xs. AppendedAs before confirmed xs false) (all-noted none) did)
+
     -- the records of the whole shipment, or those before the one at which a system fell
-    pub shipped-noted : (whole : Bool) → AppendedAs delivered replied (noted_of Learnt claim.tid) whole
+    pub shipped-noted : fells letter (answer_to rules before.world unit) ≡ false → (whole : Bool)
+        → AppendedAs delivered replied (noted_of Learnt claim.tid) whole
         → (is_due replied.world unit ≡ true
         → Appended replied confirmed (cond (is_confirmed_under letter) (confirmation Whole (forgot replied.world unit) unit) []))
         → ((is_up replied.world claim.tid.system && is_unconfirmed claim.tid (log_of replied.world claim.tid.system)) ≡ false → confirmed ≡ replied)
-        → Appended before confirmed (shipment letter (answer_to rules before.world unit) unit)
-    shipped-noted true second sent same =
+        → Shipped before confirmed letter (answer_to rules before.world unit) unit
+    shipped-noted none true second sent same =
         let noted : Wholly delivered.world replied.world (noted_of Learnt unit.tid) =
         subst (λ t. Wholly delivered.world replied.world (noted_of Learnt t)) (sym its) second in
         let last : Appended replied confirmed Closing =
@@ -538,10 +674,10 @@ module _ {R A V : Type 0} (rules : Meaning) (lawful : IsLawful rules) (before de
               (true, wholly-same replied.world confirmed.world (ap (λ (k : KeptOf R A V). k.world) (same (undone-not replied.world (undone noted other)))))
         ] in (
           last.0,
-          appended-on before replied confirmed (Taken ++ noted_of Learnt unit.tid) Closing
-              (wholly-on before.world delivered.world replied.world Taken (noted_of Learnt unit.tid) first noted) last.0 last.1,
+          so-shipped none last.0 (appended-on before replied confirmed (Taken ++ noted_of Learnt unit.tid) Closing
+              (wholly-on before.world delivered.world replied.world Taken (noted_of Learnt unit.tid) first noted) last.0 last.1),
         )
-    shipped-noted false second sent same =
+    shipped-noted none false second sent same =
         let noted : AppendedAs delivered replied (noted_of Learnt unit.tid) false =
         subst (λ t. AppendedAs delivered replied (noted_of Learnt t) false) (sym its) second in
         let cut = second.4 in
@@ -550,10 +686,10 @@ module _ {R A V : Type 0} (rules : Meaning) (lawful : IsLawful rules) (before de
         (subst (EachIs (λ it. it.system ≡ claim.tid.system)) second.3 (noted-here Learnt claim.tid)) in
         let down : is_up replied.world claim.tid.system ≡ false = subst (λ s. is_up replied.world s ≡ false) here cut.fell in (
           false,
-          subst (λ (k : KeptOf R A V). AppendedAs before k (shipment letter (answer_to rules before.world unit) unit) false)
+          so-shipped none false (subst (λ (k : KeptOf R A V). AppendedAs before k (Taken ++ noted_of Learnt unit.tid ++ Closing) false)
               (sym (same (ap (λ b. b && is_unconfirmed claim.tid (log_of replied.world claim.tid.system)) down)))
               (cut-before before replied (Taken ++ noted_of Learnt unit.tid) Closing
-              (appended-on before delivered replied Taken (noted_of Learnt unit.tid) first false noted)),
+              (appended-on before delivered replied Taken (noted_of Learnt unit.tid) first false noted))),
         )
 
 -- ---- a unit is confirmed

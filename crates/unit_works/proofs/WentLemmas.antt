@@ -28,8 +28,9 @@ use Rattle.unit_journal.specs.Changes.{with_rest, OnlyAt}
 use Rattle.unit_journal.specs.OnDisk.{last_moment, later, moment_of, moments_at, next_moment, rest_at}
 use Rattle.unit_landscape.specs.AppendEnds.{HasOneMore}
 use Rattle.unit_landscape.specs.KeptWorlds.{KeptOf, cause_at}
+use Rattle.unit_landscape.specs.LogAnswers.{KeepsDisk}
 use Rattle.unit_landscape.specs.declared.cause.Cause.{Cause}
-use Rattle.unit_landscape.specs.declared.cause.Cause.TheVariants.{Up, Faulted, Overran, Short}
+use Rattle.unit_landscape.specs.declared.cause.Cause.TheVariants.{Crashed, Up, Faulted, Overran, Short}
 use Rattle.unit_landscape.specs.Causes.{cause_in, with_cause, causes_after}
 use Rattle.unit_landscape.specs.Ends.{NoFaults, Happened, Failed, FellBehind, Stays, FellInstead, IsShort, Overflowed}
 use Rattle.unit_landscape.specs.Crashes.{HasGrown, LeavesSound, StaysSound}
@@ -127,7 +128,10 @@ module _ {R A V : Type 0} (meaning : R → Meaning) (disk : Disk V) (before betw
       → HasCause meaning disk between after system rest → HasCause meaning disk before after system rest
   cause-last (Some next) held cause =
       (then-risen (disk.faults before.vols (system - 1)) (disk.faults between.vols (system - 1)) (disk.faults after.vols (system - 1)) held cause.0, cause.1)
-  cause-last None held cause = unfit-last cause
+  cause-last None held cause = elim cause [
+    | inl unfit ↦ inl (unfit-last unfit)
+    | inr felled ↦ inr felled
+  ]
 
   -- so did one that fell before, and stays down
   cause-first : (rest : Option Record) → (rules : after.world.rules ≡ between.world.rules)
@@ -138,7 +142,10 @@ module _ {R A V : Type 0} (meaning : R → Meaning) (disk : Disk V) (before betw
     risen-then (disk.faults before.vols (system - 1)) (disk.faults between.vols (system - 1)) (disk.faults after.vols (system - 1)) cause.0 holds,
     stays.cause ∙ cause.1,
   )
-  cause-first None rules committed holds stays cause = unfit-still rules committed stays cause
+  cause-first None rules committed holds stays cause = elim cause [
+    | inl unfit ↦ inl (unfit-still rules committed stays unfit)
+    | inr felled ↦ inr (stays.cause ∙ felled)
+  ]
 
 -- so many moments more, and more of them
 more-on : (set : Option ℕ) (n m : ℕ) (moments : List (Option ℕ)) → with_more set (n + m) moments ≡ with_more set m (with_more set n moments)
@@ -559,8 +566,20 @@ module _ {R A V : Type 0} (meaning : R → Meaning) (lawful : (r : R) → IsLawf
               (other-cause it.system (Overran full.size) up full.causes)
               (λ place. inl (omega (arith, ap (λ (vols : V). disk.faults vols place) full.vols)))
               (λ other least still. ap (λ (vols : V). disk.faults vols (other - 1)) full.vols)
-              (unfit e it step did.1 up (fell-full meaning lawful disk before after is e did full) full)
+              (inl (unfit e it step did.1 up (fell-full meaning lawful disk before after is e did full) full))
         ]
+
+    -- a system was felled
+    pub went-felled : (whole : Bool) (system : ℕ) → is_up before.world system ≡ true
+        → Happened (meaning before.world.rules) disk before after (Fall system None) → KeepsDisk before after → cause_at after system ≡ Crashed
+        → WentOn meaning disk may whole before after
+    went-felled whole system up did keeps told =
+        one-fall whole system None refl up did.world (did.world ∙ falls-up (meaning before.world.rules) before.world system up)
+        (none-noted-same (system - 1) before.journals after.journals keeps.journals)
+        (other-cause system Crashed up did.causes)
+        (λ place. inl (omega (arith, did.no_faults place)))
+        (λ other least still. did.no_faults (other - 1))
+        (inr told)
 
     -- memory was wanting behind a record
     behind : (e : Event) (it : Writing) → is_step e ≡ true → may e ≡ true → record_of (meaning before.world.rules) before.world e ≡ Some it

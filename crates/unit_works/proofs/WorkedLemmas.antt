@@ -23,6 +23,7 @@ use Rattle.trfc_protocol.specs.declared.held.HeldKind.TheVariants.{In}
 use Rattle.trfc_protocol.specs.Legal.{IsLawful}
 use Rattle.trfc_protocol.specs.Meaning.{Meaning}
 use Rattle.trfc_protocol.specs.Offered.{answer_to, offers_received_now}
+use Rattle.trfc_protocol.specs.declared.world.World.{World}
 use Rattle.trfc_protocol.specs.Worlds.{claim_of, committed_unit, is_up, log_of, without_claim}
 use Rattle.trfc_protocol.proofs.SafeLemmas.{committed_unit-is}
 use Rattle.unit_landscape.specs.KeptWorlds.{KeptOf}
@@ -47,24 +48,25 @@ use Rattle.unit_works.specs.declared.letter.Letter.{Letter}
 use Rattle.unit_works.specs.declared.letter.Letter.TheVariants.{Whole}
 use Rattle.unit_works.specs.Wires.{letters_left, next_letter}
 use Rattle.unit_works.specs.Claims.{AreOrGone, OneFell}
-use Rattle.unit_works.specs.Events.{arrives_under, is_answered_under, is_arrival, is_confirmation, is_confirmed_under, is_confirming, is_delivery, is_end}
-use Rattle.unit_works.specs.Events.{is_claim, is_run, is_execution, is_lost, is_reply, is_shipping, is_work, told_of}
+use Rattle.unit_works.specs.Events.{arrives_under, falls_under, is_answered_under, is_arrival, is_confirmation, is_confirmed_under, is_confirming, is_delivery, is_end}
+use Rattle.unit_works.specs.Events.{is_claim, is_fall, is_run, is_execution, is_lost, is_reply, is_shipping, is_work, told_of}
 use Rattle.unit_works.specs.Finished.{finished_in}
 use Rattle.unit_works.specs.Acts.{HasShipped, WasShipped}
-use Rattle.unit_works.specs.Trips.{Appended, AppendedAs, confirmation, execution, forgot, is_due, learnt_under, may_ship, noted_of, one_at, shipment}
-use Rattle.unit_works.specs.Trips.{worked_by}
+use Rattle.unit_works.specs.Trips.{Appended, AppendedAs, Shipped, ShippedSo, confirmation, execution, forgot, is_due, learnt_under, may_ship, noted_of}
+use Rattle.unit_works.specs.Trips.{one_at, worked_by}
 use Rattle.unit_works.specs.Worked.{HasTaken, HaveEnded, Lines, Worked}
 use Rattle.unit_works.specs.Works.{ClaimExecutedAs, ClaimShippedAs, ExecutedAs, ShippedAs}
 use Rattle.unit_works.specs.steps.Arriving.{AnsweredSo, ArrivedSo, ClaimsAre, ClaimsCome, DeliveredSo, IsAnswered, Tells, event_of}
 use Rattle.unit_works.specs.steps.Confirming.{SentSo}
+use Rattle.unit_works.specs.steps.Felling.{FellIf, HandledSo}
 use Rattle.unit_works.specs.Claiming.{IsExecuted, IsShipped, in_held}
 use Rattle.unit_works.specs.Claiming.{out_held}
 use Rattle.unit_works.specs.steps.Ending.{FinishedSo, ended_by}
 use Rattle.unit_works.proofs.ArrivingLemmas.{claimed-committed}
 use Rattle.unit_works.proofs.ClaimLemmas.{claimed-executes, claimed-ships, found-last, left-last, stands-gone}
-use Rattle.unit_works.proofs.GrowthLemmas.{appended-on}
+use Rattle.unit_works.proofs.GrowthLemmas.{appended-on, shipped-behind}
 use Rattle.unit_works.proofs.TripLemmas.{confirmed-cut, confirmed-ended, delivered-first, delivered-on, delivered-run, event-told, sent-lasts, sent-up}
-use Rattle.unit_works.proofs.TripLemmas.{shipped-cut, shipped-noted}
+use Rattle.unit_works.proofs.TripLemmas.{handled, shipped-cut, shipped-felled, shipped-noted}
 use Rattle.unit_works.proofs.WentLemmas.{up-least, went-on, went-same, went-whole, went-wider}
 
 -- what the rules of a landscape mean
@@ -195,6 +197,11 @@ end-delivers letter arrives (event.Fail number) is = arrives
 end-delivers letter arrives (event.Fall system kept) is = is
 end-delivers letter arrives _ is = cc
 
+-- a fall is part of a delivery
+pub fall-delivers : (letter : Letter) (e : Event) → is_fall e ≡ true → is_delivery letter e ≡ true
+fall-delivers letter (event.Fall system kept) is = is
+fall-delivers letter _ is = cc
+
 pub confirmation-confirms : (letter : Letter) → is_confirmed_under letter ≡ true → (e : Event) → is_confirmation e ≡ true → is_confirming letter e ≡ true
 confirmation-confirms letter confirms (event.Confirm tid) is = confirms
 confirmation-confirms letter confirms (event.Reply (Forgotten tid)) is = confirms
@@ -291,7 +298,7 @@ module _ {V : Type 0} (disk : Disk V) where
       → Worked disk claimed after (is_shipping letter) true → IsAnswered claimed.world after.world n
       → AreOrGone claimed.world after.world (without_claim claimed.world claim.number).claims
       → ((unit : AleUnit) → committed_unit (meaning claimed.world.rules) claimed.world claim.tid ≡ Some unit
-      → Appended claimed after (shipment letter (answer_to (meaning claimed.world.rules) claimed.world unit) unit))
+      → Shipped claimed after letter (answer_to (meaning claimed.world.rules) claimed.world unit) unit)
       → ShippedAs disk before after lines lines_after system (Ok (Some n))
   shipped before claimed after lines lines_after system claim tid letter n went_claim count is its next taken went answered left grew = (
     tid,
@@ -306,10 +313,9 @@ module _ {V : Type 0} (disk : Disk V) where
         taken = taken;
         went = on disk (is_shipping letter) true before claimed after (wider disk is_claim (is_shipping letter) true before claimed (claim-ships letter)
             went_claim) went;
-        grew = appended-on before claimed after [] (shipment letter (answer_to (meaning before.world.rules) before.world is.unit) is.unit)
-            is.grew
+        grew = shipped-behind before claimed after letter (answer_to (meaning before.world.rules) before.world is.unit) is.unit is.grew
             appended.0
-            (subst (λ a. AppendedAs claimed after (shipment letter a is.unit) appended.0)
+            (subst (λ a. ShippedSo claimed after letter a is.unit appended.0)
             (ap (λ (r : ModelRules). answer_to (meaning r) claimed.world is.unit) went_claim.rules ∙ is.answers) appended.1);
       };
     }),
@@ -321,7 +327,7 @@ module _ {V : Type 0} (disk : Disk V) where
     answered.few,
   )
     where
-      appended : Appended claimed after (shipment letter (answer_to (meaning claimed.world.rules) claimed.world is.unit) is.unit)
+      appended : Shipped claimed after letter (answer_to (meaning claimed.world.rules) claimed.world is.unit) is.unit
       appended = grew is.unit (went_claim.committed claim.tid ∙ is.committed)
 
   -- a unit that was claimed and executed
@@ -405,7 +411,7 @@ module _ {V : Type 0} (disk : Disk V) where
       → Worked disk before after (is_shipping letter) true → IsAnswered before.world after.world n
       → AreOrGone before.world after.world (without_claim before.world claim.number).claims
       → ((unit : AleUnit) → committed_unit (meaning before.world.rules) before.world claim.tid ≡ Some unit
-      → Appended before after (shipment letter (answer_to (meaning before.world.rules) before.world unit) unit))
+      → Shipped before after letter (answer_to (meaning before.world.rules) before.world unit) unit)
       → ClaimShippedAs disk before after lines lines_after claim (Ok (Some n))
   claim-shipped before after lines lines_after claim tid letter n is stands its next taken went answered left grew = (
     stands,
@@ -428,7 +434,7 @@ module _ {V : Type 0} (disk : Disk V) where
       unit : (sent : AleUnit) × (committed_unit (meaning before.world.rules) before.world claim.tid ≡ Some sent)
       unit = claimed-committed meaning is_lawful before is claim stands
 
-      appended : Appended before after (shipment letter (answer_to (meaning before.world.rules) before.world unit.0) unit.0)
+      appended : Shipped before after letter (answer_to (meaning before.world.rules) before.world unit.0) unit.0
       appended = grew unit.0 unit.1
 
   pub claim-shipped-short : (before after : KeptOf ModelRules DocumentTables V) (lines lines_after : Lines) (claim : OutClaim)
@@ -554,7 +560,7 @@ module _ {V : Type 0} (disk : Disk V) where
       → IsLandscape meaning before.world → stands_out before.world claim ≡ true → told ≡ told_of letter given → tid ≡ claim.tid
       → Worked disk before delivered (is_delivery letter) true → Worked disk delivered replied (is_reply told) true
       → ((unit : AleUnit) → committed_unit (meaning before.world.rules) before.world claim.tid ≡ Some unit
-      → DeliveredSo (meaning delivered.world.rules) before delivered claim unit letter
+      → HandledSo (meaning delivered.world.rules) before delivered claim unit letter
       (answer_to (meaning before.world.rules) before.world unit) given)
       → ((learnt : Option CoreAnswer) → stands_out delivered.world claim ≡ true
       → reply_event (meaning delivered.world.rules) delivered.world claim told ≡ event_of learnt claim.number
@@ -564,10 +570,11 @@ module _ {V : Type 0} (disk : Disk V) where
       → Appended replied confirmed (cond (is_confirmed_under letter) (confirmation Whole (forgot replied.world unit) unit) []))
       → ((is_up replied.world tid.system && is_unconfirmed tid (log_of replied.world tid.system)) ≡ false → confirmed ≡ replied)
       → (unit : AleUnit) → committed_unit (meaning before.world.rules) before.world claim.tid ≡ Some unit
-      → Appended before confirmed (shipment letter (answer_to (meaning before.world.rules) before.world unit) unit)
+      → Shipped before confirmed letter (answer_to (meaning before.world.rules) before.world unit) unit
   shipped-appended before delivered replied confirmed claim letter given told tid is stands tells its went_first went_second first second stale sent same unit
       named = elim (first unit named) [
-        | inl came ↦
+        | inl handled_so ↦
+            let came = handled_so.0 in
             let stands_then : stands_out delivered.world claim ≡ true =
             ap (λ claims. is_on claim.tid (claim_of claim.number claims) && is_out (claim_of claim.number claims)) came.claims ∙ stands in
             let noted = second (learnt_under letter (answer_to (meaning before.world.rules) before.world unit)) stands_then
@@ -575,19 +582,41 @@ module _ {V : Type 0} (disk : Disk V) where
             ∙ event-told (meaning delivered.world.rules) delivered.world claim letter (answer_to (meaning before.world.rules) before.world unit) given
             came.event) in
             shipped-noted (meaning before.world.rules) (is_lawful before.world.rules) before delivered is.safe
-            claim stands unit named letter replied confirmed came.grew noted.0 noted.1
+            claim stands unit named letter replied confirmed came.grew handled_so.1 noted.0 noted.1
             (λ due. sent unit
             (ap (committed_unit (meaning replied.world.rules) replied.world) its
             ∙ went_second.committed claim.tid ∙ went_first.committed claim.tid ∙ named) due)
             unchanged
-        | inr fell ↦
-            shipped-cut (meaning before.world.rules) (is_lawful before.world.rules) before delivered is.safe
-            claim stands unit named letter fell replied confirmed (stale (stands-gone delivered.world claim fell.claims)) unchanged
+        | inr fell ↦ elim fell [
+          | inl cut ↦
+              shipped-cut (meaning before.world.rules) (is_lawful before.world.rules) before delivered is.safe
+              claim stands unit named letter cut replied confirmed (stale (stands-gone delivered.world claim cut.claims)) unchanged
+          | inr felled ↦
+              shipped-felled (meaning before.world.rules) (is_lawful before.world.rules) before delivered is.safe
+              claim stands unit named letter felled replied confirmed (stale (stands-gone delivered.world claim felled.claims)) unchanged
+        ]
       ]
     where
       unchanged : (is_up replied.world claim.tid.system && is_unconfirmed claim.tid (log_of replied.world claim.tid.system)) ≡ false
           → confirmed ≡ replied
       unchanged undone = same (ap (λ (t : TidOf). is_up replied.world t.system && is_unconfirmed t (log_of replied.world t.system)) its ∙ undone)
+
+  -- a unit that was delivered, and whose receiver fell then or did not
+  pub handled-under : (before between after : KeptOf ModelRules DocumentTables V) (claim : OutClaim) (letter : Letter) (told : Reply)
+      → Worked disk before between (is_delivery letter) true
+      → ((unit : AleUnit) → committed_unit (meaning before.world.rules) before.world claim.tid ≡ Some unit
+      → DeliveredSo (meaning between.world.rules) before between claim unit letter (answer_to (meaning before.world.rules) before.world unit) told)
+      → ((unit : AleUnit) → committed_unit (meaning between.world.rules) between.world claim.tid ≡ Some unit
+      → FellIf between after (falls_under letter && is_up between.world unit.receiver) unit.receiver)
+      → (unit : AleUnit) → committed_unit (meaning before.world.rules) before.world claim.tid ≡ Some unit
+      → HandledSo (meaning after.world.rules) before after claim unit letter (answer_to (meaning before.world.rules) before.world unit) told
+  handled-under before between after claim letter told went first falls unit named =
+      handled meaning before between after claim unit letter told (first unit named) (falls unit (went.committed claim.tid ∙ named))
+
+  -- the answer to it is as before
+  pub answered-under : (before between after : World ModelRules) (n : ℕ) → IsAnswered before between n → finished_in after ≡ finished_in between
+      → IsAnswered before after n
+  answered-under before between after n answered same = record { count = same ∙ answered.count; few = answered.few }
 
   -- a unit that was sent its confirmation, which was replied to
   pub confirmed-done : (before sent ended : KeptOf ModelRules DocumentTables V) (tid : TidOf) (unit : AleUnit) (given : Confirmed)

@@ -1,32 +1,34 @@
 -- Acts, and lists of them: a unit is shipped under a letter, executed by its receiver, or confirmed under a letter. An act is whole, or it is
 -- cut, where a system fell in it.
-use Rattle.std.specs.Prelude.{◌≡◌, ◌&&◌, ℕ, false, Bool, true, List, [], ◌∷◌, Some, not}
+use Rattle.std.specs.Prelude.{◌≡◌, ◌==◌, ◌&&◌, ℕ, false, Bool, true, List, [], ◌∷◌, Some, not}
 use Rattle.ale_volumes.specs.Disk.{Disk}
 use Rattle.ale_base.specs.Tid.{TidOf, is_tid}
 use Rattle.unit_core.specs.declared.ale_unit.AleUnit.{AleUnit}
 use Rattle.trfc_protocol.specs.Worlds.{committed_unit}
 use Rattle.trfc_protocol.specs.Offered.{answer_to, offers_received_now}
+use Rattle.trfc_protocol.specs.declared.world.World.{World}
+use Rattle.unit_landscape.specs.Calls.{receiver_of}
 use Rattle.unit_landscape.specs.KeptWorlds.{KeptOf}
 use Rattle.document_state.specs.declared.document_tables.DocumentTables.{DocumentTables}
 use Rattle.document_state.specs.declared.model_rules.ModelRules.{ModelRules}
 use Rattle.document_state.specs.Meaning.{model_meaning}
 use Rattle.unit_works.specs.declared.letter.Letter.{Letter}
-use Rattle.unit_works.specs.declared.letter.Letter.TheVariants.{LostConfirmation}
+use Rattle.unit_works.specs.declared.letter.Letter.TheVariants.{LostConfirmation, ReceiverFalls}
 use Rattle.unit_works.specs.Wires.{letters_left, next_letter}
 use Rattle.unit_works.specs.Events.{is_confirmation, is_execution, is_shipping}
-use Rattle.unit_works.specs.Trips.{AppendedAs, shipment, execution, confirmation, may_ship, may_execute, is_due, forgot}
+use Rattle.unit_works.specs.Trips.{AppendedAs, ShippedSo, execution, confirmation, may_ship, may_execute, is_due, forgot}
 use Rattle.unit_works.specs.Worked.{HasTaken, HaveOnlyClaimed, Lines, Worked}
 
 module _ {V : Type 0} (disk : Disk V) (before after : KeptOf ModelRules DocumentTables V) where
   -- A unit took its next letter, which is this one, and was shipped under it, as its receiver answered before: the records of that shipment
-  -- were appended, or it was cut.
+  -- were appended; or it was cut, as where the letter felled the receiver.
   pub record WasShipped (lines lines_after : Lines) (tid : TidOf) (letter : Letter) (whole : Bool) : Type 0 where
     pub unit : AleUnit
     pub committed : committed_unit (model_meaning before.world.rules.systems) before.world tid ≡ Some unit
     pub next : letter ≡ next_letter (letters_left lines tid)
     pub taken : HasTaken tid lines lines_after
     pub went : Worked disk before after (is_shipping letter) true
-    pub grew : AppendedAs before after (shipment letter (answer_to (model_meaning before.world.rules.systems) before.world unit) unit) whole
+    pub grew : ShippedSo before after letter (answer_to (model_meaning before.world.rules.systems) before.world unit) unit whole
 
   -- so was a unit that may be shipped
   pub record HasShipped (lines lines_after : Lines) (tid : TidOf) (letter : Letter) (whole : Bool) : Type 0 where
@@ -68,6 +70,11 @@ abbrev pub loses : TidOf → Act → Bool
 loses tid (ship other LostConfirmation whole) = is_tid other tid
 loses tid (confirm other LostConfirmation whole) = is_tid other tid
 loses tid _ = false
+
+-- an act felled a system: a unit addressed to it took the letter that does so
+abbrev pub fells_it : World ModelRules → ℕ → Act → Bool
+fells_it world system (ship tid ReceiverFalls false) = receiver_of (model_meaning world.rules.systems) world tid == system
+fells_it world system _ = false
 
 -- a system fell in an act
 abbrev pub is_cut : Act → Bool

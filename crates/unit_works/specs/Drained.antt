@@ -9,9 +9,10 @@ use Rattle.unit_core.specs.Queues.{is_listed}
 use Rattle.ale_base.specs.declared.out_of_memory.OutOfMemory.{OutOfMemory}
 use Rattle.unit_core.specs.declared.ale_unit.AleUnit.{AleUnit}
 use Rattle.trfc_protocol.specs.declared.world.World.{World}
-use Rattle.trfc_protocol.specs.Worlds.{committed_unit, log_of}
+use Rattle.trfc_protocol.specs.Worlds.{committed_unit, is_up, log_of}
 use Rattle.trfc_protocol.specs.Offered.{is_offered_outbound, is_offered_inbound}
-use Rattle.unit_landscape.specs.KeptWorlds.{KeptOf}
+use Rattle.unit_landscape.specs.declared.cause.Cause.TheVariants.{Crashed}
+use Rattle.unit_landscape.specs.KeptWorlds.{KeptOf, cause_at}
 use Rattle.document_state.specs.declared.document_tables.DocumentTables.{DocumentTables}
 use Rattle.document_state.specs.declared.model_rules.ModelRules.{ModelRules}
 use Rattle.document_state.specs.Meaning.{model_meaning}
@@ -19,7 +20,7 @@ use Rattle.unit_works.specs.Claims.{AreOrNone, NoneRuns}
 use Rattle.unit_works.specs.Events.{is_work}
 use Rattle.unit_works.specs.Finished.{finished_in}
 use Rattle.unit_works.specs.Worked.{HaveTaken, Lines, Worked}
-use Rattle.unit_works.specs.Acts.{Act, HaveActed, confirm, each_but_last_cut, execute, is_cut, loses, ship, takes}
+use Rattle.unit_works.specs.Acts.{Act, HaveActed, confirm, each_but_last_cut, execute, fells_it, is_cut, loses, ship, takes}
 use Rattle.unit_works.specs.Through.{AreOffered, AreThrough, AreUp, IsClear, NoneLeft}
 use Rattle.unit_works.specs.Trips.{is_due}
 
@@ -61,6 +62,11 @@ module _ {V : Type 0} (disk : Disk V) (before : KeptOf ModelRules DocumentTables
   abbrev pub AreOnce : List Act → Type 0
   AreOnce acts = (tid : TidOf) → TakesOnce acts tid
 
+  -- Each system that fell in these acts, and is told to have been felled, was felled by one of them.
+  abbrev pub AreFelled : List Act → Type 0
+  AreFelled acts = (system : ℕ) → is_up before.world system ≡ true → is_up after.world system ≡ false → cause_at after system ≡ Crashed
+      → list_any (fells_it after.world system) acts ≡ true
+
   -- Where no queue was stopped before, no unit was marked and none had a letter left, and all systems are up at the end, and offer the functions
   -- of the units that were committed for them, each of these units went its whole way; and again none is held up.
   abbrev pub GoThrough : Type 0
@@ -68,14 +74,15 @@ module _ {V : Type 0} (disk : Disk V) (before : KeptOf ModelRules DocumentTables
       IsClear before.world → NoneLeft lines → AreUp after.world → AreOffered after.world → IsClear after.world × NoneLeft lines_after × AreThrough after.world
 
   -- Acts were done until no unit is offered at any system in either direction, and so many runs and executions ended. No claim is left; no
-  -- confirmation is due but those that were lost; each unit took one letter at most, and more only where a system fell; and where nothing held
-  -- them up, all units went their whole way.
+  -- confirmation is due but those that were lost; each unit took one letter at most, and more only where a system fell; each system that was
+  -- felled was by one of the acts; and where nothing held them up, all units went their whole way.
   pub record HasDrained (n : ℕ) : Type 0 where
     pub worked : HasWorked n
     pub idle : IsIdle after.world
     pub unclaimed : after.world.claims ≡ []
     pub lost : AreLost worked.acts
     pub once : AreOnce worked.acts
+    pub felled : AreFelled worked.acts
     pub through : GoThrough
 
   -- A drain was done; where memory is wanting, works were.

@@ -9,7 +9,7 @@ use Rattle.trfc_protocol.specs.declared.event.Action.TheVariants.{Revoke}
 use Rattle.unit_landscape.specs.declared.answers.Reply.{Reply}
 use Rattle.unit_landscape.specs.declared.answers.Reply.TheVariants as reply
 use Rattle.unit_works.specs.declared.letter.Letter.{Letter}
-use Rattle.unit_works.specs.declared.letter.Letter.TheVariants.{Whole, LostRequest, LostReply, Twice, LostConfirmation}
+use Rattle.unit_works.specs.declared.letter.Letter.TheVariants.{Whole, LostRequest, LostReply, Twice, LostConfirmation, ReceiverFalls}
 
 -- the records that works append: a unit is marked or done, is taken in, executed or run, fails, and its id is forgotten
 abbrev pub is_works_record : Record → Bool
@@ -53,7 +53,13 @@ arrives_under _ = true
 abbrev pub is_answered_under : Letter → Bool
 is_answered_under LostRequest = false
 is_answered_under LostReply = false
+is_answered_under ReceiverFalls = false
 is_answered_under _ = true
+
+-- whether the receiver falls under a letter, once it has handled the request
+abbrev pub falls_under : Letter → Bool
+falls_under ReceiverFalls = true
+falls_under _ = false
 
 -- whether the confirmation is sent under a letter
 abbrev pub is_confirmed_under : Letter → Bool
@@ -117,6 +123,11 @@ abbrev pub is_arrival : Event → Bool
 is_arrival (event.Arrive tid) = true
 is_arrival (event.Fall system kept) = is_works_rest kept
 is_arrival _ = false
+
+-- what happens as a system falls
+abbrev pub is_fall : Event → Bool
+is_fall (event.Fall system kept) = is_works_rest kept
+is_fall _ = false
 
 -- what happens as the work of a claim ends
 abbrev pub is_end : Event → Bool

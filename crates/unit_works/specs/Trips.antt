@@ -1,5 +1,5 @@
 -- What acts append to the logs: a unit is shipped under a letter, executed at its receiver, or confirmed under a letter.
-use Rattle.std.specs.Prelude.{◌≡◌, ◌≢◌, ◌⊎◌, ℕ, Bool, true, false, ◌==◌, ◌&&◌, Option, Some, None, List, [], ◌∷◌, ◌++◌, map, filter, if◌then◌else◌}
+use Rattle.std.specs.Prelude.{◌≡◌, ◌≢◌, ◌⊎◌, ℕ, Bool, true, false, not, ◌==◌, ◌&&◌, Option, Some, None, List, [], ◌∷◌, ◌++◌, map, filter, if◌then◌else◌}
 use Rattle.ale_base.specs.Tid.{TidOf}
 use Rattle.ale_base.specs.declared.mark.Mark.TheVariants.{Cpicerr, Sysfail}
 use Rattle.unit_core.specs.declared.ale_unit.AleUnit.{AleUnit}
@@ -21,11 +21,11 @@ use Rattle.trfc_protocol.specs.declared.held.HeldKind.{HeldKind}
 use Rattle.trfc_protocol.specs.declared.held.HeldKind.TheVariants as kind
 use Rattle.trfc_protocol.specs.Offered.{is_stopped_outbound, is_stopped_inbound, may_move, offers_received_now}
 use Rattle.trfc_protocol.specs.RecordOf.{Writing}
-use Rattle.unit_landscape.specs.declared.cause.Cause.TheVariants.{Faulted, Overran}
+use Rattle.unit_landscape.specs.declared.cause.Cause.TheVariants.{Crashed, Faulted, Overran}
 use Rattle.unit_landscape.specs.KeptWorlds.{KeptOf, cause_at}
 use Rattle.unit_landscape.specs.Writes.{IsTooLong}
 use Rattle.unit_works.specs.declared.letter.Letter.{Letter}
-use Rattle.unit_works.specs.Events.{arrives_under, is_answered_under, is_confirmed_under, is_sent_under}
+use Rattle.unit_works.specs.Events.{arrives_under, falls_under, is_answered_under, is_confirmed_under, is_sent_under}
 
 -- the records that come to a system's log, in order, of those that are appended
 abbrev pub records_at : ℕ → List Writing → List Record
@@ -75,6 +75,17 @@ AppendedAs before after added false =
 abbrev pub Appended : {R A V : Type 0} → KeptOf R A V → KeptOf R A V → List Writing → Type 0
 Appended before after added = (whole : Bool) × AppendedAs before after added whole
 
+-- These records were appended, one after the other, and then a system fell of which nothing failed: it finds nothing, and the landscape tells that
+-- it was felled. All other systems are up or down as before, and may find what they might.
+pub record Felled {R A V : Type 0} (before after : KeptOf R A V) (added : List Writing) (system : ℕ) : Type 0 where
+  pub grew : HaveGrown before.world after.world added
+  pub up : is_up before.world system ≡ true
+  pub fell : is_up after.world system ≡ false
+  pub nothing : rest_of after.world system ≡ None
+  pub told : cause_at after system ≡ Crashed
+  pub others : (other : ℕ) → other ≢ system
+      → (is_up after.world other ≡ is_up before.world other) × (rest_of after.world other ≡ rest_of before.world other)
+
 -- one record more at a system
 abbrev pub one_at : ℕ → Record → List Writing
 one_at system next = record { system = system; next = next } ∷ []
@@ -99,6 +110,15 @@ back_of answer.Down = None
 abbrev pub learnt_under : Letter → Answer → Option CoreAnswer
 learnt_under letter given = if is_answered_under letter then back_of given else None
 
+-- a receiver that answers so is down
+abbrev pub is_down : Answer → Bool
+is_down answer.Down = true
+is_down _ = false
+
+-- a letter fells the receiver that gives this answer: one that is down falls no more
+abbrev pub fells : Letter → Answer → Bool
+fells letter given = falls_under letter && not (is_down given)
+
 -- what a sender appends: the unit is done; or it is marked, since its receiver can't execute it, or since nothing came back; nothing where
 -- its receiver is busy with it
 abbrev pub noted_of : Option CoreAnswer → TidOf → List Writing
@@ -116,13 +136,30 @@ is_done _ = false
 abbrev pub closing : AleUnit → List Writing
 closing unit = one_at unit.receiver (Forget unit.tid) ++ one_at unit.tid.system (Ended unit.tid)
 
--- What is appended as a unit is shipped whole under a letter: its receiver takes it in where the request arrives, however often it does;
--- its sender notes what it learns; and where it is done, its confirmation and the reply to it come, unless the letter loses it.
+-- what a sender notes of a shipment under a letter: nothing where the letter fells the receiver, since with that all claims are gone
+abbrev pub noted_under : Letter → Answer → TidOf → List Writing
+noted_under letter given tid = if fells letter given then [] else noted_of (learnt_under letter given) tid
+
+-- What is appended as a unit is shipped under a letter, and no record fails: its receiver takes it in where the request arrives, however often
+-- it does; its sender notes what it learns; and where it is done, its confirmation and the reply to it come, unless the letter loses it.
 abbrev pub shipment : Letter → Answer → AleUnit → List Writing
 shipment letter given unit =
     (if arrives_under letter then taken_in given unit else [])
-    ++ noted_of (learnt_under letter given) unit.tid
+    ++ noted_under letter given unit.tid
     ++ (if is_confirmed_under letter && is_done (learnt_under letter given) then closing unit else [])
+
+-- A unit was shipped under a letter, and answered so: the records of that were appended, and it was whole, where the letter fells no receiver. Or it
+-- was cut: a system fell as it was to append one of them, or the letter felled the receiver behind them.
+abbrev pub ShippedSo : {R A V : Type 0} → KeptOf R A V → KeptOf R A V → Letter → Answer → AleUnit → Bool → Type 0
+ShippedSo before after letter given unit true =
+    AppendedAs before after (shipment letter given unit) true × (fells letter given ≡ false)
+ShippedSo before after letter given unit false =
+    AppendedAs before after (shipment letter given unit) false
+    ⊎ ((fells letter given ≡ true) × Felled before after (shipment letter given unit) unit.receiver)
+
+-- the same, whether it was whole or cut
+abbrev pub Shipped : {R A V : Type 0} → KeptOf R A V → KeptOf R A V → Letter → Answer → AleUnit → Type 0
+Shipped before after letter given unit = (whole : Bool) × ShippedSo before after letter given unit whole
 
 -- what is appended as a unit is executed: that it was, or that it failed where its receiver does not offer its function
 abbrev pub execution : Bool → ℕ → TidOf → List Writing

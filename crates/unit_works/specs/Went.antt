@@ -13,7 +13,7 @@ use Rattle.trfc_protocol.specs.Meaning.{Meaning}
 use Rattle.trfc_protocol.specs.Legal.{may_follow}
 use Rattle.trfc_protocol.specs.Worlds.{committed_unit, is_up, log_of, rest_of}
 use Rattle.unit_journal.specs.OnDisk.{last_moment, later, moment_of, moments_at, next_moment, rest_at}
-use Rattle.unit_landscape.specs.declared.cause.Cause.TheVariants.{Faulted, Overran}
+use Rattle.unit_landscape.specs.declared.cause.Cause.TheVariants.{Crashed, Faulted, Overran}
 use Rattle.unit_landscape.specs.Crashes.{StaysSound}
 use Rattle.unit_landscape.specs.KeptWorlds.{KeptOf, cause_at}
 use Rattle.unit_landscape.specs.Writes.{IsTooLong}
@@ -39,10 +39,11 @@ module _ {R A V : Type 0} (meaning : R → Meaning) (disk : Disk V) (before afte
     pub long : IsTooLong after (record { system = system; next = next }) size
     pub told : cause_at after system ≡ Overran size
 
-  -- why a system is down that was up: its volume failed as it was to write a record, which it may find; or a record did not fit on it
+  -- Why a system is down that was up: its volume failed as it was to write a record, which it may find; or it finds nothing, since a record did
+  -- not fit on it, or since it was felled, which the landscape tells.
   abbrev pub HasCause : Option Record → Type 0
   HasCause (Some next) = HasRisen (disk.faults before.vols (system - 1)) (disk.faults after.vols (system - 1)) × (cause_at after system ≡ Faulted)
-  HasCause None = IsUnfit
+  HasCause None = IsUnfit ⊎ (cause_at after system ≡ Crashed)
 
 -- a system is down as it was before, with its log and the moments of that, what it may find and with which moment, and why it is down
 pub record StaysDown {R A V : Type 0} (before after : KeptOf R A V) (system : ℕ) : Type 0 where

@@ -4,16 +4,17 @@ use Rattle.std.specs.Option.{unwrap_or}
 use Rattle.std.specs.Map.{lookup}
 use Rattle.ale_base.specs.Tid.{TidOf, is_tid}
 use Rattle.unit_works.specs.declared.letter.Letter.{Letter}
-use Rattle.unit_works.specs.declared.letter.Letter.TheVariants.{Whole, LostRequest, LostReply, Twice, LostConfirmation}
+use Rattle.unit_works.specs.declared.letter.Letter.TheVariants.{Whole, LostRequest, LostReply, Twice, LostConfirmation, ReceiverFalls}
 
--- the letter that a byte says: `o`, `q`, `r`, `t` and `c`, in the order of the letters; any other byte says none
+-- the letter that a byte says: `o`, `q`, `r`, `t`, `c` and `f`, in the order of the letters; any other byte says none
 abbrev pub letter_said : ℕ → Option Letter
 letter_said byte =
     if byte == 111 then Some Whole
     else (if byte == 113 then Some LostRequest
     else (if byte == 114 then Some LostReply
     else (if byte == 116 then Some Twice
-    else (if byte == 99 then Some LostConfirmation else None))))
+    else (if byte == 99 then Some LostConfirmation
+    else (if byte == 102 then Some ReceiverFalls else None)))))
 
 -- the letters that bytes say
 abbrev pub letters_said : List ℕ → List Letter

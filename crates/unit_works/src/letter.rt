@@ -16,9 +16,12 @@ pub enum Letter {
     Twice,
     /// Request and reply go through, and the confirmation that follows is lost.
     LostConfirmation,
+    /// The request arrives, and the receiver falls right after it has handled it: nothing comes back, and the claim is gone. A receiver that
+    /// is down already falls no more.
+    ReceiverFalls,
 }
 
-/// The letter that a byte says: `o`, `q`, `r`, `t` or `c`. None exactly where it is another byte.
+/// The letter that a byte says: `o`, `q`, `r`, `t`, `c` or `f`. None exactly where it is another byte.
 pub(crate) fn letter_of(byte: u8) -> Option<Letter>
     ensures { result ≡ letter_said byte }
 {
@@ -28,6 +31,7 @@ pub(crate) fn letter_of(byte: u8) -> Option<Letter>
         b'r' => Some(Letter::LostReply),
         b't' => Some(Letter::Twice),
         b'c' => Some(Letter::LostConfirmation),
+        b'f' => Some(Letter::ReceiverFalls),
         _ => None,
     }
 }

@@ -1,7 +1,7 @@
 //! What letters let through.
 
 ghost use Rattle.std.specs.Prelude.{◌≡◌};
-ghost use Rattle.unit_works.specs.Events.{arrives_under, is_answered_under, is_confirmed_under, is_sent_under, told_of};
+ghost use Rattle.unit_works.specs.Events.{arrives_under, falls_under, is_answered_under, is_confirmed_under, is_sent_under, told_of};
 ghost use Rattle.unit_works.specs.steps.Arriving.{is_twice};
 
 use crate::Letter;
@@ -13,7 +13,11 @@ pub(crate) fn arrives_under(letter: Letter) -> bool
 {
     match letter {
         Letter::LostRequest => false,
-        Letter::Whole | Letter::LostReply | Letter::Twice | Letter::LostConfirmation => true,
+        Letter::Whole
+        | Letter::LostReply
+        | Letter::Twice
+        | Letter::LostConfirmation
+        | Letter::ReceiverFalls => true,
     }
 }
 
@@ -23,7 +27,11 @@ pub(crate) fn is_twice(letter: Letter) -> bool
 {
     match letter {
         Letter::Twice => true,
-        Letter::Whole | Letter::LostRequest | Letter::LostReply | Letter::LostConfirmation => false,
+        Letter::Whole
+        | Letter::LostRequest
+        | Letter::LostReply
+        | Letter::LostConfirmation
+        | Letter::ReceiverFalls => false,
     }
 }
 
@@ -32,7 +40,7 @@ fn is_answered_under(letter: Letter) -> bool
     ensures { result ≡ is_answered_under letter }
 {
     match letter {
-        Letter::LostRequest | Letter::LostReply => false,
+        Letter::LostRequest | Letter::LostReply | Letter::ReceiverFalls => false,
         Letter::Whole | Letter::Twice | Letter::LostConfirmation => true,
     }
 }
@@ -42,7 +50,10 @@ pub(crate) fn is_confirmed_under(letter: Letter) -> bool
     ensures { result ≡ is_confirmed_under letter }
 {
     match letter {
-        Letter::LostRequest | Letter::LostReply | Letter::LostConfirmation => false,
+        Letter::LostRequest
+        | Letter::LostReply
+        | Letter::LostConfirmation
+        | Letter::ReceiverFalls => false,
         Letter::Whole | Letter::Twice => true,
     }
 }
@@ -53,7 +64,25 @@ pub(crate) fn is_sent_under(letter: Letter) -> bool
 {
     match letter {
         Letter::LostConfirmation => false,
-        Letter::Whole | Letter::LostRequest | Letter::LostReply | Letter::Twice => true,
+        Letter::Whole
+        | Letter::LostRequest
+        | Letter::LostReply
+        | Letter::Twice
+        | Letter::ReceiverFalls => true,
+    }
+}
+
+/// Whether the receiver falls once it has handled the request.
+pub(crate) fn falls_under(letter: Letter) -> bool
+    ensures { result ≡ falls_under letter }
+{
+    match letter {
+        Letter::ReceiverFalls => true,
+        Letter::Whole
+        | Letter::LostRequest
+        | Letter::LostReply
+        | Letter::Twice
+        | Letter::LostConfirmation => false,
     }
 }
 

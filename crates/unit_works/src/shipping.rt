@@ -11,14 +11,15 @@ ghost use Rattle.landscape.specs.Working.{IsPreparedFor};
 ghost use Rattle.unit_works.specs.Claims.{AreOrGone};
 ghost use Rattle.unit_works.specs.Events.{is_claim, is_shipping};
 ghost use Rattle.unit_works.specs.Finished.{finished_in};
-ghost use Rattle.unit_works.specs.Trips.{Appended, shipment};
+ghost use Rattle.unit_works.specs.Trips.{Shipped};
 ghost use Rattle.unit_works.specs.Worked.{HaveOnlyClaimed, NothingOut, Worked};
 ghost use Rattle.unit_works.specs.Works.{ClaimShippedAs, ShippedAs};
 ghost use Rattle.unit_works.specs.steps.Arriving.{IsAnswered};
 ghost use Rattle.unit_works.specs.Claiming.{IsShipped};
 
-use crate::answering::{Answered, deliver, reply};
+use crate::answering::{Answered, reply};
 use crate::confirming::confirm_under;
+use crate::felling::deliver_under;
 use crate::letters::told_under;
 use crate::{Letter, Wires};
 use ale_base::{OutOfMemory, SystemNo};
@@ -31,7 +32,7 @@ use unit_landscape::{OutClaim, Reply};
 /// Claims the first unit that is offered outbound at a system, and ships it under its next letter: it arrives, and a run of it ends; its
 /// sender learns of the answer; and where it is done then, it is confirmed. The logs grow by exactly the records of that, one after the
 /// other, as the receiver would answer before; where a system falls as it is to append one of them, those before it stand, and none behind
-/// it. How many runs ended. None exactly where nothing is offered there or the system is down, and then nothing has changed. After an `Err`
+/// it; and where the letter fells the receiver, it falls behind those that it appends. How many runs ended. None exactly where nothing is offered there or the system is down, and then nothing has changed. After an `Err`
 /// a part of it may have happened.
 pub fn ship_next<V: Volumes>(
     alloc: Global,
@@ -103,12 +104,12 @@ fn ship<V: Volumes>(
     ensures finished { IfOk result (IsAnswered landscape.old.world landscape.new.world) }
     ensures left { OnOk result (AreOrGone landscape.old.world landscape.new.world (without_claim landscape.old.world claim.number).claims) }
     ensures grew { (unit : AleUnit) → committed_unit (model_meaning landscape.old.world.rules.systems) landscape.old.world claim.tid ≡ Some unit
-        → OnOk result (Appended landscape.old landscape.new
-        (shipment letter (answer_to (model_meaning landscape.old.world.rules.systems) landscape.old.world unit) unit)) }
+        → OnOk result (Shipped landscape.old landscape.new letter
+        (answer_to (model_meaning landscape.old.world.rules.systems) landscape.old.world unit) unit) }
 {
     let _ = landscape.world();
     let tid = claim.tid();
-    let answered = deliver(alloc, landscape, &claim, letter, ready)?;
+    let answered = deliver_under(alloc, landscape, &claim, letter, ready)?;
     let Answered { given, finished } = answered;
     let told = told_under(letter, given);
     reply(landscape, claim, told)?;

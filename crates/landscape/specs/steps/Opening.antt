@@ -1,6 +1,8 @@
 -- The steps of an opening: volumes are read one by one, and then the systems whose logs are empty begin one by one.
 use Rattle.std.specs.Prelude.{◌≡◌, ⊤, ℕ, suc, ◌-◌, ◌≤◌, Option, List, Result, Ok, Err, length}
 use Rattle.ale_volumes.specs.Disk.{Disk}
+use Rattle.ale_volumes.specs.Clock.{LeavesOnly}
+use Rattle.ale_volumes.specs.Volume.{IsImage}
 use Rattle.unit_journal.specs.OnDisk.{count_of, moment_of, moments_at}
 use Rattle.trfc_protocol.specs.Meaning.{Meaning}
 use Rattle.trfc_protocol.specs.Legal.{IsLegal}
@@ -25,7 +27,8 @@ use Rattle.landscape.specs.declared.open_end.OpenEnd.{OpenEnd}
 use Rattle.landscape.specs.declared.open_end.OpenWhy.{OpenWhy}
 use Rattle.landscape.specs.declared.open_end.OpenWhy.TheVariants as why
 use Rattle.landscape.specs.declared.open_end.Refused.TheVariants as refused
-use Rattle.landscape.specs.Opened.{AreHeld, AreMomentsFrom, AreSound, EndedByFault, HoldSoundLogs, IsGoodLog, LeavesOpening, Logs, MayBegin, NoneFailed, WhyEnded, bytes_in, logs_in}
+use Rattle.landscape.specs.Opened.{AreHeld, AreMomentsFrom, AreSound, EndedByFault, HoldSoundLogs, IsGoodLog, LeavesOpening, Logs, MayBegin}
+use Rattle.landscape.specs.Opened.{NoneFailed, WhyEnded, bytes_in, logs_in}
 
 -- why no landscape is opened, by why the volume of a system was not
 abbrev pub why_opened : ℕ → OpenFault → OpenWhy
@@ -89,7 +92,8 @@ module _ {V : Type 0} (disk : Disk V) (many : ℕ)
         → IsGoodLog many text system (moments_at now.journals (system - 1)) (log_of now.world system)
     pub held : disk.told → AreHeld count (bytes_in disk before) (logs_in now)
     pub leaves : disk.told → LeavesOpening disk count text set before now.vols ⊥ ⊥
-    pub none_failed : NoneFailed many disk before now.vols
+    pub unread : disk.told → (place : ℕ) → count ≤ place → LeavesOnly disk before now.vols place (IsImage (disk.volume before place))
+    pub none_failed : NoneFailed disk before now.vols
 
   -- all volumes are read as logs that keep the law, and the first of the systems, so many, have begun
   pub record AreBegunSoFar (count : ℕ) (now : KeptOf ModelRules DocumentTables V) : Type 0 where
@@ -101,14 +105,14 @@ module _ {V : Type 0} (disk : Disk V) (many : ℕ)
     pub records : AreBegunFrom text count logs.records (log_of now.world)
     pub moments : AreMomentsFrom set count logs.moments (λ system. moments_at now.journals (system - 1))
     pub leaves : disk.told → LeavesOpening disk many text set before now.vols ⊤ ⊥
-    pub none_failed : NoneFailed many disk before now.vols
+    pub none_failed : NoneFailed disk before now.vols
 
   -- an opening ended before all was done
   pub record HasEnded (end : OpenEnd V) : Type 0 where
     pub why : WhyEnded disk many text set before end.vols end.why
     pub not_refused : disk.told → HoldSoundLogs many text (bytes_in disk before) → MayBegin end.why
-    pub leaves : disk.told → LeavesOpening disk many text set before end.vols (MayBegin end.why) ⊤
-    pub faulted : EndedByFault many disk before end.vols end.why
+    pub leaves : disk.told → LeavesOpening disk many text set before end.vols (MayBegin end.why × HoldSoundLogs many text (bytes_in disk before)) ⊤
+    pub faulted : EndedByFault disk many text before end.vols end.why
 
   -- so many volumes are opened, or how else it ended
   abbrev pub OpensAs : ℕ → Result (KeptOf ModelRules DocumentTables V) (OpenEnd V) → Type 0

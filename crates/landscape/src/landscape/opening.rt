@@ -36,6 +36,7 @@ impl<V: Volumes> Landscape<V> {
     ghost use Rattle.std.specs.Arc.{arc_value};
     ghost use Rattle.said_models.specs.Said.{said};
     ghost use Rattle.unit_landscape.specs.declared.beginning.TheConstants.{MOST_TEXT};
+    ghost use Rattle.landscape.specs.Crashes.{OpeningLeavesOpenable};
     ghost use Rattle.landscape.specs.Opened.{FaultsOpened, HasEndedEarly, HasOpened, HoldSoundLogs, IsNotRefused, LeavesOpening, WhyOpened, bytes_in, vols_after};
 
     /// Opens the landscape of the systems of a model, over volumes: system i on volume i - 1. Each goes on from the log that its volume
@@ -45,7 +46,7 @@ impl<V: Volumes> Landscape<V> {
     /// An `Err` gives the volumes back. `Refused` comes exactly where a volume holds no log of its system and of this text, each record
     /// good behind those before it, and tells the first by systems; or where the logs together do not keep the exactly-once law, and tells
     /// the first breach. No system has begun then. `Volume` comes only where a call on one of the volumes failed, as the count of its
-    /// faults tells, and `OutOfMemory` where a request for memory was refused.
+    /// faults tells, and those of the systems before it hold logs; `OutOfMemory` where a request for memory was refused.
     pub fn open(
         alloc: Global,
         model: Arc<Model>,
@@ -57,16 +58,19 @@ impl<V: Volumes> Landscape<V> {
         requires short { length text ≤ MOST_TEXT }
         ensures opened { IfOk result (HasOpened V.disk (length (arc_value model).systems) text moment vols) }
         ensures why { WhyOpened V.disk (length (arc_value model).systems) text moment vols (vols_after result) result }
-        ensures faults { FaultsOpened (length (arc_value model).systems) V.disk vols (vols_after result) result }
+        ensures faults { FaultsOpened V.disk (length (arc_value model).systems) text vols (vols_after result) result }
 
         // Volumes that hold good logs of these systems and of this text, which keep the exactly-once law, are never refused.
         ensures not_refused { V.disk.told → HoldSoundLogs (length (arc_value model).systems) text (bytes_in V.disk vols) → IsNotRefused result }
 
         // A crash at any moment of the call leaves of each volume what was handed in, or what reads as it; from some moment on only the
-        // latter. Of one that stood for the empty log it may leave the Genesis of its system alone, but not where the volumes are
-        // refused. Volumes behind those of the systems are not called.
+        // latter. Of one that stood for the empty log it may leave the Genesis of its system alone, but only where the volumes of all
+        // systems hold sound logs, and are not refused. Volumes behind those of the systems are not called.
         ensures volumes { V.disk.told → LeavesOpening V.disk (length (arc_value model).systems) text moment vols (vols_after result)
-            (IsNotRefused result) (HasEndedEarly result) }
+            (IsNotRefused result × HoldSoundLogs (length (arc_value model).systems) text (bytes_in V.disk vols)) (HasEndedEarly result) }
+
+        // So whatever it leaves of all volumes together holds sound logs, where whatever a crash left of them before the call does.
+        ensures opens { OpeningLeavesOpenable V.disk (length (arc_value model).systems) text vols (vols_after result) }
     {
         let systems = model.as_lists().systems.len() as u8;
         let kept = begin_over(alloc, &model, systems, text.as_slice(), moment, vols)?;

@@ -10,8 +10,8 @@ ghost use Rattle.runs.specs.Does.{Does, IsOneCall, Operates};
 ghost use Rattle.runs.specs.Text.{IsPrintable};
 
 use crate::answered::{plain, refused};
-use crate::{Answered, Inputs, Stage};
-use ale_base::{Change, DocNum, OutOfMemory, SystemNo};
+use crate::{Answered, Halt, Inputs, Stage};
+use ale_base::{Change, DocNum, SystemNo};
 use ale_volumes::Volumes;
 use report_text::Reply;
 use status_log::Refusal;
@@ -22,7 +22,7 @@ pub(super) fn put<V: Volumes>(
     inputs: &Inputs,
     sys: &[u8],
     change: &Change,
-) -> Result<Answered, OutOfMemory>
+) -> Result<Answered, Halt>
     ensures does { Does V.disk inputs.now stage.old result stage.new (form.Put sys.now change.now) }
     ensures call { IsOneCall V.disk stage.old stage.new }
     ensures printable { IfOk result IsPrintable }
@@ -39,7 +39,7 @@ fn put_at<V: Volumes>(
     inputs: &Inputs,
     system: SystemNo,
     change: &Change,
-) -> Result<Answered, OutOfMemory>
+) -> Result<Answered, Halt>
     ensures does { Operates V.disk inputs.now stage.old result stage.new system (λ log. asked_put log change.now)
         (λ pointers. pointers ≡ pointers_noted (log_of stage.old.landscape.world system) change.now) Pointers }
     ensures call { IsOneCall V.disk stage.old stage.new }
@@ -57,7 +57,7 @@ pub(super) fn app<V: Volumes>(
     inputs: &Inputs,
     sys: &[u8],
     doc: DocNum,
-) -> Result<Answered, OutOfMemory>
+) -> Result<Answered, Halt>
     ensures does { Does V.disk inputs.now stage.old result stage.new (form.App sys.now doc) }
     ensures call { IsOneCall V.disk stage.old stage.new }
     ensures printable { IfOk result IsPrintable }
@@ -74,7 +74,7 @@ fn app_at<V: Volumes>(
     inputs: &Inputs,
     system: SystemNo,
     doc: DocNum,
-) -> Result<Answered, OutOfMemory>
+) -> Result<Answered, Halt>
     ensures does { Operates V.disk inputs.now stage.old result stage.new system (λ log. asked_app log doc.0)
         (λ status. status ≡ status_at stage.new.landscape.world system doc.0) Posted }
     ensures call { IsOneCall V.disk stage.old stage.new }
@@ -92,7 +92,7 @@ pub(super) fn repost<V: Volumes>(
     inputs: &Inputs,
     sys: &[u8],
     doc: DocNum,
-) -> Result<Answered, OutOfMemory>
+) -> Result<Answered, Halt>
     ensures does { Does V.disk inputs.now stage.old result stage.new (form.Repost sys.now doc) }
     ensures call { IsOneCall V.disk stage.old stage.new }
     ensures printable { IfOk result IsPrintable }
@@ -109,7 +109,7 @@ fn repost_at<V: Volumes>(
     inputs: &Inputs,
     system: SystemNo,
     doc: DocNum,
-) -> Result<Answered, OutOfMemory>
+) -> Result<Answered, Halt>
     ensures does { Operates V.disk inputs.now stage.old result stage.new system (λ log. asked_repost log doc.0)
         (λ status. status ≡ status_at stage.new.landscape.world system doc.0) Posted }
     ensures call { IsOneCall V.disk stage.old stage.new }

@@ -10,8 +10,8 @@ ghost use Rattle.runs.specs.Does.{Commits, Does, IsOneCall, asked_master, number
 ghost use Rattle.runs.specs.Text.{IsPrintable};
 
 use crate::answered::{plain, refused};
-use crate::{Answered, Inputs, Stage};
-use ale_base::{OutOfMemory, SystemNo};
+use crate::{Answered, Halt, Inputs, Stage};
+use ale_base::SystemNo;
 use ale_volumes::Volumes;
 use application_rules::MOST_SEGMENTS;
 use landscape::{Gathered, Sent};
@@ -24,7 +24,7 @@ pub(super) fn send<V: Volumes>(
     inputs: &Inputs,
     sys: &[u8],
     number: u64,
-) -> Result<Answered, OutOfMemory>
+) -> Result<Answered, Halt>
     ensures does { Does V.disk inputs.now stage.old result stage.new (form.Send sys.now number) }
     ensures call { IsOneCall V.disk stage.old stage.new }
     ensures printable { IfOk result IsPrintable }
@@ -41,7 +41,7 @@ fn send_at<V: Volumes>(
     inputs: &Inputs,
     system: SystemNo,
     number: u64,
-) -> Result<Answered, OutOfMemory>
+) -> Result<Answered, Halt>
     ensures does { Commits V.disk inputs.now stage.old result stage.new system (asked_master (numbered number inputs.now.masters))
         (λ asked sent. sent ≡ sent_counts (counts_asked (log_of stage.old.landscape.world system) asked)) shown_sent }
     ensures call { IsOneCall V.disk stage.old stage.new }
@@ -55,7 +55,7 @@ fn send_at<V: Volumes>(
     };
     // No document file has such a document.
     if master.segments.len() > MOST_SEGMENTS {
-        return Err(OutOfMemory);
+        return Err(Halt::OutOfMemory);
     }
     match stage.landscape.send(system, master) {
         Ok(Sent { documents, units }) => plain(Reply::Sent { documents, units }),
@@ -69,7 +69,7 @@ pub(super) fn gather<V: Volumes>(
     inputs: &Inputs,
     sys: &[u8],
     message: &[u8],
-) -> Result<Answered, OutOfMemory>
+) -> Result<Answered, Halt>
     ensures does { Does V.disk inputs.now stage.old result stage.new (form.Gather sys.now message.now) }
     ensures call { IsOneCall V.disk stage.old stage.new }
     ensures printable { IfOk result IsPrintable }
@@ -86,7 +86,7 @@ fn gather_at<V: Volumes>(
     inputs: &Inputs,
     system: SystemNo,
     message: &[u8],
-) -> Result<Answered, OutOfMemory>
+) -> Result<Answered, Halt>
     ensures does { Commits V.disk inputs.now stage.old result stage.new system (λ log. asked_gather log message.now)
         (λ asked made. made ≡ counts_asked (log_of stage.old.landscape.world system) asked) shown_gathered }
     ensures call { IsOneCall V.disk stage.old stage.new }
@@ -114,7 +114,7 @@ pub(super) fn dispatch<V: Volumes>(
     stage: &mut Stage<V>,
     inputs: &Inputs,
     sys: &[u8],
-) -> Result<Answered, OutOfMemory>
+) -> Result<Answered, Halt>
     ensures does { Does V.disk inputs.now stage.old result stage.new (form.Dispatch sys.now) }
     ensures call { IsOneCall V.disk stage.old stage.new }
     ensures printable { IfOk result IsPrintable }
@@ -130,7 +130,7 @@ fn dispatch_at<V: Volumes>(
     stage: &mut Stage<V>,
     inputs: &Inputs,
     system: SystemNo,
-) -> Result<Answered, OutOfMemory>
+) -> Result<Answered, Halt>
     ensures does { Commits V.disk inputs.now stage.old result stage.new system asked_dispatch
         (λ asked units. units ≡ (counts_asked (log_of stage.old.landscape.world system) asked).units) Units }
     ensures call { IsOneCall V.disk stage.old stage.new }

@@ -6,8 +6,8 @@ ghost use Rattle.runs.specs.Does.{Does, IsOneCall, Shows};
 ghost use Rattle.runs.specs.Text.{IsPrintable};
 
 use crate::answered::{listed, refused};
-use crate::{Answered, Inputs, Stage};
-use ale_base::{DocNum, OutOfMemory};
+use crate::{Answered, Halt, Inputs, Stage};
+use ale_base::DocNum;
 use ale_volumes::Volumes;
 use status_log::{Refusal, Show};
 
@@ -16,7 +16,7 @@ pub(super) fn show_docs<V: Volumes>(
     stage: &mut Stage<V>,
     inputs: &Inputs,
     sys: &[u8],
-) -> Result<Answered, OutOfMemory>
+) -> Result<Answered, Halt>
     ensures does { Does V.disk inputs.now stage.old result stage.new (form.ShowDocs sys.now) }
     ensures call { IsOneCall V.disk stage.old stage.new }
     ensures printable { IfOk result IsPrintable }
@@ -33,7 +33,7 @@ pub(super) fn show_doc<V: Volumes>(
     inputs: &Inputs,
     sys: &[u8],
     doc: DocNum,
-) -> Result<Answered, OutOfMemory>
+) -> Result<Answered, Halt>
     ensures does { Does V.disk inputs.now stage.old result stage.new (form.ShowDoc sys.now doc) }
     ensures call { IsOneCall V.disk stage.old stage.new }
     ensures printable { IfOk result IsPrintable }
@@ -49,7 +49,7 @@ pub(super) fn show_units<V: Volumes>(
     stage: &mut Stage<V>,
     inputs: &Inputs,
     sys: &[u8],
-) -> Result<Answered, OutOfMemory>
+) -> Result<Answered, Halt>
     ensures does { Does V.disk inputs.now stage.old result stage.new (form.ShowUnits sys.now) }
     ensures call { IsOneCall V.disk stage.old stage.new }
     ensures printable { IfOk result IsPrintable }
@@ -65,7 +65,7 @@ pub(super) fn show_queues<V: Volumes>(
     stage: &mut Stage<V>,
     inputs: &Inputs,
     sys: &[u8],
-) -> Result<Answered, OutOfMemory>
+) -> Result<Answered, Halt>
     ensures does { Does V.disk inputs.now stage.old result stage.new (form.ShowQueues sys.now) }
     ensures call { IsOneCall V.disk stage.old stage.new }
     ensures printable { IfOk result IsPrintable }
@@ -81,7 +81,7 @@ pub(super) fn show_objects<V: Volumes>(
     stage: &mut Stage<V>,
     inputs: &Inputs,
     sys: &[u8],
-) -> Result<Answered, OutOfMemory>
+) -> Result<Answered, Halt>
     ensures does { Does V.disk inputs.now stage.old result stage.new (form.ShowObjects sys.now) }
     ensures call { IsOneCall V.disk stage.old stage.new }
     ensures printable { IfOk result IsPrintable }
@@ -93,7 +93,7 @@ pub(super) fn show_objects<V: Volumes>(
 }
 
 /// What is listed of a system.
-fn show<V: Volumes>(stage: &Stage<V>, what: &Show) -> Result<Answered, OutOfMemory>
+fn show<V: Volumes>(stage: &Stage<V>, what: &Show) -> Result<Answered, Halt>
     ensures does { Shows V.disk stage.now result stage.now what.now }
     ensures printable { IfOk result IsPrintable }
 {

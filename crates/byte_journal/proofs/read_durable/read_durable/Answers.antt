@@ -1,4 +1,4 @@
-use Rattle.std.proofs.Common.{inr, ℕ, List, subst}
+use Rattle.std.proofs.Common.{inr, ℕ, List, arith, subst}
 use Rattle.ale_volumes.specs.declared.volume.Volume.{Volume}
 use Rattle.ale_volumes.specs.Volume.{IsImage}
 use Rattle.ale_volumes.proofs.ClockLemmas.{started, goes_on, joined, others_joined, weaker}
@@ -23,12 +23,15 @@ returns-clause-from_sync g c = λ told.
     let V = g.V.Volumes in
     let mid = c.sync.new.self in
     let only = c.read_front.ensures.any_moment told in
+    let all = returns-clause-any_moment g c told in
     inr (record {
       from = V.disk.moment mid;
       not_before = (c.sync.ensures.time told).later;
       not_after = only.later;
       each = λ image left. settled-image (V.disk.volume c.args.vols.now c.args.n).contents image
           (subst (λ (v : Volume). IsImage v image) (c.in_ok-sync.ensures.durable told) (only.each image left));
+      earlier = λ image moment least less left.
+          all.each image (record { moment = moment; least = least; most = omega (arith, less, only.later); left = left });
     })
 
 pub returns-in_err-sync-clause-any_moment : goal.returns-in_err-sync-clause-any_moment

@@ -6,8 +6,7 @@ pub loop-command-init : goal.loop-command-init
 loop-command-init g c = record {
   so_far =
       SoFar-start g.V.Volumes.disk c.args.inputs.now c.args.commands.now c.args.stage (g.K.Sink.contents c.args.out.now) (g.K.Sink.faults c.args.out.now)
-      (g.C.Clock.given c.args.clock.now) (g.C.Clock.told c.args.clock.now) c.requires.up
-      c.world.ensures.sound;
+      (g.C.Clock.given c.args.clock.now) (g.C.Clock.told c.args.clock.now) c.world.ensures.sound;
   safe = c.world.ensures.safe;
   still = λ tells. tells;
 }
@@ -45,4 +44,4 @@ returns-clause-run g c =
     Run-whole g.V.Volumes.disk c.args.inputs.now c.args.commands.now c.args.stage (g.K.Sink.contents c.args.out.now) (g.K.Sink.faults c.args.out.now)
     (g.C.Clock.given c.args.clock.now) c.loop-command.command-index
     c.loop-command.stage (g.K.Sink.contents c.loop-command.out) (g.K.Sink.faults c.loop-command.out) (g.C.Clock.told c.loop-command.clock)
-    (g.C.Clock.given c.loop-command.clock) c.loop-command.invariant.so_far (let end = c.loop-command-test.false in omega arith)
+    (g.C.Clock.given c.loop-command.clock) c.loop-command.invariant.so_far (let end = c.loop-command-test.false in omega arith) c.last_end-end.result c.last_end-end.ensures

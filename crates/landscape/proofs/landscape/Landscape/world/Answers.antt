@@ -13,4 +13,5 @@ pub returns-clause-opens : goal.returns-clause-opens
 returns-clause-opens g c =
     let still = sound-none g.V.Volumes.disk g.met.V.Volumes.only_now c.self.inside.units c.args.self.now c.self.view_is c.world.ensures.safe
     c.world.ensures.kept.on_volumes in
-    opens-left g.V.Volumes.disk c.args.self.now c.args.self.now (subst (λ k. IsLandscape meaning k.world) c.self.view_is c.world.ensures.safe) still
+    let safe = subst (λ k. IsLandscape meaning k.world) c.self.view_is c.world.ensures.safe in
+    opens-left g.V.Volumes.disk c.args.self.now c.args.self.now safe.safe.systems still

@@ -1,4 +1,4 @@
-use Rattle.std.proofs.Common.{◌≡◌, ◌-◌, ℕ, List, Some, length, sym, ap, subst, ◌∙◌, arith}
+use Rattle.std.proofs.Common.{◌-◌, ℕ, List, Some, length, sym, ap, subst, ◌∙◌, arith}
 use Rattle.said_models.specs.Said.{said}
 use Rattle.unit_landscape.proofs.ReopeningLemmas.{begins-empty, begins-no_claims, begun-by}
 use Rattle.unit_landscape.specs.Beginning.{HaveBegun}

@@ -1,10 +1,10 @@
 use Rattle.std.specs.Prelude.{All}
-use Rattle.std.proofs.Common.{◌≡◌, sym, subst}
+use Rattle.std.proofs.Common.{sym, subst}
 use Rattle.log_tables.specs.Read.{IsProper}
 use Rattle.log_reading.proofs.ProperLemmas.{AreProper-entries}
 use Rattle.document_state.proofs.LogRulesLemmas.{commit-few}
 use Rattle.unit_landscape.specs.Volumes.{moments_in}
-use Rattle.landscape.proofs.ReadingLemmas.{read-bad, read-log}
+use Rattle.landscape.proofs.ReadingLemmas.{read-log}
 use Rattle.landscape.proofs.landscape.opening.read_volume.Goals as goal
 
 pub read_log-read-requires-clause-few : goal.read_log-read-requires-clause-few
