@@ -1,5 +1,7 @@
 -- two lists in pairs
 pub mod ZipLemmas
+-- what is found at a place
+pub mod PlaceLemmas
 -- tests that decide what they test, one by one and in lists
 pub mod DecidedLemmas
 -- an entry keeps another one exactly where its test says so

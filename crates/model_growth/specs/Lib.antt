@@ -5,3 +5,5 @@ pub mod Tests
 pub mod Kept
 -- whether a model keeps another one
 pub mod Growth
+-- where what is not kept stands
+pub mod Paths

@@ -1,8 +1,9 @@
 //! What an entry of a model's list is, and which entries of an old model a new one keeps.
 
-ghost use Rattle.std.specs.Prelude.{◌≡◌};
+ghost use Rattle.std.specs.Prelude.{◌≡◌, false, slice_get};
 ghost use Rattle.std.specs.Cmp.Lexicographic.{pointwise};
 ghost use Rattle.std.specs.List.{list_all, list_any, zip};
+ghost use Rattle.std.specs.Option.{option_map_or};
 ghost use Rattle.model_growth.specs.Growth.{first_lost};
 
 use ale_base::Items;
@@ -51,14 +52,29 @@ pub(crate) fn first_lost<E: Entry>(
 ) -> Option<usize>
     ensures { result ≡ first_lost (E.keeps old.now new.now) entries.now others.now }
 {
-    entries
-        .iter()
-        .position(|entry| !stands_in(old, new, entry, others))
+    for (place, entry) in entries.as_slice().iter().enumerate() {
+        if !stands_in(old, new, place, entry, others) {
+            return Some(place);
+        }
+    }
+    None
 }
 
-/// Whether one of some entries of a new model keeps one of an old model.
-fn stands_in<E: Entry>(old: &Lists, new: &Lists, entry: &E, others: &Items<E>) -> bool
+/// Whether one of some entries of a new model keeps one of an old model. That at its place is looked at first: where models
+/// differ little, it is the one.
+fn stands_in<E: Entry>(old: &Lists, new: &Lists, place: usize, entry: &E, others: &Items<E>) -> bool
     ensures { result ≡ list_any (E.keeps old.now new.now entry.now) others.now }
 {
-    others.iter().any(|other| entry.is_kept(old, other, new))
+    keeps_at(old, new, place, entry, others)
+        || others.iter().any(|other| entry.is_kept(old, other, new))
+}
+
+/// Whether the entry at a place of a new model keeps one of an old model.
+fn keeps_at<E: Entry>(old: &Lists, new: &Lists, place: usize, entry: &E, others: &Items<E>) -> bool
+    ensures { result ≡ option_map_or (E.keeps old.now new.now entry.now) (slice_get others.now place) false }
+{
+    match others.get(place) {
+        None => false,
+        Some(other) => entry.is_kept(old, other, new),
+    }
 }

@@ -1,13 +1,17 @@
 //! What of a model another one does not keep.
 
-ghost use Rattle.std.specs.Prelude.{◌≡◌, ◌↔◌, None};
+ghost use Rattle.std.specs.Prelude.{◌≡◌, ◌↔◌, None, IfOk};
 ghost use Rattle.std.specs.List.{starts_with};
 ghost use Rattle.ale_base.specs.Text.{is_text};
+ghost use Rattle.model_keys.specs.Finding.{element};
 ghost use Rattle.model_growth.specs.Growth.{first_unkept, first_unkept_entry, IsGrown};
+ghost use Rattle.model_growth.specs.Paths.{path_of};
 
 use crate::entry::{first_lost, keep_all};
-use ale_base::Items;
+use ale_base::{Items, OutOfMemory};
 use dist_model::Lists;
+use model_keys::element;
+use std::alloc::Global;
 
 /// What of a model another one does not keep. Places are from 0, in the lists of the model that is to be replaced.
 #[derive(Clone, Copy, PartialEq, Eq)]
@@ -28,10 +32,34 @@ pub enum Unkept {
     Reduced(usize),
 }
 
+impl Unkept {
+    /// The path to it in the text of the model that is to be replaced.
+    pub fn path(&self, alloc: Global) -> Result<Items<u8>, OutOfMemory>
+        ensures { IfOk result (λ path. path ≡ path_of self.now) }
+    {
+        match self {
+            Unkept::Releases => Ok(Items::from_slice(alloc, b"releases")?),
+            Unkept::Systems => Ok(Items::from_slice(alloc, b"system")?),
+            Unkept::Segment(place) => entry_path(alloc, "segment", *place),
+            Unkept::IdocType(place) => entry_path(alloc, "idoctype", *place),
+            Unkept::Kind(place) => entry_path(alloc, "kind", *place),
+            Unkept::Message(place) => entry_path(alloc, "message", *place),
+            Unkept::Reduced(place) => entry_path(alloc, "reduced", *place),
+        }
+    }
+}
+
+/// The path to the entry at a place of a section.
+fn entry_path(alloc: Global, section: &str, place: usize) -> Result<Items<u8>, OutOfMemory>
+    ensures { IfOk result (λ path. path ≡ element section.now place) }
+{
+    Ok(Items::from_vec(element(alloc, section, place)?))
+}
+
 /// The first part of the old model that the new one does not keep, of what a replacement has to keep. None exactly where it keeps
 /// all of it. That no document waits is looked at elsewhere. Both are the lists of models: in others a number may stand for
-/// nothing, or a name twice. It takes no memory; by design, its time grows with the lists of the one model times those of the
-/// other.
+/// nothing, or a name twice. It takes no memory. By design, its time grows with the lists of the models where each entry is kept
+/// by the one at its place, and else with the lists of the one times those of the other.
 pub fn first_unkept(old: &Lists, new: &Lists) -> Option<Unkept>
     ensures first { result ≡ first_unkept old.now new.now }
     ensures none { (result ≡ None) ↔ IsGrown old.now new.now }

@@ -92,15 +92,23 @@ pub fn unknown(alloc: Global, before: &str, key: &str) -> Result<Finding, OutOfM
     })
 }
 
+/// The path of the element at a place, counted from 0, of the list at a key.
+pub fn element(alloc: Global, key: &str, place: usize) -> Result<Vec<u8>, AllocError>
+    ensures { IfOk result (λ path. path.items ≡ element key.now place) }
+{
+    let mut buffer = Buffer::new();
+    let mut path = Vec::from_slice(alloc, key.as_bytes())?;
+    path.extend_from_slice(b"[")?;
+    path.extend_from_slice(buffer.format(place).as_bytes())?;
+    path.extend_from_slice(b"]")?;
+    Ok(path)
+}
+
 /// The path of the element at a place of the list at a key, and behind it the path from there.
 fn joined(alloc: Global, key: &str, place: usize, path: &[u8]) -> Result<Items<u8>, AllocError>
     ensures { IfOk result (λ whole. whole ≡ joined (element key.now place) path.now) }
 {
-    let mut buffer = Buffer::new();
-    let mut whole = Vec::from_slice(alloc, key.as_bytes())?;
-    whole.extend_from_slice(b"[")?;
-    whole.extend_from_slice(buffer.format(place).as_bytes())?;
-    whole.extend_from_slice(b"]")?;
+    let mut whole = element(alloc, key, place)?;
     match path {
         [] => {}
         // the dot is there already, as before an empty key

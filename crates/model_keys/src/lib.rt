@@ -13,7 +13,7 @@ mod number_keys;
 mod tables;
 
 pub use field_keys::field_at;
-pub use finding::{Cause, Finding, ReadError, at, unknown, within};
+pub use finding::{Cause, Finding, ReadError, at, element, unknown, within};
 pub use lists::{
     any_list_at, any_list_or_none_at, list_at, list_of, list_or_none_at, some_list_at,
 };
