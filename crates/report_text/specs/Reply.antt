@@ -24,7 +24,8 @@ shown_syntax (syntax.TooMany k) = counted (codes "TooMany") k
 shown_syntax (syntax.Missing name k) = codes "Missing " ++ counted name k
 shown_syntax syntax.OutOfMemory = codes "OutOfMemory"
 
--- the number of a refusal, and what follows it: the fault of the syntax, the length of the journal, the count of units
+-- the number of a refusal, and what follows it: the fault of the syntax, the length of the journal, the count of units or of documents,
+-- why a file says no model, or the path to what a new model does not keep
 abbrev pub shown_refusal : Refusal → List ℕ
 shown_refusal refusal.N1 = codes "1"
 shown_refusal refusal.N2 = codes "2"
@@ -38,6 +39,9 @@ shown_refusal refusal.N9 = codes "9"
 shown_refusal (refusal.N10 length) = counted (codes "10") length
 shown_refusal (refusal.N11 count) = counted (codes "11") count
 shown_refusal refusal.N12 = codes "12"
+shown_refusal (refusal.N13 count) = counted (codes "13") count
+shown_refusal (refusal.N14 words) = codes "14 " ++ words
+shown_refusal (refusal.N15 path) = codes "15 " ++ path
 shown_refusal refusal.Volume = []
 shown_refusal refusal.OutOfMemory = []
 

@@ -30,9 +30,20 @@ pub(crate) fn put_refusal(
         Refusal::N10(length) => put_counted(alloc, text, b"10", *length),
         Refusal::N11(count) => put_counted(alloc, text, b"11", *count),
         Refusal::N12 => put(text, b"12"),
+        Refusal::N13(count) => put_counted(alloc, text, b"13", *count),
+        Refusal::N14(words) => put_both(text, b"14 ", words.as_slice()),
+        Refusal::N15(path) => put_both(text, b"15 ", path.as_slice()),
         // These have no number, and no reply holds them.
         Refusal::Volume | Refusal::OutOfMemory => put(text, b""),
     }
+}
+
+/// Appends these bytes, and those behind them.
+fn put_both(text: &mut Vec<u8>, first: &[u8], second: &[u8]) -> Result<(), OutOfMemory>
+    ensures { OnOk result (text.new.items ≡ text.old.items ++ (first.now ++ second.now)) }
+{
+    put(text, first)?;
+    put(text, second)
 }
 
 fn put_syntax_refusal(

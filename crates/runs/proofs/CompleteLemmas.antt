@@ -232,6 +232,9 @@ module _ {V : Type 0} (disk : Disk V) (before after : Stage V) (answered : Answe
       carried (Err refusal.N9) is answer_is = free-still is.1 letters
       carried (Err (refusal.N11 count)) is answer_is = free-still is.1 letters
       carried (Err refusal.N12) is answer_is = free-still is.1 letters
+      carried (Err (refusal.N13 count)) is answer_is = free-still is.1 letters
+      carried (Err (refusal.N14 words)) is answer_is = free-still is.1 letters
+      carried (Err (refusal.N15 path)) is answer_is = free-still is.1 letters
 
   -- a record that commits
   commits-free : {T : Type 0} (system : ℕ) (asked : List Record → Asked) (answers : T → Type 0) (shown : T → Reply)
@@ -314,6 +317,9 @@ module _ {V : Type 0} (disk : Disk V) (before after : Stage V) (answered : Answe
       came (Err refusal.N9) is answer_is = absurd is
       came (Err (refusal.N11 count)) is answer_is = absurd is
       came (Err refusal.N12) is answer_is = absurd is
+      came (Err (refusal.N13 count)) is answer_is = absurd is
+      came (Err (refusal.N14 words)) is answer_is = absurd is
+      came (Err (refusal.N15 path)) is answer_is = absurd is
 
   queue-harmless : (systems system : ℕ) (destination : Option ℕ) (queue : List ℕ) (next : Record)
       → asked_queue systems system destination queue (start_of destination queue) ≡ Ok (Some next) → Harmless next

@@ -3,7 +3,7 @@
 ghost use Rattle.std.specs.Prelude.{◌≡◌};
 ghost use Rattle.status_log.specs.Refusal.{number_of};
 
-use ale_base::OutOfMemory;
+use ale_base::{Items, OutOfMemory};
 use idoc_tree::SyntaxFault;
 
 /// Why a command was not carried out. One that is refused by a number appended no record and changed nothing.
@@ -33,6 +33,12 @@ pub enum Refusal {
     N11(u64),
     /// 12: a name is unknown, or a value does not fit.
     N12,
+    /// 13: so many documents wait to be dispatched.
+    N13(u64),
+    /// 14: the file says no model; these words say why.
+    N14(Items<u8>),
+    /// 15: the new model does not keep what stands at this path of the one in force.
+    N15(Items<u8>),
     /// The volume of the system failed.
     Volume,
     /// A request for memory was refused.
@@ -57,6 +63,9 @@ impl Refusal {
             Refusal::N10(_) => Some(10),
             Refusal::N11(_) => Some(11),
             Refusal::N12 => Some(12),
+            Refusal::N13(_) => Some(13),
+            Refusal::N14(_) => Some(14),
+            Refusal::N15(_) => Some(15),
             Refusal::Volume | Refusal::OutOfMemory => None,
         }
     }

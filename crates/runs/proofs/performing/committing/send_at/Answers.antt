@@ -1,7 +1,9 @@
-use Rattle.std.proofs.Common.{◌≡◌, Bool, true, false, Option, None, Err, inl, refl, sym, ap, ◌∙◌, if◌then◌else◌}
+use Rattle.std.proofs.Common.{◌≡◌, Bool, true, false, Option, None, Some, Err, inl, refl, sym, ap, subst, ◌∙◌, if◌then◌else◌}
 use Rattle.unit_core.specs.declared.raw_unit_doc.RawUnitDoc.{RawUnitDoc}
+use Rattle.trfc_protocol.specs.declared.event.Event.TheVariants.{Commit}
 use Rattle.trfc_protocol.specs.Worlds.{is_up, log_of}
 use Rattle.status_log.specs.declared.refusal.Refusal.TheVariants.{N2, N3, OutOfMemory}
+use Rattle.landscape.specs.Carried.{CarriedAs, asked_at, counts_asked, sent_counts}
 use Rattle.runs.specs.Does.{asked_master, numbered}
 use Rattle.runs.proofs.performing.committing.send_at.Goals as goal
 
@@ -40,5 +42,20 @@ returns-then-len-gt-MOST_SEGMENTS-clause-does g c =
       result = Err OutOfMemory;
       carried = inl (record { world = refl; tables = refl; journals = refl; no_faults = λ place. refl; causes = refl });
       answer_is = refl;
+      letters = refl;
+    }
+
+pub returns-in-Err-clause-does : goal.returns-in-Err-clause-does
+returns-in-Err-clause-does g c =
+    let before = c.args.stage.now.landscape in
+    let system = c.args.system in
+    let asked = λ (found : Option RawUnitDoc). asked_at before.world system (asked_master found) in
+    let one : numbered c.args.number c.args.inputs.now.masters ≡ Some c.in-Some.master.now = sym c.in-Some.ensures in
+    record {
+      result = Err c.in-Err.why;
+      carried = subst
+          (λ (found : Option RawUnitDoc). CarriedAs g.V.Volumes.disk before c.send.new.self system (Commit system) (asked found)
+          (λ sent. sent ≡ sent_counts (counts_asked (log_of before.world system) (asked found))) (Err c.in-Err.why)) (sym one) c.in-Err.ensures.ends;
+      answer_is = c.refused-in-Err.ensures.answer;
       letters = refl;
     }
