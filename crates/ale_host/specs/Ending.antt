@@ -4,7 +4,7 @@ use Rattle.std.specs.Fmt.{decimal}
 use Rattle.ale_io.specs.Told.{Told}
 use Rattle.ale_host.specs.declared.words.Form.TheVariants.{Pass, Run, Load}
 use Rattle.model_text.specs.declared.fault.ModelFault.{ModelFault}
-use Rattle.model_text.specs.declared.fault.ModelFault.TheVariants as model_fault
+use Rattle.model_text.specs.Words.{fault_words}
 use Rattle.script_text.specs.declared.fault.ScriptFault.{ScriptFault}
 use Rattle.script_text.specs.declared.fault.ScriptFault.TheVariants as script_fault
 use Rattle.ale_host.specs.declared.ending.NotRead.{NotRead}
@@ -106,33 +106,9 @@ fault_text (file_fault.Record line fault) = shown_fault line (shown_record_fault
 fault_text (file_fault.TooMany line quantity) = shown_quantity quantity
 fault_text file_fault.OutOfMemory = codes "out of memory\n"
 
--- what is wrong with a model's text, as it is printed, with a blank where a path follows
-abbrev pub model_cause : ModelFault → List ℕ
-model_cause model_fault.Toml = codes "Toml"
-model_cause (model_fault.Missing path) = codes "Missing "
-model_cause (model_fault.Unknown path) = codes "Unknown "
-model_cause (model_fault.Wrong path) = codes "Wrong "
-model_cause (model_fault.Twice path) = codes "Twice "
-model_cause (model_fault.Limit path) = codes "Limit "
-model_cause (model_fault.MandatoryRemoved path) = codes "MandatoryRemoved "
-model_cause (model_fault.NoVersion path) = codes "NoVersion "
-model_cause model_fault.OutOfMemory = codes "OutOfMemory"
-
--- the path to it
-abbrev pub model_path : ModelFault → List ℕ
-model_path model_fault.Toml = []
-model_path (model_fault.Missing path) = path
-model_path (model_fault.Unknown path) = path
-model_path (model_fault.Wrong path) = path
-model_path (model_fault.Twice path) = path
-model_path (model_fault.Limit path) = path
-model_path (model_fault.MandatoryRemoved path) = path
-model_path (model_fault.NoVersion path) = path
-model_path model_fault.OutOfMemory = []
-
 -- the line of a model that is refused
 abbrev pub model_text : ModelFault → List ℕ
-model_text fault = codes "model refused: " ++ (model_cause fault ++ (model_path fault ++ codes "\n"))
+model_text fault = codes "model refused: " ++ (fault_words fault ++ codes "\n")
 
 -- the line of a script that is refused, or of its limit
 abbrev pub script_text : ScriptFault → List ℕ

@@ -2,7 +2,7 @@
 
 ghost use Rattle.std.specs.Prelude.{◌≡◌, ◌≢◌, ◌++◌, codes, IfOk};
 ghost use Rattle.std.specs.Fmt.{decimal};
-ghost use Rattle.ale_host.specs.Ending.{IsPrintable, status_of, text_of, shown_reason, shown_fault, shown_record_fault, shown_quantity, fault_status, fault_text, model_cause, model_path, model_text, script_status, script_text};
+ghost use Rattle.ale_host.specs.Ending.{IsPrintable, status_of, text_of, shown_reason, shown_fault, shown_record_fault, shown_quantity, fault_status, fault_text, model_text, script_status, script_text};
 
 use crate::pass_text::{pass_text, put};
 use ale_base::{Items, OutOfMemory};
@@ -165,46 +165,12 @@ fn line_text(alloc: Global, line: u32) -> Result<Vec<u8>, OutOfMemory>
     Ok(text)
 }
 
-/// The name of a model's fault, and a blank where a path follows.
-fn model_cause(fault: &ModelFault) -> &'static [u8]
-    ensures { result.now ≡ model_cause fault.now }
-{
-    match fault {
-        ModelFault::Toml => b"Toml",
-        ModelFault::Missing(_) => b"Missing ",
-        ModelFault::Unknown(_) => b"Unknown ",
-        ModelFault::Wrong(_) => b"Wrong ",
-        ModelFault::Twice(_) => b"Twice ",
-        ModelFault::Limit(_) => b"Limit ",
-        ModelFault::MandatoryRemoved(_) => b"MandatoryRemoved ",
-        ModelFault::NoVersion(_) => b"NoVersion ",
-        ModelFault::OutOfMemory => b"OutOfMemory",
-    }
-}
-
-/// The path of a model's fault; no bytes where it has none.
-fn model_path(fault: &ModelFault) -> &[u8]
-    ensures { result.now ≡ model_path fault.now }
-{
-    match fault {
-        ModelFault::Toml | ModelFault::OutOfMemory => &[],
-        ModelFault::Missing(path)
-        | ModelFault::Unknown(path)
-        | ModelFault::Wrong(path)
-        | ModelFault::Twice(path)
-        | ModelFault::Limit(path)
-        | ModelFault::MandatoryRemoved(path)
-        | ModelFault::NoVersion(path) => path.as_slice(),
-    }
-}
-
 /// What is printed where the text of a model has this fault.
 fn model_text(alloc: Global, fault: &ModelFault) -> Result<Vec<u8>, OutOfMemory>
     ensures { IfOk result (λ text. text.items ≡ model_text fault.now) }
 {
     let mut text = text_from(alloc, b"model refused: ")?;
-    put(&mut text, model_cause(fault))?;
-    put(&mut text, model_path(fault))?;
+    put(&mut text, fault.words(alloc)?.as_slice())?;
     put(&mut text, b"\n")?;
     Ok(text)
 }

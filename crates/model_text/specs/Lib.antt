@@ -9,6 +9,8 @@ pub mod IdocTypes
 pub mod Model
 pub mod Rules
 pub mod Text
+-- a fault in words
+pub mod Words
 -- what a text says, and no order of checks
 pub mod Says
 -- the elements of a list, each checked

@@ -1,6 +1,10 @@
 //! Why a text is no model.
 
-use ale_base::Items;
+ghost use Rattle.std.specs.Prelude.{◌≡◌, IfOk};
+ghost use Rattle.model_text.specs.Words.{fault_name, fault_path, fault_words};
+
+use ale_base::{Items, OutOfMemory};
+use std::alloc::Global;
 use thiserror::Error;
 
 /// The first fault of a model's text, with the path to it: keys joined by `.`, with the places of elements in brackets,
@@ -34,4 +38,48 @@ pub enum ModelFault {
     /// There was not enough memory.
     #[error("out of memory")]
     OutOfMemory,
+}
+
+impl ModelFault {
+    /// The fault in words: its name, and behind a blank the path where it has one.
+    pub fn words(&self, alloc: Global) -> Result<Vec<u8>, OutOfMemory>
+        ensures { IfOk result (λ words. words.items ≡ fault_words self.now) }
+    {
+        let mut words = Vec::from_slice(alloc, self.name())?;
+        words.extend_from_slice(self.path())?;
+        Ok(words)
+    }
+
+    /// The name of the fault, and a blank where a path follows.
+    fn name(&self) -> &'static [u8]
+        ensures { result.now ≡ fault_name self.now }
+    {
+        match self {
+            ModelFault::Toml => b"Toml",
+            ModelFault::Missing(_) => b"Missing ",
+            ModelFault::Unknown(_) => b"Unknown ",
+            ModelFault::Wrong(_) => b"Wrong ",
+            ModelFault::Twice(_) => b"Twice ",
+            ModelFault::Limit(_) => b"Limit ",
+            ModelFault::MandatoryRemoved(_) => b"MandatoryRemoved ",
+            ModelFault::NoVersion(_) => b"NoVersion ",
+            ModelFault::OutOfMemory => b"OutOfMemory",
+        }
+    }
+
+    /// The path of the fault; no bytes where it has none.
+    fn path(&self) -> &[u8]
+        ensures { result.now ≡ fault_path self.now }
+    {
+        match self {
+            ModelFault::Toml | ModelFault::OutOfMemory => &[],
+            ModelFault::Missing(path)
+            | ModelFault::Unknown(path)
+            | ModelFault::Wrong(path)
+            | ModelFault::Twice(path)
+            | ModelFault::Limit(path)
+            | ModelFault::MandatoryRemoved(path)
+            | ModelFault::NoVersion(path) => path.as_slice(),
+        }
+    }
 }
