@@ -1,5 +1,5 @@
 -- What is known of a file.
-use Rattle.std.specs.Prelude.{◌≡◌, ℕ, List, ⊤}
+use Rattle.std.specs.Prelude.{◌≡◌, ◌<◌, ◌≤◌, ℕ, List, length, ⊤}
 
 -- what a folder tells of a name: nothing, that no file has it, or the file's bytes
 pub data Told : Type 0 where
@@ -18,3 +18,11 @@ abbrev pub MayLack : Told → Type 0
 MayLack untold = ⊤
 MayLack no_file = ⊤
 MayLack (file told) = ⊥
+
+-- as far as it is told, the file has these bytes, within the limit
+abbrev pub IsFileWithin : ℕ → Told → List ℕ → Type 0
+IsFileWithin most told bytes = MayHold told bytes × (length bytes ≤ most)
+
+-- as far as it is told, the file has more bytes than the limit
+abbrev pub IsFileOver : ℕ → Told → Type 0
+IsFileOver most told = (bytes : List ℕ) × MayHold told bytes × (most < length bytes)
