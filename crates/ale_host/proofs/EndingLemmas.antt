@@ -8,7 +8,7 @@ use Rattle.ale_host.specs.declared.ending.Ending.{Ending}
 use Rattle.ale_host.specs.declared.ending.Ending.TheVariants as ending
 use Rattle.ale_host.specs.Inputs.{EndsRun, SaysDocuments, SaysScript, StopsAtDocuments}
 use Rattle.idoc_file.specs.declared.raw_doc.RawDoc.{RawDoc}
-use Rattle.ale_host.specs.declared.inputs.ModelFile.{ModelFile}
+use Rattle.ale_host.specs.declared.inputs.SaidModel.{SaidModel}
 use Rattle.ale_host.specs.declared.prepared.Prepared.{Prepared}
 use Rattle.ale_host.specs.LoadModel.{load_model}
 use Rattle.ale_host.specs.Load as load
@@ -78,7 +78,7 @@ pass-ended name told faults ending.OutOfMemory stops = inl refl
 pass-ended name told faults _ stops = absurd stops
 
 -- what is had of a model with its text, masters and commands
-is-prepared : (file : ModelFile) (documents : List RawDoc) (masters : List RawUnitDoc) (commands : List Command) (prepared : Prepared)
+is-prepared : (file : SaidModel) (documents : List RawDoc) (masters : List RawUnitDoc) (commands : List Command) (prepared : Prepared)
     → arc_value file.names ≡ arc_value file.model → masters ≡ masters_of documents → prepared ≡ prepared_of file masters commands
     → IsPrepared file.text (arc_value file.model) documents commands prepared
 is-prepared file documents masters commands prepared names same is = record {
@@ -90,7 +90,7 @@ is-prepared file documents masters commands prepared names same is = record {
 }
 
 -- what a load has is what its texts say
-pub is-loaded : (count : ℕ) (file : ModelFile) (masters : List RawUnitDoc) (commands : List Command) (prepared : Prepared)
+pub is-loaded : (count : ℕ) (file : SaidModel) (masters : List RawUnitDoc) (commands : List Command) (prepared : Prepared)
     → file.text ≡ load_model → answer_to load_model ≡ Ok (arc_value file.model) → arc_value file.names ≡ arc_value file.model
     → AreMasters (lines_of (load.documents count)) masters → script_of (load.script count) ≡ Ok commands → prepared ≡ prepared_of file masters commands
     → IsLoaded count prepared
@@ -107,7 +107,7 @@ is-loaded count file masters commands prepared text says names are says_commands
 )
 
 -- what a run has is what its three files say
-pub is-read : (told : List ℕ → Told) (file : ModelFile) (masters : List RawUnitDoc) (commands : List Command) (prepared : Prepared)
+pub is-read : (told : List ℕ → Told) (file : SaidModel) (masters : List RawUnitDoc) (commands : List Command) (prepared : Prepared)
     (model documents script : List ℕ)
     → SaysModel (told model) file → SaysMasters (told documents) masters → SaysScript (told script) commands → prepared ≡ prepared_of file masters commands
     → IsRead told model documents script prepared

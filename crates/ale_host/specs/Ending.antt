@@ -1,7 +1,7 @@
 -- How a call ends that is no run: why it ends so, with which status, and what it prints.
-use Rattle.std.specs.Prelude.{◌≡◌, ℕ, ◌≤◌, ◌⊎◌, List, [], ◌++◌, length, codes, Some, None, ⊤}
+use Rattle.std.specs.Prelude.{◌≡◌, ℕ, ◌≤◌, ◌⊎◌, List, ◌++◌, length, codes, Some, None, ⊤}
 use Rattle.std.specs.Fmt.{decimal}
-use Rattle.ale_io.specs.Told.{Told}
+use Rattle.ale_io.specs.Told.{Told, IsFileWithin}
 use Rattle.ale_host.specs.declared.words.Form.TheVariants.{Pass, Run, Load}
 use Rattle.model_text.specs.declared.fault.ModelFault.{ModelFault}
 use Rattle.model_text.specs.Words.{fault_words}
@@ -22,7 +22,7 @@ use Rattle.idoc_file.specs.declared.reader.TheConstants.Reader.{MOST_BYTES}
 use Rattle.idoc_file.specs.declared.documents.TheConstants.{MAX_DOCUMENTS}
 use Rattle.ale_base.specs.Lines.{lines_of}
 use Rattle.idoc_file.specs.DocumentFile.{AreDocuments, IsFirstBad}
-use Rattle.ale_host.specs.Inputs.{EndsRun, IsFileWithin, IsUnread}
+use Rattle.ale_host.specs.Inputs.{EndsRun, IsUnread}
 use Rattle.ale_host.specs.Words.{form_of, document_file, documents_file, model_file, script_file}
 use Rattle.ale_host.specs.Loading.{EndsLoad}
 use Rattle.ale_host.specs.PassText.{pass_text}

@@ -1,7 +1,7 @@
 -- What `run` reads: a model, documents and a script, each from a file of its own, in this order. The first file that is not
 -- read, or says nothing that is built on, ends the run.
-use Rattle.std.specs.Prelude.{◌≡◌, ◌≢◌, ℕ, ◌<◌, ◌≤◌, ◌⊎◌, List, length, Ok, Err, ⊤}
-use Rattle.ale_io.specs.Told.{Told, MayHold, MayLack}
+use Rattle.std.specs.Prelude.{◌≡◌, ◌≢◌, ℕ, ◌⊎◌, List, Ok, Err, ⊤}
+use Rattle.ale_io.specs.Told.{Told, MayLack, IsFileWithin, IsFileOver}
 use Rattle.ale_io.specs.declared.file_end.FileEnd.{FileEnd}
 use Rattle.ale_io.specs.declared.file_end.FileEnd.TheVariants as file_end
 use Rattle.ale_base.specs.Lines.{lines_of}
@@ -9,9 +9,10 @@ use Rattle.idoc_file.specs.declared.raw_doc.RawDoc.{RawDoc}
 use Rattle.idoc_file.specs.declared.reader.TheConstants.Reader.{MOST_BYTES}
 use Rattle.idoc_file.specs.DocumentFile.{AreDocuments, IsFirstBad}
 use Rattle.dist_model.specs.declared.lists.Lists.{Lists}
-use Rattle.model_text.specs.declared.fault.ModelFault.TheVariants as model_fault
 use Rattle.model_text.specs.declared.reading.TheConstants as model
-use Rattle.model_text.specs.Text.{answer_to}
+use Rattle.model_files.specs.declared.end.ModelFileEnd.{ModelFileEnd}
+use Rattle.model_files.specs.declared.end.ModelFileEnd.TheVariants as model_end
+use Rattle.model_files.specs.ModelFile.{SaysModelFile, SaysNoModel}
 use Rattle.script_text.specs.declared.command.Command.{Command}
 use Rattle.script_text.specs.declared.fault.ScriptFault.TheVariants as script_fault
 use Rattle.script_text.specs.declared.script.TheConstants as script
@@ -21,14 +22,10 @@ use Rattle.ale_host.specs.declared.ending.NotRead.TheVariants.{Missing, TooLong,
 use Rattle.ale_host.specs.declared.ending.Ending.{Ending}
 use Rattle.ale_host.specs.declared.ending.Ending.TheVariants as ending
 
--- as far as it is told, a file has these bytes, which are not more than the limit
-abbrev pub IsFileWithin : ℕ → Told → List ℕ → Type 0
-IsFileWithin most told bytes = MayHold told bytes × (length bytes ≤ most)
-
 -- why a file of this limit is not read; faults is that a fault of the files came in this call
 abbrev pub EndsUnread : ℕ → Told → Type 0 → NotRead → Type 0
 EndsUnread most told faults Missing = MayLack told
-EndsUnread most told faults TooLong = (bytes : List ℕ) × MayHold told bytes × (most < length bytes)
+EndsUnread most told faults TooLong = IsFileOver most told
 EndsUnread most told faults Failed = faults
 
 -- a file of this name and limit is not read
@@ -36,14 +33,13 @@ abbrev pub IsUnread : ℕ → List ℕ → Told → Type 0 → List ℕ → NotR
 IsUnread most name told faults its_name why = (its_name ≡ name) × EndsUnread most told faults why
 
 -- the file says this model
-abbrev pub SaysModelFile : Told → Lists → Type 0
-SaysModelFile told lists = (bytes : List ℕ) × IsFileWithin model.MAX_BYTES told bytes × (answer_to bytes ≡ Ok lists)
+abbrev pub SaysLists : Told → Lists → Type 0
+SaysLists told lists = (text : List ℕ) × SaysModelFile told text lists
 
 -- the run ends at the file of the model
 abbrev pub StopsAtModel : List ℕ → Told → Type 0 → Ending → Type 0
 StopsAtModel name told faults (ending.Unread its_name why) = IsUnread model.MAX_BYTES name told faults its_name why
-StopsAtModel name told faults (ending.ModelRefused fault) = (fault ≢ model_fault.OutOfMemory)
-    × ((bytes : List ℕ) × IsFileWithin model.MAX_BYTES told bytes × (answer_to bytes ≡ Err fault))
+StopsAtModel name told faults (ending.ModelRefused fault) = SaysNoModel told fault
 StopsAtModel name told faults ending.OutOfMemory = ⊤
 StopsAtModel name told faults _ = ⊥
 
@@ -83,7 +79,7 @@ EndsBehindModel told faults documents script end =
 -- why `run` of files of these names ends at one of them: the first in order that stops it
 abbrev pub EndsRun : (List ℕ → Told) → Type 0 → List ℕ → List ℕ → List ℕ → Ending → Type 0
 EndsRun told faults model documents script end =
-    StopsAtModel model (told model) faults end ⊎ ((lists : Lists) × SaysModelFile (told model) lists × EndsBehindModel told faults documents script end)
+    StopsAtModel model (told model) faults end ⊎ ((lists : Lists) × SaysLists (told model) lists × EndsBehindModel told faults documents script end)
 
 -- ---- what only private functions cite
 
@@ -105,3 +101,11 @@ IsUnreadSo name file_end.Missing end = IsUnreadBecause name Missing end
 IsUnreadSo name file_end.TooLong end = IsUnreadBecause name TooLong end
 IsUnreadSo name file_end.Failed end = IsUnreadBecause name Failed end
 IsUnreadSo name file_end.OutOfMemory end = end ≡ ending.OutOfMemory
+
+-- the same of the answer of a read of a model
+abbrev pub IsNoModelSo : List ℕ → ModelFileEnd → Ending → Type 0
+IsNoModelSo name model_end.Missing end = IsUnreadBecause name Missing end
+IsNoModelSo name model_end.TooLong end = IsUnreadBecause name TooLong end
+IsNoModelSo name model_end.Failed end = IsUnreadBecause name Failed end
+IsNoModelSo name (model_end.Refused fault) end = end ≡ ending.ModelRefused fault
+IsNoModelSo name model_end.OutOfMemory end = end ≡ ending.OutOfMemory

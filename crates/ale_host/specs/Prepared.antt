@@ -1,7 +1,7 @@
 -- What a run has from its files; only private functions cite this.
 use Rattle.std.specs.Prelude.{◌≡◌, ◌⊎◌, ℕ, List, Ok}
 use Rattle.std.specs.Arc.{arc_value}
-use Rattle.ale_io.specs.Told.{Told}
+use Rattle.ale_io.specs.Told.{Told, IsFileWithin}
 use Rattle.dist_model.specs.declared.lists.Lists.{Lists}
 use Rattle.idoc_file.specs.declared.raw_doc.RawDoc.{RawDoc}
 use Rattle.idoc_file.specs.DocumentFile.{AreDocuments}
@@ -9,9 +9,9 @@ use Rattle.model_text.specs.declared.reading.TheConstants as text_limit
 use Rattle.model_text.specs.Text.{answer_to}
 use Rattle.script_text.specs.declared.command.Command.{Command}
 use Rattle.unit_core.specs.declared.raw_unit_doc.RawUnitDoc.{RawUnitDoc}
-use Rattle.ale_host.specs.declared.inputs.ModelFile.{ModelFile}
+use Rattle.ale_host.specs.declared.inputs.SaidModel.{SaidModel}
 use Rattle.ale_host.specs.declared.prepared.Prepared.{Prepared}
-use Rattle.ale_host.specs.Inputs.{IsFileWithin, SaysDocuments}
+use Rattle.ale_host.specs.Inputs.{SaysDocuments}
 use Rattle.ale_host.specs.declared.ending.Ending.{Ending}
 use Rattle.ale_host.specs.declared.ending.Ending.TheVariants as ending
 use Rattle.ale_host.specs.LoadModel.{load_model}
@@ -28,7 +28,7 @@ pub record IsPrepared (text : List ℕ) (model : Lists) (documents : List RawDoc
   pub commands_are : prepared.commands ≡ commands
 
 -- the text of the model is that of its file, as far as it is told, and says it
-pub record SaysModel (told : Told) (file : ModelFile) : Type 0 where
+pub record SaysModel (told : Told) (file : SaidModel) : Type 0 where
   pub in_file : IsFileWithin text_limit.MAX_BYTES told file.text
   pub says : answer_to file.text ≡ Ok (arc_value file.model)
   pub names_are : arc_value file.names ≡ arc_value file.model
@@ -42,7 +42,7 @@ abbrev pub AreMasters : List (List ℕ) → List RawUnitDoc → Type 0
 AreMasters lines masters = (documents : List RawDoc) × AreDocuments lines documents × (masters ≡ masters_of documents)
 
 -- what a run has of a model with its text, masters and commands
-abbrev pub prepared_of : ModelFile → List RawUnitDoc → List Command → Prepared
+abbrev pub prepared_of : SaidModel → List RawUnitDoc → List Command → Prepared
 prepared_of file masters commands = record {
   text = file.text;
   model = file.model;

@@ -1,11 +1,10 @@
 -- How `run` ends whose files were read: the systems are opened over the volumes, the commands are carried out, and the text of each is
 -- put. This project's own.
-use Rattle.std.specs.Prelude.{◌≡◌, ◌⊎◌, ⊤, ℕ, ◌-◌, ◌≤◌, ◌<◌, List, [], ◌∷◌, ◌++◌, Some, Ok, length, map, codes}
+use Rattle.std.specs.Prelude.{◌≡◌, ◌⊎◌, ⊤, ℕ, ◌-◌, ◌≤◌, List, [], ◌∷◌, ◌++◌, Some, Ok, length, map, codes}
 use Rattle.std.specs.Arc.{arc_value}
 use Rattle.ale_base.specs.Tid.{TidOf}
-use Rattle.ale_io.specs.Told.{Told}
+use Rattle.ale_io.specs.Told.{Told, IsFileWithin}
 use Rattle.ale_volumes.specs.Disk.{Disk}
-use Rattle.ale_volumes.specs.declared.volume.Volume.{Volume as OneVolume}
 use Rattle.idoc_file.specs.declared.raw_doc.RawDoc.{RawDoc}
 use Rattle.dist_model.specs.declared.lists.Lists.{Lists}
 use Rattle.model_text.specs.declared.reading.TheConstants as text_limit
@@ -43,7 +42,7 @@ use Rattle.ale_host.specs.Refusals.{refusal_of}
 use Rattle.ale_host.specs.declared.running.Report.{Report}
 use Rattle.ale_host.specs.declared.running.Report.TheVariants as report
 use Rattle.ale_host.specs.declared.words.Form.TheVariants.{Load, Run as RunForm}
-use Rattle.ale_host.specs.Inputs.{IsFileWithin, SaysDocuments, SaysScript}
+use Rattle.ale_host.specs.Inputs.{SaysDocuments, SaysScript}
 use Rattle.ale_host.specs.Loading.{LoadSays, load_line}
 use Rattle.ale_host.specs.Words.{form_of, documents_file, model_file, script_file}
 

@@ -5,10 +5,11 @@ ghost use Rattle.std.specs.Arc.{arc_value};
 ghost use Rattle.std.specs.Result.{result_err};
 ghost use Rattle.ale_base.specs.Faults.{Rose};
 ghost use Rattle.idoc_file.specs.declared.file_fault.FileFault.{FileFault};
+ghost use Rattle.ale_io.specs.Told.{IsFileWithin};
 ghost use Rattle.ale_host.specs.declared.ending.Ending.{Ending};
 ghost use Rattle.ale_host.specs.Reads.{ReadsOnly};
 ghost use Rattle.ale_host.specs.Prepared.{SaysMasters, SaysModel};
-ghost use Rattle.ale_host.specs.Inputs.{IsFileWithin, IsUnreadBecause, IsUnreadEnd, IsUnreadSo, SaysDocuments, SaysScript, StopsAtDocuments, StopsAtModel, StopsAtScript};
+ghost use Rattle.ale_host.specs.Inputs.{IsNoModelSo, IsUnreadBecause, IsUnreadEnd, IsUnreadSo, SaysDocuments, SaysScript, StopsAtDocuments, StopsAtModel, StopsAtScript};
 
 use crate::document_file::read_document_file;
 use crate::ending::{Ending, NotRead};
@@ -17,7 +18,7 @@ use ale_base::{Items, OutOfMemory};
 use ale_io::{FileEnd, Files};
 use dist_model::Model;
 use idoc_file::{FileFault, RawDoc};
-use model_text::ModelFault;
+use model_files::{ModelFile, ModelFileEnd};
 use script_text::{Command, ScriptFault};
 use std::alloc::Global;
 use std::sync::Arc;
@@ -25,7 +26,7 @@ use unit_core::RawUnitDoc;
 
 /// A model, and the text that says it.
 #[derive(Drop)]
-pub(crate) struct ModelFile {
+pub(crate) struct SaidModel {
     /// The text.
     pub(crate) text: Items<u8>,
     /// The model, by which systems work.
@@ -34,23 +35,14 @@ pub(crate) struct ModelFile {
     pub(crate) names: Arc<Model>,
 }
 
-/// A model with two owners.
-#[derive(Drop)]
-pub(crate) struct SharedModel {
-    /// That of the one who works by it.
-    pub(crate) model: Arc<Model>,
-    /// That of the one who tells names.
-    pub(crate) names: Arc<Model>,
-}
-
-/// A model with two owners.
-pub(crate) fn shared(alloc: Global, model: Model) -> Result<SharedModel, OutOfMemory>
-    ensures model { IfOk result (λ it. arc_value it.model ≡ model) }
-    ensures names { IfOk result (λ it. arc_value it.names ≡ model) }
+/// A model and its text, with a second owner of the model.
+pub(crate) fn with_names(text: Items<u8>, model: Arc<Model>) -> Result<SaidModel, OutOfMemory>
+    ensures text { IfOk result (λ said. said.text ≡ text) }
+    ensures model { IfOk result (λ said. arc_value said.model ≡ arc_value model) }
+    ensures names { IfOk result (λ said. arc_value said.names ≡ arc_value model) }
 {
-    let model = Arc::new(alloc, model)?;
     let names = Arc::try_clone(&model)?;
-    Ok(SharedModel { model, names })
+    Ok(SaidModel { text, model, names })
 }
 
 /// The model that the file of this name says, with its text, or the ending of the run at this file.
@@ -58,23 +50,17 @@ pub(crate) fn read_model<F: Files>(
     alloc: Global,
     name: &str,
     files: &mut F,
-) -> Result<ModelFile, Ending>
+) -> Result<SaidModel, Ending>
     ensures says { IfOk result (SaysModel (F.told files.old name.now)) }
     ensures stops { IfErr result (StopsAtModel name.now (F.told files.old name.now) (Rose (F.faults files.old) (F.faults files.new))) }
     ensures only { ReadsOnly (F.told files.old) (F.told files.new) (F.faults files.old) (F.faults files.new) (result_err result) }
 {
-    let bytes = read_whole(alloc, name, model_text::MAX_BYTES, files)?;
-    match model_text::read(alloc, bytes.as_slice()) {
-        Ok(model) => match shared(alloc, model) {
-            Ok(SharedModel { model, names }) => Ok(ModelFile {
-                text: Items::from_vec(bytes),
-                model,
-                names,
-            }),
+    match model_files::read(alloc, name, files) {
+        Err(end) => Err(no_model(alloc, name, end)),
+        Ok(ModelFile { text, model }) => match with_names(text, model) {
+            Ok(said) => Ok(said),
             Err(OutOfMemory) => Err(Ending::OutOfMemory),
         },
-        Err(ModelFault::OutOfMemory) => Err(Ending::OutOfMemory),
-        Err(fault) => Err(Ending::ModelRefused(fault)),
     }
 }
 
@@ -175,6 +161,19 @@ fn unread(alloc: Global, name: &str, end: FileEnd) -> Ending
         FileEnd::TooLong => unread_because(alloc, name, NotRead::TooLong),
         FileEnd::Failed => unread_because(alloc, name, NotRead::Failed),
         FileEnd::OutOfMemory => Ending::OutOfMemory,
+    }
+}
+
+/// The ending where no model was read of the file of this name.
+fn no_model(alloc: Global, name: &str, end: ModelFileEnd) -> Ending
+    ensures { IsNoModelSo name.now end result }
+{
+    match end {
+        ModelFileEnd::Missing => unread_because(alloc, name, NotRead::Missing),
+        ModelFileEnd::TooLong => unread_because(alloc, name, NotRead::TooLong),
+        ModelFileEnd::Failed => unread_because(alloc, name, NotRead::Failed),
+        ModelFileEnd::Refused(fault) => Ending::ModelRefused(fault),
+        ModelFileEnd::OutOfMemory => Ending::OutOfMemory,
     }
 }
 

@@ -14,7 +14,7 @@ ghost use Rattle.ale_host.specs.Loading.{EndsLoad, load_line};
 ghost use Rattle.ale_host.specs.Prepared.{AreMasters, IsLoaded};
 
 use crate::ending::Ending;
-use crate::inputs::{ModelFile, SharedModel, refused, shared};
+use crate::inputs::{SaidModel, refused, with_names};
 use crate::load_documents::load_documents;
 use crate::load_model::load_model;
 use crate::load_script::load_script;
@@ -28,6 +28,7 @@ use landscape::Counts;
 use model_text::ModelFault;
 use script_text::{Command, ScriptFault};
 use std::alloc::Global;
+use std::sync::Arc;
 use unit_core::RawUnitDoc;
 
 /// What a load of so many masters has from its texts, or how it ends at one of them.
@@ -43,7 +44,7 @@ pub(crate) fn read_load(alloc: Global, masters: u32) -> Result<Prepared, Ending>
 }
 
 /// What a load of so many masters has where its model was read; or how it ends at its documents or its script.
-fn read_behind_model(alloc: Global, masters: u32, said: ModelFile) -> Result<Prepared, Ending>
+fn read_behind_model(alloc: Global, masters: u32, said: SaidModel) -> Result<Prepared, Ending>
     requires masters { masters ≤ MAX_MASTERS }
     requires text { said.text ≡ load_model }
     requires says { answer_to load_model ≡ Ok (arc_value said.model) }
@@ -61,7 +62,7 @@ fn read_behind_model(alloc: Global, masters: u32, said: ModelFile) -> Result<Pre
 }
 
 /// The model of a load.
-fn said_model(alloc: Global) -> Result<ModelFile, Ending>
+fn said_model(alloc: Global) -> Result<SaidModel, Ending>
     ensures text { IfOk result (λ file. file.text ≡ load_model) }
     ensures says { IfOk result (λ file. answer_to load_model ≡ Ok (arc_value file.model)) }
     ensures names { IfOk result (λ file. arc_value file.names ≡ arc_value file.model) }
@@ -78,14 +79,14 @@ fn said_model(alloc: Global) -> Result<ModelFile, Ending>
 }
 
 /// The model of a load, with its text.
-fn with_text(alloc: Global, model: Model) -> Result<ModelFile, OutOfMemory>
+fn with_text(alloc: Global, model: Model) -> Result<SaidModel, OutOfMemory>
     ensures text { IfOk result (λ file. file.text ≡ load_model) }
     ensures model { IfOk result (λ file. arc_value file.model ≡ model) }
     ensures names { IfOk result (λ file. arc_value file.names ≡ model) }
 {
-    let SharedModel { model, names } = shared(alloc, model)?;
     let text = Items::from_slice(alloc, load_model())?;
-    Ok(ModelFile { text, model, names })
+    let model = Arc::new(alloc, model)?;
+    with_names(text, model)
 }
 
 /// The masters of a load.

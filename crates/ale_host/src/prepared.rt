@@ -4,7 +4,7 @@ ghost use Rattle.std.specs.Prelude.{◌≡◌, IfOk};
 ghost use Rattle.ale_host.specs.Running.{masters_of};
 ghost use Rattle.ale_host.specs.Prepared.{prepared_of};
 
-use crate::inputs::ModelFile;
+use crate::inputs::SaidModel;
 use ale_base::{Items, OutOfMemory};
 use dist_model::Model;
 use idoc_file::RawDoc;
@@ -29,13 +29,13 @@ pub(crate) struct Prepared {
 
 /// What a run has from its files, which say this.
 pub(crate) fn prepared_from(
-    said: ModelFile,
+    said: SaidModel,
     masters: Items<RawUnitDoc>,
     commands: Items<Command>,
 ) -> Prepared
     ensures { result ≡ prepared_of said masters commands }
 {
-    let ModelFile { text, model, names } = said;
+    let SaidModel { text, model, names } = said;
     let inputs = Inputs {
         model: names,
         masters,

@@ -5,7 +5,7 @@ use Rattle.said_models.specs.Said.{said}
 use Rattle.ale_base.specs.Faults.{Rose}
 use Rattle.ale_host.specs.Ending.{status_of, text_of}
 use Rattle.ale_host.specs.Running.{masters_of}
-use Rattle.ale_host.proofs.EndingLemmas.{ends-as, ends-printable, quiet-as, quiet-early}
+use Rattle.ale_host.proofs.EndingLemmas.{ends-as, quiet-as, quiet-early}
 use Rattle.ale_host.proofs.OneEnding.{one_ending}
 use Rattle.ale_host.proofs.RunningLemmas.{asks-said, asks-short, runs-said, said-of}
 use Rattle.ale_host.proofs.host.aleflow.Goals as goal

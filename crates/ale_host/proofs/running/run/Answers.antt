@@ -1,5 +1,5 @@
 use Rattle.std.specs.Arc.{arc_value}
-use Rattle.std.proofs.Common.{[], Some, length, zero-le, inl, refl, sym, subst, ◌∙◌}
+use Rattle.std.proofs.Common.{[], zero-le, inl, refl, sym, subst, ◌∙◌}
 use Rattle.dist_model.specs.declared.lists.Lists.{Lists}
 use Rattle.ale_volumes.specs.Disk.{Disk}
 use Rattle.ale_host.specs.declared.running.Report.TheVariants.{Commands, Counts}
