@@ -2,7 +2,7 @@
 use Rattle.std.specs.Prelude.{if◌then◌else◌, is_none, nat_le, slice_get}
 use Rattle.std.specs.List.{list_all}
 use Rattle.std.specs.Option.{option_map_or}
-use Rattle.std.proofs.Common.{◌≡◌, ℕ, ◌≤◌, Bool, true, false, Option, Some, None, Ok, Err, List, [], ◌∷◌, length, refl, sym, ap, subst, ◌∙◌, arith}
+use Rattle.std.proofs.Common.{◌≡◌, ℕ, ◌≤◌, Bool, true, false, not, Option, Some, None, Ok, Err, List, [], ◌∷◌, length, refl, sym, ap, subst, ◌∙◌, arith}
 use Rattle.std.proofs.lemmas.Bool.{and_from}
 use Rattle.std.proofs.lemmas.Bool.Decides.{nat_tests}
 use Rattle.std.proofs.lemmas.Option.{same_Some}
@@ -12,11 +12,15 @@ use Rattle.dist_model.specs.declared.message.Message.{Message}
 use Rattle.dist_model.specs.Model.{IsModel, message_named}
 use Rattle.unit_core.specs.declared.raw_unit_doc.RawUnitDoc.{RawUnitDoc}
 use Rattle.unit_core.specs.declared.records.Record.{Record}
-use Rattle.unit_core.specs.declared.records.Record.TheVariants.{Commit, Dispatch, Put, App, Repost}
-use Rattle.said_models.specs.OfLog.{model_of}
+use Rattle.unit_core.specs.declared.records.Record.TheVariants.{Commit, Dispatch, Put, App, Repost, Model}
+use Rattle.model_growth.specs.declared.growth.Unkept.{Unkept}
+use Rattle.model_growth.specs.Growth.{first_unkept}
+use Rattle.model_growth.specs.Paths.{path_of}
+use Rattle.said_models.specs.Said.{said}
+use Rattle.said_models.specs.OfLog.{differs, model_of}
 use Rattle.status_log.specs.declared.refusal.Refusal.{Refusal}
 use Rattle.status_log.specs.declared.refusal.Refusal.TheVariants as refusal
-use Rattle.status_log.specs.declared.refusal.Refusal.TheVariants.{N3, N4, N8, N11, N12}
+use Rattle.status_log.specs.declared.refusal.Refusal.TheVariants.{N3, N4, N8, N11, N12, N13, N15}
 use Rattle.change_pointers.specs.Master.{MakesDocuments}
 use Rattle.application_rules.specs.declared.commits.TheConstants.{MOST_SEGMENTS}
 use Rattle.application_rules.specs.declared.fault.MasterFault.{MasterFault}
@@ -27,9 +31,9 @@ use Rattle.application_rules.specs.Commits.{are_of, may_be_committed, may_commit
 use Rattle.application_rules.specs.Puts.{may_put}
 use Rattle.application_rules.proofs.FollowLemmas.{gathered-may}
 use Rattle.document_state.specs.OfLog.{applied_by}
-use Rattle.document_state.specs.Allowed.{allowed_under, has_room, stands_at, waits_any}
-use Rattle.landscape.specs.Asked.{Asked, asked_app, asked_dispatch, asked_gather, asked_pass, asked_put, asked_repost, asked_send, gathered_for}
-use Rattle.landscape.specs.Asked.{gathered_or_none, has_inbound, sent_or_refused, units_with, with_room}
+use Rattle.document_state.specs.Allowed.{allowed_under, has_room, may_replace, stands_at, waits_any}
+use Rattle.landscape.specs.Asked.{Asked, asked_app, asked_dispatch, asked_gather, asked_model, asked_pass, asked_put, asked_repost, asked_send, gathered_for}
+use Rattle.landscape.specs.Asked.{gathered_or_none, has_inbound, sent_or_refused, units_with, waiting_in, with_room}
 
 -- a command asks for this record
 abbrev pub Gives : Asked → Record → Type 0
@@ -175,3 +179,27 @@ module _ (log : List Record) (model : Lists) (is : model_of log ≡ Some model) 
   repost-may doc next gives =
       let parts = pass-may (Repost (record { 0 = doc })) next 51 doc gives in
       subst (λ one. allowed_under log model one ≡ true) parts.1 parts.0
+
+  -- a model may come into force that keeps what runs, where no document waits
+  pub model-may : (new : Lists) (text : List ℕ) (next : Record) → said text ≡ Some new → Gives (asked_model log new text) next
+      → allowed_under log model next ≡ true
+  model-may new text next says gives =
+      let asks = λ (found : Option Unkept). option_map_or (λ part. Err (N15 (path_of part))) found (if waits_any log then Err (N13 (waiting_in log)) else
+      Ok (Some (Model text))) in
+      let parts = passed (differs text log) (asks (first_unkept model new)) (Ok None) next (no-none next)
+      (under (λ m. if differs text log then asks (first_unkept m new) else Ok None) next gives) in
+      keeps (first_unkept model new) refl parts.1
+    where
+      waits : first_unkept model new ≡ None → (b : Bool) → waits_any log ≡ b
+          → Gives (if b then Err (N13 (waiting_in log)) else Ok (Some (Model text))) next → allowed_under log model next ≡ true
+      waits kept true is gives = absurd (no-refusal (N13 (waiting_in log)) next gives)
+      waits kept false is gives =
+          subst (λ one. allowed_under log model one ≡ true) (given (Model text) next gives)
+          (and_from (not (waits_any log)) (may_replace model text) (ap not is)
+          (ap (λ found. option_map_or (λ n. is_none (first_unkept model n)) found false) says ∙ ap is_none kept))
+
+      keeps : (found : Option Unkept) → first_unkept model new ≡ found
+          → Gives (option_map_or (λ part. Err (N15 (path_of part))) found (if waits_any log then Err (N13 (waiting_in log)) else Ok (Some (Model text)))) next
+          → allowed_under log model next ≡ true
+      keeps (Some part) is gives = absurd (no-refusal (N15 (path_of part)) next gives)
+      keeps None is gives = waits is (waits_any log) refl gives

@@ -17,7 +17,7 @@ use Rattle.status_log.specs.declared.refusal.Refusal.TheVariants as refusal
 use Rattle.trfc_protocol.specs.declared.event.Event.{Event}
 use Rattle.trfc_protocol.specs.declared.event.Event.TheVariants as event
 use Rattle.trfc_protocol.specs.declared.world.World.{World}
-use Rattle.trfc_protocol.specs.Legal.{is_commit, may_follow, may_follow_others}
+use Rattle.trfc_protocol.specs.Legal.{is_commit, is_model, may_follow, may_follow_others}
 use Rattle.trfc_protocol.specs.RecordOf.{record_of, record_if}
 use Rattle.trfc_protocol.specs.Worlds.{is_up, log_of}
 use Rattle.unit_landscape.specs.declared.append_end.AppendEnd.{AppendEnd}
@@ -37,15 +37,18 @@ use Rattle.document_state.specs.OfLog.{added_behind}
 use Rattle.document_state.specs.declared.model_rules.ModelRules.{ModelRules}
 use Rattle.document_state.specs.Allowed.{allowed, allowed_under}
 use Rattle.document_state.specs.LawfulLemmas.{committed-push}
+use Rattle.landscape.specs.declared.wanted.Brings.{Brings}
 use Rattle.landscape.specs.declared.wanted.Changes.{Changes}
 use Rattle.landscape.specs.declared.wanted.Commits.{Commits}
 use Rattle.landscape.specs.Asked.{Asked}
 use Rattle.landscape.specs.steps.Judged.{IsOrNone, IsWanted, JudgedAs, JudgedChanges, JudgedCommits, JudgedCommitsOrNone, WantsChanges, WantsCommits}
+use Rattle.landscape.specs.steps.Judged.{JudgedModelOrNone}
 use Rattle.landscape.specs.steps.Judged.{is_applications}
 use Rattle.landscape.specs.declared.counts.Gathered.{Gathered}
 use Rattle.landscape.specs.Carried.{CarriedAs, DiskAsked, asked_at, counts_asked, counts_of}
 use Rattle.landscape.specs.Standing.{StandAt}
 use Rattle.landscape.specs.steps.Ready.{AsksChanges, AsksCommits, EndedAs, FailedAs, IsAsked, ReadyChanges, ReadyCommits, ReadyCommitsOrNone, ended_of}
+use Rattle.landscape.specs.steps.Ready.{ReadyModelOrNone}
 use Rattle.landscape.proofs.BegunLemmas.{meaning, is_lawful}
 
 -- ---- what is asked for is ready
@@ -104,16 +107,31 @@ module _ (world : World ModelRules) (system : ℕ) where
         lifted (WantsCommits (log_of world system) (asked (log_of world system))) (AsksCommits world system (asked_at world system asked))
         (λ wanted wants. is-asked is_commit wanted.next (made.Sent wanted.added) wants) judged is
 
+    -- the same of one that may ask for nothing
+    or_none : {W : Type 0} (kind : Record → Bool) (next : W → Record) (made : W → Made) (judged : Result (Option W) Refusal)
+        → JudgedAs (IsOrNone (λ (wanted : W). IsWanted (log_of world system) (asked (log_of world system)) kind (next wanted) (made wanted))
+        (asked (log_of world system))) (asked (log_of world system)) judged
+        → JudgedAs (IsOrNone (λ (wanted : W). IsAsked world system (asked_at world system asked) kind (next wanted) (made wanted))
+        (asked_at world system asked)) (asked_at world system asked) judged
+    or_none {W = W} kind next made judged is =
+        lifted (IsOrNone (λ (wanted : W). IsWanted (log_of world system) (asked (log_of world system)) kind (next wanted) (made wanted))
+        (asked (log_of world system)))
+        (IsOrNone (λ (wanted : W). IsAsked world system (asked_at world system asked) kind (next wanted) (made wanted)) (asked_at world system asked))
+        each judged is
+      where
+        each : (wanted : Option W)
+            → IsOrNone (λ (one : W). IsWanted (log_of world system) (asked (log_of world system)) kind (next one) (made one)) (asked (log_of world system)) wanted
+            → IsOrNone (λ (one : W). IsAsked world system (asked_at world system asked) kind (next one) (made one)) (asked_at world system asked) wanted
+        each None none = asked-up asked stand.up ∙ none
+        each (Some wanted) wants = is-asked kind (next wanted) (made wanted) wants
+
     pub commits_or_none-ready : (judged : Result (Option Commits) Refusal) → JudgedCommitsOrNone (log_of world system) (asked (log_of world system)) judged
         → ReadyCommitsOrNone world system (asked_at world system asked) judged
-    commits_or_none-ready judged is =
-        lifted (IsOrNone (WantsCommits (log_of world system) (asked (log_of world system))) (asked (log_of world system)))
-        (IsOrNone (AsksCommits world system (asked_at world system asked)) (asked_at world system asked)) each judged is
-      where
-        each : (wanted : Option Commits) → IsOrNone (WantsCommits (log_of world system) (asked (log_of world system))) (asked (log_of world system)) wanted
-            → IsOrNone (AsksCommits world system (asked_at world system asked)) (asked_at world system asked) wanted
-        each None none = asked-up asked stand.up ∙ none
-        each (Some wanted) wants = is-asked is_commit wanted.next (made.Sent wanted.added) wants
+    commits_or_none-ready = or_none is_commit (λ (wanted : Commits). wanted.next) (λ (wanted : Commits). made.Sent wanted.added)
+
+    pub model_or_none-ready : (judged : Result (Option Brings) Refusal) → JudgedModelOrNone (log_of world system) (asked (log_of world system)) judged
+        → ReadyModelOrNone world system (asked_at world system asked) judged
+    model_or_none-ready = or_none is_model (λ (wanted : Brings). wanted.next) (λ (wanted : Brings). made.Brought (Some wanted.model))
 
     pub changes-ready : (judged : Result Changes Refusal) → JudgedChanges (log_of world system) (asked (log_of world system)) judged
         → ReadyChanges world system (asked_at world system asked) judged

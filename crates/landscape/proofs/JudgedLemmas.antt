@@ -1,13 +1,13 @@
 -- How what a command asks for comes about, by the model in force and what was found under it.
 use Rattle.std.specs.Prelude.{if◌then◌else◌, nat_le, nat_lt, slice_get, Ok, Err}
 use Rattle.std.specs.List.{filter_map}
-use Rattle.std.specs.Option.{option_map_or}
-use Rattle.std.proofs.Common.{◌≡◌, inl, inr, ℕ, zero, suc, ◌+◌, ◌≤◌, ◌<◌, true, false, Option, Some, None, List, [], ◌∷◌, length, refl, sym, ap, subst, ◌∙◌}
+use Rattle.std.specs.Option.{option_and_then, option_map, option_map_or}
+use Rattle.std.proofs.Common.{◌≡◌, ◌≢◌, inl, inr, ℕ, zero, suc, ◌+◌, ◌≤◌, ◌<◌, Bool, true, false, Option, Some, None, List, [], ◌∷◌, length, refl, sym, ap, subst, ◌∙◌}
 use Rattle.std.proofs.Common.{arith}
 use Rattle.std.proofs.lemmas.Bool.Decides.{nat_tests}
 use Rattle.std.proofs.lemmas.List.{length-map}
 use Rattle.std.proofs.lemmas.List.Elements.{All-contains, All-from_recursion}
-use Rattle.std.proofs.lemmas.Option.{slice_get_within}
+use Rattle.std.proofs.lemmas.Option.{same_Some, slice_get_within}
 use Rattle.ale_base.proofs.ListLemmas.{AllByRecursion-at, AllByRecursion-of, slice_get-within}
 use Rattle.ale_base.specs.declared.tid.TheConstants.Tid.{MAX_UNIT}
 use Rattle.dist_model.specs.declared.lists.Lists.{Lists}
@@ -17,14 +17,17 @@ use Rattle.dist_model.specs.Model.{IsModel, message_named}
 use Rattle.dist_model.proofs.LookupLemmas.{message-named}
 use Rattle.unit_core.specs.declared.raw_unit_doc.RawUnitDoc.{RawUnitDoc}
 use Rattle.unit_core.specs.declared.records.Record.{Record}
-use Rattle.unit_core.specs.declared.records.Record.TheVariants.{Commit, Dispatch}
+use Rattle.unit_core.specs.declared.records.Record.TheVariants.{Commit, Dispatch, Model}
 use Rattle.log_models.specs.InForce.{in_force, models_in}
 use Rattle.said_models.specs.Said.{said}
-use Rattle.said_models.specs.OfLog.{model_of, models_of, text_of}
+use Rattle.model_growth.specs.declared.growth.Unkept.{Unkept}
+use Rattle.model_growth.specs.Growth.{first_unkept}
+use Rattle.model_growth.specs.Paths.{path_of}
+use Rattle.said_models.specs.OfLog.{differs, model_of, models_of, text_of}
 use Rattle.said_models.proofs.OfLogLemmas.{models_of-texts}
 use Rattle.said_models.proofs.SaidLemmas.{said-kept}
 use Rattle.status_log.specs.declared.refusal.Refusal.{Refusal}
-use Rattle.status_log.specs.declared.refusal.Refusal.TheVariants.{N4, N10, N11, N12, OutOfMemory, Volume}
+use Rattle.status_log.specs.declared.refusal.Refusal.TheVariants.{N4, N10, N11, N12, N13, N15, OutOfMemory, Volume}
 use Rattle.application_rules.specs.Gathered.{gathered}
 use Rattle.application_rules.specs.Masters.{master_fault}
 use Rattle.outbound_build.specs.declared.added.Added.{Added}
@@ -34,8 +37,9 @@ use Rattle.document_state.specs.declared.made.Made.TheVariants.{Sent}
 use Rattle.document_state.specs.OfLog.{applied_by, sent_by, added_behind}
 use Rattle.document_state.specs.Allowed.{waits_any}
 use Rattle.landscape.specs.Asked.{Asked, asked_dispatch, asked_gather, asked_send, by_model, gathered_for, gathered_or_none, sent_or_refused, units_with}
-use Rattle.landscape.specs.Asked.{with_room}
-use Rattle.landscape.specs.steps.Judged.{IsMaster, JudgedCommits, JudgedCommitsOrNone}
+use Rattle.landscape.specs.Asked.{asked_model, waiting_in, with_room}
+use Rattle.landscape.specs.Remodelled.{MayAs}
+use Rattle.landscape.specs.steps.Judged.{IsMaster, JudgedAs, JudgedCommits, JudgedCommitsOrNone}
 
 -- where there is no model in force all names are unknown
 pub without-model : (log : List Record) (asked : Lists → Asked) → model_of log ≡ None → by_model log asked ≡ Err N12
@@ -171,3 +175,89 @@ named-within model kept name message named = elim ((message-named model kept nam
 pub named-there : (model : Lists) → IsModel model → (name : List ℕ) (message : ℕ) → message_named name model ≡ Some message
     → (type : Message) × (slice_get model.messages message ≡ Some type)
 named-there model kept name message named = slice_get-within model.messages message (named-within model kept name message named)
+
+-- ---- a model that is to come into force
+
+-- what may be done was answered by why it may not, as the command asks
+pub judged-may : (T : Type 0) {W : Type 0} (wants : W → Type 0) (asked : Asked) (why : Option Refusal) → ((size : ℕ) → why ≢ Some (N10 size)) → why ≢ Some Volume
+    → ((refusal : Refusal) → why ≡ Some refusal → asked ≡ Err refusal) → (refusal : Refusal) → MayAs {T = T} why (Err refusal)
+    → JudgedAs wants asked (Err refusal)
+judged-may T wants asked why no_full no_volume says OutOfMemory is = tt
+judged-may T wants asked why no_full no_volume says Volume is = absurd (no_volume is)
+judged-may T wants asked why no_full no_volume says (N10 size) is = absurd (no_full size is)
+judged-may T wants asked why no_full no_volume says refusal is = says refusal is
+
+-- by what of a model in force it does not keep
+abbrev pub by_part : Option Unkept → Option Refusal
+by_part found = option_map (λ part. N15 (path_of part)) found
+
+-- where nothing of it is not kept
+pub all-kept : (found : Option Unkept) → by_part found ≡ None → found ≡ None
+all-kept None none = refl
+all-kept (Some part) lies = absurd (cc)
+
+module _ (log : List Record) (model new : Lists) (text : List ℕ) (is : model_of log ≡ Some model) where
+  -- what becomes of it where another text is in force, by what of the model in force is not kept
+  abbrev rest : Option Unkept → Bool → Asked
+  rest found waits = option_map_or (λ part. Err (N15 (path_of part))) found (if waits then Err (N13 (waiting_in log)) else Ok (Some (Model text)))
+
+  differs-asked : (b : Bool) → differs text log ≡ b → asked_model log new text ≡ (if b then rest (first_unkept model new) (waits_any log) else Ok None)
+  differs-asked b test =
+      under-model log model is (λ m. if differs text log then rest (first_unkept m new) (waits_any log) else Ok None)
+      ∙ ap (λ b. if b then rest (first_unkept model new) (waits_any log) else Ok None) test
+
+  -- nothing, where this text is in force
+  pub same-asked : differs text log ≡ false → asked_model log new text ≡ Ok None
+  same-asked = differs-asked false
+
+  -- the model in force is this one
+  pub unkept-is : by_part (option_and_then (λ old. first_unkept old new) (model_of log)) ≡ by_part (first_unkept model new)
+  unkept-is = ap (λ found. by_part (option_and_then (λ old. first_unkept old new) found)) is
+
+  -- what it does not keep refuses it
+  pub judged-unkept : (T : Type 0) {W : Type 0} (wants : W → Type 0) → differs text log ≡ true → (refusal : Refusal)
+      → MayAs {T = T} (by_part (first_unkept model new)) (Err refusal) → JudgedAs wants (asked_model log new text) (Err refusal)
+  judged-unkept T wants test refusal may =
+      judged-may T wants (asked_model log new text) (by_part (first_unkept model new)) (λ size. no-full (first_unkept model new) size)
+      (no-volume (first_unkept model new)) says refusal may
+    where
+      no-full : (found : Option Unkept) (size : ℕ) → by_part found ≢ Some (N10 size)
+      no-full None size = λ lies. absurd (cc)
+      no-full (Some part) size = λ lies. absurd (cc)
+
+      no-volume : (found : Option Unkept) → by_part found ≢ Some Volume
+      no-volume None = λ lies. absurd (cc)
+      no-volume (Some part) = λ lies. absurd (cc)
+
+      found-says : (found : Option Unkept) (refusal : Refusal) → by_part found ≡ Some refusal → rest found (waits_any log) ≡ Err refusal
+      found-says None refusal lies = absurd (cc)
+      found-says (Some part) refusal same = ap (λ r. Err r) (same_Some (N15 (path_of part)) refusal same)
+
+      says : (refusal : Refusal) → by_part (first_unkept model new) ≡ Some refusal → asked_model log new text ≡ Err refusal
+      says refusal same = differs-asked true test ∙ found-says (first_unkept model new) refusal same
+
+  waiting-asked : (b : Bool) → differs text log ≡ true → first_unkept model new ≡ None → waits_any log ≡ b → asked_model log new text ≡ rest None b
+  waiting-asked b test none waits =
+      differs-asked true test ∙ ap (λ found. rest found (waits_any log)) none ∙ ap (rest None) waits
+
+  -- that documents wait refuses it
+  pub judged-waiting : (T : Type 0) {W : Type 0} (wants : W → Type 0) → differs text log ≡ true → first_unkept model new ≡ None → (refusal : Refusal)
+      → MayAs {T = T} (if waits_any log then Some (N13 (waiting_in log)) else None) (Err refusal) → JudgedAs wants (asked_model log new text) (Err refusal)
+  judged-waiting T wants test none refusal may = of (waits_any log) refl may
+    where
+      of : (b : Bool) → waits_any log ≡ b → MayAs {T = T} (if b then Some (N13 (waiting_in log)) else None) (Err refusal)
+          → JudgedAs wants (asked_model log new text) (Err refusal)
+      of true waits may =
+          judged-may T wants (asked_model log new text) (Some (N13 (waiting_in log))) (λ size lies. absurd (cc)) (λ lies. absurd (cc))
+          (λ why same. waiting-asked true test none waits ∙ ap (λ r. Err r) (same_Some (N13 (waiting_in log)) why same)) refusal may
+      of false waits may =
+          judged-may T wants (asked_model log new text) None (λ size lies. absurd (cc)) (λ lies. absurd (cc)) (λ why lies. absurd (cc)) refusal may
+
+  -- and else its record is asked for
+  pub model-asked : differs text log ≡ true → first_unkept model new ≡ None → (if waits_any log then Some (N13 (waiting_in log)) else None) ≡ None
+      → asked_model log new text ≡ Ok (Some (Model text))
+  model-asked test none ready = waiting-asked false test none (of (waits_any log) ready)
+    where
+      of : (b : Bool) → (if b then Some (N13 (waiting_in log)) else None) ≡ None → b ≡ false
+      of true lies = absurd (cc)
+      of false ready = refl

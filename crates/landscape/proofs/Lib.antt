@@ -35,3 +35,5 @@ pub mod OneReadingLemmas
 pub mod CrashOpensLemmas
 -- so is what one leaves inside an opening
 pub mod OpeningCrashLemmas
+-- the systems are asked in turn what is against a model
+pub mod BarredLemmas

@@ -9,11 +9,13 @@ use Rattle.dist_model.specs.declared.message.Message.{Message}
 use Rattle.dist_model.specs.Model.{message_named}
 use Rattle.unit_core.specs.declared.raw_unit_doc.RawUnitDoc.{RawUnitDoc}
 use Rattle.unit_core.specs.declared.records.Record.{Record}
-use Rattle.unit_core.specs.declared.records.Record.TheVariants.{Commit, Dispatch, Put, App, Repost}
-use Rattle.said_models.specs.OfLog.{model_of}
+use Rattle.unit_core.specs.declared.records.Record.TheVariants.{Commit, Dispatch, Put, App, Repost, Model}
+use Rattle.model_growth.specs.Growth.{first_unkept}
+use Rattle.model_growth.specs.Paths.{path_of}
+use Rattle.said_models.specs.OfLog.{differs, model_of}
 use Rattle.status_log.specs.declared.refusal.Refusal.{Refusal}
 use Rattle.status_log.specs.declared.refusal.Refusal.TheVariants as refusal
-use Rattle.status_log.specs.declared.refusal.Refusal.TheVariants.{N3, N4, N8, N11, N12}
+use Rattle.status_log.specs.declared.refusal.Refusal.TheVariants.{N3, N4, N8, N11, N12, N13, N15}
 use Rattle.change_pointers.specs.Noted.{noted_by}
 use Rattle.application_rules.specs.declared.fault.MasterFault.{MasterFault}
 use Rattle.application_rules.specs.declared.fault.MasterFault.TheVariants.{Syntax, Unknown, OutOfMemory}
@@ -83,6 +85,16 @@ module _ (log : List Record) where
   -- what waits is dispatched, where something waits
   abbrev pub asked_dispatch : Asked
   asked_dispatch = by_model (λ model. if waits_any log then with_room Dispatch else Ok None)
+
+  -- how many documents wait to be dispatched
+  abbrev pub waiting_in : ℕ
+  waiting_in = length (sent_by log).past.outbox.waiting
+
+  -- a model that a text says is to come into force, where the text in force is another one: it keeps what runs, and no document waits
+  abbrev pub asked_model : Lists → List ℕ → Asked
+  asked_model new text =
+      by_model (λ model. if differs text log then option_map_or (λ part. Err (N15 (path_of part)))
+      (first_unkept model new) (if waits_any log then Err (N13 waiting_in) else Ok (Some (Model text))) else Ok None)
 
   -- whether there is an inbound document of this number
   abbrev pub has_inbound : ℕ → Bool

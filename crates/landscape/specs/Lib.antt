@@ -20,5 +20,7 @@ pub mod Opened
 pub mod Reopened
 -- what a command asks for
 pub mod Asked
+-- why a model may not come into force
+pub mod Remodelled
 -- what only private functions cite
 pub mod steps

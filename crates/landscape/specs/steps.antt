@@ -6,3 +6,5 @@ pub mod Judged
 pub mod Ready
 -- the steps of an opening
 pub mod Opening
+-- what keeps a model from coming into force
+pub mod Barred

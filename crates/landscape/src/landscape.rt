@@ -1,5 +1,5 @@
-//! The landscape: what it is, and what is read of it. Its calls are in `opening`, `reopening`, `commanding`, `changing`, `operating`, `working` and
-//! `executing`; what an operator is shown is in `showing`, and which units wait for their confirmation in `confirming`.
+//! The landscape: what it is, and what is read of it. Its calls are in `opening`, `reopening`, `commanding`, `changing`, `operating`, `remodelling`, `working`
+//! and `executing`; what an operator is shown is in `showing`, and which units wait for their confirmation in `confirming`.
 
 ghost use Rattle.std.specs.Prelude.{◌≡◌};
 
@@ -10,6 +10,7 @@ mod counting;
 mod executing;
 mod opening;
 mod operating;
+mod remodelling;
 mod reopening;
 mod showing;
 mod working;

@@ -8,6 +8,8 @@
 //! prepared for the work of a claim), `Opened` (a landscape that is opened) and `Reopened` (a system of it that is opened again).
 #![tactic(auto)]
 
+mod bar;
+mod bringing;
 mod commands;
 mod counts;
 mod ids;

@@ -1,6 +1,8 @@
 //! What commands want: the records that they append.
 
+use dist_model::Model;
 use outbound_build::Added;
+use std::sync::Arc;
 use unit_core::Record;
 
 /// What a command wants that commits documents.
@@ -17,4 +19,13 @@ pub(crate) struct Commits {
 pub(crate) struct Changes {
     /// The record: a Put, an App or a Repost.
     pub(crate) next: Record,
+}
+
+/// What a command wants that brings a model into force.
+#[derive(Drop)]
+pub(crate) struct Brings {
+    /// The record: a Model.
+    pub(crate) next: Record,
+    /// The model that its text says.
+    pub(crate) model: Arc<Model>,
 }

@@ -11,7 +11,7 @@ use Rattle.unit_codec.specs.Entries.{entry_with, entry_spelling}
 use Rattle.unit_journal.specs.declared.journal.UnitJournal.{UnitJournal}
 use Rattle.byte_journal.specs.Log.{records}
 use Rattle.unit_journal.specs.Log.{AreEntries, Stands, bodies_of}
-use Rattle.unit_journal.specs.Settled.{IsOn, IsSettled}
+use Rattle.unit_journal.specs.Settled.{IsAtEnd, IsOn, IsSettled}
 use Rattle.unit_journal.specs.declared.journals.SystemJournals.{SystemJournals}
 
 -- how many systems have a journal
@@ -76,6 +76,12 @@ entries_at all place log = entries_of (moments_at all place) log
 -- the length that a volume has with these entries and one more, up to the gate behind it
 abbrev pub length_with : List Entry → Entry → ℕ
 length_with entries entry = length (records (bodies_of entries)) + 6 + length (entry_spelling entry)
+
+-- a journal is at a place, at the end of this log
+pub record IsAtEndOf (place : ℕ) (all : SystemJournals) (log : List Record) : Type 0 where
+  pub journal : UnitJournal
+  pub here : slice_get all.journals place ≡ Some journal
+  pub at_end : IsAtEnd journal (entries_at all place log)
 
 -- Of a system that is up: a journal and moments are at its place, one for each record; the journal is at the end of the
 -- log, and where the disk tells what it holds, all of that log is on the disk for good.

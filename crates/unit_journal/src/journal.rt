@@ -1,6 +1,6 @@
 //! A journal of entries that is open, and the append of an entry to it.
 
-ghost use Rattle.std.specs.Prelude.{◌≡◌, ◌≢◌, ℕ, List, [], ◌∷◌, ◌++◌, ◌+◌, ◌<◌, ◌↔◌, length, OnOk, IsErrOf};
+ghost use Rattle.std.specs.Prelude.{◌≡◌, ◌≢◌, ℕ, List, [], ◌∷◌, ◌++◌, ◌+◌, ◌<◌, ◌↔◌, length, IfOk, OnOk, IsErrOf};
 ghost use Rattle.ale_volumes.specs.Clock.{LeavesOnly, KeepsOthers};
 ghost use Rattle.ale_volumes.specs.Faults.{CountsFault};
 ghost use Rattle.byte_journal.specs.Log.{most_bytes};
@@ -9,6 +9,7 @@ ghost use Rattle.unit_codec.specs.declared.entry.Entry.{Entry};
 ghost use Rattle.unit_codec.specs.Condition.{IsWritable};
 ghost use Rattle.unit_codec.specs.Entries.{EntryHasSpelling, entry_with, entry_spelling};
 
+use ale_base::OutOfMemory;
 use ale_volumes::Volumes;
 use byte_journal::{AppendFault, Journal};
 use std::alloc::Global;
@@ -92,5 +93,14 @@ impl UnitJournal {
     {
         let body = write_entry(self.alloc, moment, what)?;
         self.bodies.append(vols, &body)
+    }
+
+    /// How long its volume would be with the entry of a record behind the log, in bytes, up to the gate behind that. It writes nothing.
+    pub fn length_with(&self, moment: Option<u64>, what: &Record) -> Result<u64, OutOfMemory>
+        requires { IsWritable what.now }
+        ensures { IfOk result (λ place. place ≡ (bodies self.now).gate + 6 + length (entry_spelling (entry_with moment what.now))) }
+    {
+        let body = write_entry(self.alloc, moment, what)?;
+        Ok(self.bodies.gate + 6 + body.len() as u64)
     }
 }

@@ -1,6 +1,6 @@
 //! The write of a record to the journal of a system.
 
-ghost use Rattle.std.specs.Prelude.{◌≡◌, ◌≢◌, ℕ, List, [], ◌∷◌, ◌++◌, ◌+◌, ◌-◌, ◌<◌, ◌↔◌, length, slice_index_or, OnOk, IsErrOf, None, Some};
+ghost use Rattle.std.specs.Prelude.{◌≡◌, ◌≢◌, ℕ, List, [], ◌∷◌, ◌++◌, ◌+◌, ◌-◌, ◌<◌, ◌↔◌, length, slice_index_or, IfOk, OnOk, IsErrOf, None, Some};
 ghost use Rattle.ale_volumes.specs.Clock.{LeavesOnly, KeepsOthers};
 ghost use Rattle.ale_volumes.specs.Faults.{CountsFault};
 ghost use Rattle.byte_journal.specs.Log.{most_bytes};
@@ -12,13 +12,13 @@ ghost use Rattle.unit_journal.specs.steps.Moments.{rests_after};
 
 use crate::SystemJournals;
 use crate::moments::{last, later, note, take_back};
-use ale_base::SystemNo;
+use ale_base::{OutOfMemory, SystemNo};
 use ale_volumes::Volumes;
 use byte_journal::AppendFault;
 use unit_core::Record;
 
 impl SystemJournals {
-    ghost use Rattle.unit_journal.specs.OnDisk.{next_moment, moments_at, entries_at, length_with, IsOnDisk, IsLeftOnDisk};
+    ghost use Rattle.unit_journal.specs.OnDisk.{next_moment, moments_at, entries_at, length_with, IsAtEndOf, IsOnDisk, IsLeftOnDisk};
     ghost use Rattle.unit_journal.specs.Changes.{OnlyAt, LeftBy};
 
     /// Adds a record to the log of a system that is up. Its moment is the one that is set, or the last of the log where that
@@ -74,6 +74,19 @@ impl SystemJournals {
                 Err(fault)
             }
         }
+    }
+
+    /// How long the volume of a system that is up would be with a record behind its log, in bytes: `write` answers `Full` with this length
+    /// where it is over 67,108,864. It writes nothing.
+    pub fn size_with(&self, system: SystemNo, next: &Record) -> Result<u64, OutOfMemory>
+        requires entry { IsWritable next.now }
+        requires open { (log : List Record) × IsAtEndOf (system - 1) self.now log }
+        ensures { (log : List Record) → IsAtEndOf (system - 1) self.now log → IfOk result (λ size. size
+            ≡ length_with (entries_at self.now (system - 1) log) (entry_with (next_moment self.now (system - 1)) next.now)) }
+    {
+        let place = system.get() as usize - 1;
+        let moment = self.next_moment(system);
+        self.journals.as_slice()[place].length_with(moment, next)
     }
 
     /// The moment of the next record of a system: the larger of the one that is set and the last of its log.

@@ -14,7 +14,7 @@ use Rattle.unit_landscape.specs.Changed.{ChangedAt}
 use Rattle.unit_landscape.proofs.InStepLemmas.{ChangedAt-same, stands_up}
 use Rattle.unit_landscape.proofs.EnteringLemmas.{systems-changed}
 use Rattle.unit_journal.specs.declared.journals.SystemJournals.{SystemJournals}
-use Rattle.unit_journal.specs.OnDisk.{moments_at, AreInOrder, IsOnDisk, IsLeftOnDisk}
+use Rattle.unit_journal.specs.OnDisk.{IsAtEndOf, moments_at, AreInOrder, IsOnDisk, IsLeftOnDisk}
 use Rattle.unit_journal.specs.Changes.{OnlyAt, with_moment}
 use Rattle.unit_journal.proofs.KeptLemmas.{HaveMoments-one, IsLeft-of, IsOnDisk-same, IsLeftOnDisk-same, IsOnDisk-with_moment, IsLeftOnDisk-with_moment}
 use Rattle.unit_journal.proofs.OrderLemmas.{AreInOrder-same}
@@ -66,6 +66,11 @@ module _ {D : Type 0} (disk : Disk D) where
           (are.down other now (sym (changed.others other differs) ∙ at) down)
     ];
   }
+
+  -- a log that is on its volume has a journal at its end
+  pub at_end-of : (vols : D) (place : ℕ) (journals : SystemJournals) (log : List Record) → IsOnDisk disk vols place journals log
+      → IsAtEndOf place journals log
+  at_end-of vols place journals log is = record { journal = is.journal; here = is.here; at_end = let on = is.on in on.at_end }
 
   -- the log of a system that is up is on its volume
   pub on_disk-up : {R : Type 0} (vols : D) (world : World R) (journals : SystemJournals) (system : ℕ) → is_up world system ≡ true

@@ -1,7 +1,6 @@
 -- The record of an event, the claim that goes with it, and what a crash at any moment of its writing leaves.
-use Rattle.std.specs.Prelude.{◌≡◌, ℕ, ◌-◌, ◌<◌, Bool, true, false, Option, Some, None, List}
+use Rattle.std.specs.Prelude.{◌≡◌, ℕ, ◌-◌, ◌<◌, Bool, true, false, Option, Some, None}
 use Rattle.ale_volumes.specs.Disk.{Disk}
-use Rattle.ale_volumes.specs.declared.volume.Volume.{Volume}
 use Rattle.ale_volumes.specs.Clock.{LeavesOnly, KeepsOthers}
 use Rattle.unit_core.specs.declared.records.Record.{Record}
 use Rattle.unit_core.specs.declared.records.Record.TheVariants.{Genesis, Commit, Put, Model}
@@ -45,10 +44,14 @@ pub record Appends {R : Type 0} (rules : Meaning) (world : World R) (system : �
   pub ends : claim ≡ claim_in e
   pub texts : has_texts next ≡ true → IsWritable next
 
+-- how long the volume of a system would be with a record behind its log, in bytes
+abbrev pub size_with : {R A V : Type 0} → KeptOf R A V → ℕ → Record → ℕ
+size_with kept system next =
+    length_with (entries_at kept.journals (system - 1) (log_of kept.world system)) (entry_with (next_moment kept.journals (system - 1)) next)
+
 -- with the record behind the log of its system that volume would be this long, which is over the most that it may be
 pub record IsTooLong {R A V : Type 0} (kept : KeptOf R A V) (it : Writing) (size : ℕ) : Type 0 where
-  pub long : size ≡ length_with (entries_at kept.journals (it.system - 1) (log_of kept.world it.system))
-      (entry_with (next_moment kept.journals (it.system - 1)) it.next)
+  pub long : size ≡ size_with kept it.system it.next
   pub over : most_bytes < size
 
 -- the moment of the record stands behind those of its log, and no other journal changed; where there is no record none did

@@ -58,6 +58,8 @@ impl<R: Rules, A: Application, V: Volumes> KeptWorld<R, A, V> {
     ghost use Rattle.ale_volumes.specs.Clock.{LeavesOnly, KeepsOthers};
     ghost use Rattle.ale_volumes.specs.Faults.{CountsFault};
     ghost use Rattle.unit_codec.specs.Entries.{entry_with};
+    ghost use Rattle.unit_codec.specs.Condition.{IsWritable};
+    ghost use Rattle.unit_landscape.specs.Writes.{size_with};
     ghost use Rattle.unit_journal.specs.Settled.{IsBeforeOrAfter};
     ghost use Rattle.trfc_protocol.specs.Worlds.{log_of, is_up, committed_by, with_fall, with_claim, without_claim};
     ghost use Rattle.trfc_protocol.specs.Safe.{AreApart};
@@ -180,6 +182,15 @@ impl<R: Rules, A: Application, V: Volumes> KeptWorld<R, A, V> {
         ensures { result.now ≡ moments_at self.now.journals (system - 1) }
     {
         self.journals.moments(system)
+    }
+
+    /// How long the volume of a system that is up would be with a record behind its log, in bytes. It writes nothing.
+    pub(crate) fn size_with(&self, system: SystemNo, next: &Record) -> Result<u64, OutOfMemory>
+        requires up { is_up self.now.world system ≡ true }
+        requires writable { IsWritable next.now }
+        ensures { IfOk result (λ size. size ≡ size_with self.now system next.now) }
+    {
+        self.journals.size_with(system, next)
     }
 
     /// Sets the moment with which records are written from now on; `None` where none is known.

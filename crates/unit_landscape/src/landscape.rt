@@ -13,7 +13,7 @@ mod reopening;
 mod replying;
 
 use crate::{Cause, KeptWorld};
-use ale_base::{SystemNo, Tid};
+use ale_base::{OutOfMemory, SystemNo, Tid};
 use ale_volumes::Volumes;
 use std::alloc::Global;
 use std::marker::Model;
@@ -41,7 +41,7 @@ impl<R: Rules, A: Application, V: Volumes> Model for UnitLandscape<R, A, V> {
 }
 
 impl<R: Rules, A: Application, V: Volumes> UnitLandscape<R, A, V> {
-    ghost use Rattle.std.specs.Prelude.{◌≡◌, ◌-◌, true, slice_get};
+    ghost use Rattle.std.specs.Prelude.{◌≡◌, ◌-◌, true, slice_get, IfOk};
     ghost use Rattle.std.specs.Option.{option_copied, option_map};
     ghost use Rattle.trfc_protocol.specs.Worlds.{log_of, is_up, committed_unit};
     ghost use Rattle.system_tables.specs.Tables.{TablesOf};
@@ -50,6 +50,8 @@ impl<R: Rules, A: Application, V: Volumes> UnitLandscape<R, A, V> {
     ghost use Rattle.unit_landscape.specs.KeptWorlds.{IsKept, cause_at};
     ghost use Rattle.unit_landscape.specs.Counted.{committed_total, received_total, executed_total, AreInOrder};
     ghost use Rattle.unit_landscape.specs.Kept.{IsLandscape};
+    ghost use Rattle.unit_landscape.specs.Writes.{size_with};
+    ghost use Rattle.unit_codec.specs.Condition.{IsWritable};
     ghost use Rattle.unit_landscape.specs.Tables.{AreTablesUp};
 
     /// A landscape of a world that is kept, is safe, and commits what can be written.
@@ -118,6 +120,16 @@ impl<R: Rules, A: Application, V: Volumes> UnitLandscape<R, A, V> {
         ensures { result.now ≡ moments_at self.now.journals (system - 1) }
     {
         self.kept.moments(system)
+    }
+
+    /// How long the volume of a system that is up would be with a record behind its log, in bytes: an append of the record answers `Full` with
+    /// this length where it is over 67,108,864. It writes nothing.
+    pub fn size_with(&self, system: SystemNo, next: &Record) -> Result<u64, OutOfMemory>
+        requires up { is_up self.now.world system ≡ true }
+        requires writable { IsWritable next.now }
+        ensures { IfOk result (λ size. size ≡ size_with self.now system next.now) }
+    {
+        self.kept.size_with(system, next)
     }
 
     /// Sets the moment with which records are written from now on; `None` where none is known.

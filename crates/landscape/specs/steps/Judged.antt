@@ -7,10 +7,11 @@ use Rattle.status_log.specs.declared.refusal.Refusal.{Refusal}
 use Rattle.status_log.specs.declared.refusal.Refusal.TheVariants.{N4, N10, N12, Volume, OutOfMemory}
 use Rattle.application_rules.specs.declared.fault.MasterFault.{MasterFault}
 use Rattle.application_rules.specs.declared.fault.MasterFault.TheVariants.{Syntax, Unknown}
-use Rattle.trfc_protocol.specs.Legal.{is_commit}
+use Rattle.trfc_protocol.specs.Legal.{is_commit, is_model}
 use Rattle.document_state.specs.declared.made.Made.{Made}
-use Rattle.document_state.specs.declared.made.Made.TheVariants.{Nothing, Sent}
+use Rattle.document_state.specs.declared.made.Made.TheVariants.{Nothing, Brought, Sent}
 use Rattle.document_state.specs.Made.{GoesWith}
+use Rattle.landscape.specs.declared.wanted.Brings.{Brings}
 use Rattle.landscape.specs.declared.wanted.Changes.{Changes}
 use Rattle.landscape.specs.declared.wanted.Commits.{Commits}
 use Rattle.landscape.specs.Asked.{Asked}
@@ -52,6 +53,10 @@ module _ (log : List Record) (asked : Asked) where
   abbrev pub WantsChanges : Changes → Type 0
   WantsChanges wanted = IsWanted is_applications wanted.next Nothing
 
+  -- a model is to come into force
+  abbrev pub WantsModel : Brings → Type 0
+  WantsModel wanted = IsWanted is_model wanted.next (Brought (Some wanted.model))
+
   -- a command that commits documents was judged as it asks
   abbrev pub JudgedCommits : Result Commits Refusal → Type 0
   JudgedCommits judged = JudgedAs WantsCommits asked judged
@@ -59,6 +64,10 @@ module _ (log : List Record) (asked : Asked) where
   -- the same of one that may ask for nothing
   abbrev pub JudgedCommitsOrNone : Result (Option Commits) Refusal → Type 0
   JudgedCommitsOrNone judged = JudgedAs (IsOrNone WantsCommits asked) asked judged
+
+  -- the same of one that may bring a model
+  abbrev pub JudgedModelOrNone : Result (Option Brings) Refusal → Type 0
+  JudgedModelOrNone judged = JudgedAs (IsOrNone WantsModel asked) asked judged
 
   -- the same of one that changes the application
   abbrev pub JudgedChanges : Result Changes Refusal → Type 0

@@ -7,7 +7,7 @@ use Rattle.status_log.specs.declared.refusal.Refusal.{Refusal}
 use Rattle.status_log.specs.declared.refusal.Refusal.TheVariants.{N2, N10, Volume, OutOfMemory}
 use Rattle.trfc_protocol.specs.declared.event.Event.{Event}
 use Rattle.trfc_protocol.specs.declared.world.World.{World}
-use Rattle.trfc_protocol.specs.Legal.{is_commit}
+use Rattle.trfc_protocol.specs.Legal.{is_commit, is_model}
 use Rattle.trfc_protocol.specs.Worlds.{is_up, log_of}
 use Rattle.unit_landscape.specs.declared.append_end.AppendEnd.{AppendEnd}
 use Rattle.unit_landscape.specs.declared.append_end.AppendEnd.TheVariants as end
@@ -17,12 +17,13 @@ use Rattle.unit_landscape.specs.KeptWorlds.{KeptOf}
 use Rattle.unit_landscape.specs.Ends.{Happened, Failed, IsFull, Stays, FellBehind}
 use Rattle.unit_landscape.specs.Appending.{at}
 use Rattle.document_state.specs.declared.made.Made.{Made}
-use Rattle.document_state.specs.declared.made.Made.TheVariants.{Nothing, Sent}
+use Rattle.document_state.specs.declared.made.Made.TheVariants.{Nothing, Brought, Sent}
 use Rattle.document_state.specs.Made.{GoesWith}
 use Rattle.document_state.specs.declared.document_tables.DocumentTables.{DocumentTables}
 use Rattle.document_state.specs.declared.model_rules.ModelRules.{ModelRules}
 use Rattle.document_state.specs.Allowed.{allowed}
 use Rattle.document_state.specs.Meaning.{model_meaning}
+use Rattle.landscape.specs.declared.wanted.Brings.{Brings}
 use Rattle.landscape.specs.declared.wanted.Changes.{Changes}
 use Rattle.landscape.specs.declared.wanted.Commits.{Commits}
 use Rattle.landscape.specs.Asked.{Asked}
@@ -51,6 +52,10 @@ module _ (world : World ModelRules) (system : ℕ) where
     abbrev pub AsksChanges : Changes → Type 0
     AsksChanges wanted = IsAsked is_applications wanted.next Nothing
 
+    -- a model is asked for, and is ready
+    abbrev pub AsksModel : Brings → Type 0
+    AsksModel wanted = IsAsked is_model wanted.next (Brought (Some wanted.model))
+
     -- a command that commits documents was judged as it asks
     abbrev pub ReadyCommits : Result Commits Refusal → Type 0
     ReadyCommits judged = JudgedAs AsksCommits asked judged
@@ -58,6 +63,10 @@ module _ (world : World ModelRules) (system : ℕ) where
     -- the same of one that may ask for nothing
     abbrev pub ReadyCommitsOrNone : Result (Option Commits) Refusal → Type 0
     ReadyCommitsOrNone judged = JudgedAs (IsOrNone AsksCommits asked) asked judged
+
+    -- the same of one that may bring a model
+    abbrev pub ReadyModelOrNone : Result (Option Brings) Refusal → Type 0
+    ReadyModelOrNone judged = JudgedAs (IsOrNone AsksModel asked) asked judged
 
     -- the same of one that changes the application
     abbrev pub ReadyChanges : Result Changes Refusal → Type 0
