@@ -4,3 +4,5 @@ mod HeldLemmas
 mod PartLemmas
 -- what a run ensures is what it may give
 pub mod GivenLemmas
+-- runs that are made one after another
+mod TriedLemmas

@@ -10,14 +10,27 @@ use said_models::Readings;
 use std::alloc::Global;
 use trfc_protocol::{Rules, is_legal};
 use unit_codec::Entry;
-use unit_core::{AleUnit, Record};
+use unit_core::{AleUnit, Record, ended_in, is_listed};
 use unit_journal::{LogFault, open};
 
-/// What is told of the logs that these volumes hold, the first of them that of system 1: the clauses of the law that they
-/// break, a line each, or that they break none; or that one is not read, or is not legal. The journals may be closed by this.
-pub(crate) fn law_told(alloc: Global, mut vols: MemoryVolumes) -> Result<Vec<u8>, OutOfMemory> {
+/// What is asked of logs.
+#[derive(Clone, Copy)]
+pub(crate) enum Question {
+    /// Which clauses of the law they break.
+    Law,
+    /// Which of the units that they committed are not ended.
+    Ended,
+}
+
+/// What is told of the logs that these volumes hold, the first of them that of system 1: the answer to this question, or that
+/// one is not read, or is not legal. The journals may be closed by this.
+pub(crate) fn told_of_logs(
+    alloc: Global,
+    mut vols: MemoryVolumes,
+    question: Question,
+) -> Result<Vec<u8>, OutOfMemory> {
     match logs_of(alloc, &mut vols)? {
-        Some(logs) => judged(alloc, logs.as_slice()),
+        Some(logs) => judged(alloc, logs.as_slice(), question),
         None => told(alloc, b"a journal is not read\n"),
     }
 }
@@ -56,13 +69,20 @@ fn records_of(alloc: Global, entries: Items<Entry>) -> Result<Items<Record>, Out
 }
 
 /// What is told of logs that were read.
-fn judged(alloc: Global, logs: &[Items<Record>]) -> Result<Vec<u8>, OutOfMemory> {
+fn judged(
+    alloc: Global,
+    logs: &[Items<Record>],
+    question: Question,
+) -> Result<Vec<u8>, OutOfMemory> {
     let Some(rules) = rules_of(alloc, logs)? else {
         return told(alloc, b"no log says a model\n");
     };
-    match committed_by(alloc, &rules, logs)? {
-        Some(committed) => judged_beside(alloc, logs, committed.as_slice()),
-        None => told(alloc, b"a log is not legal\n"),
+    let Some(committed) = committed_by(alloc, &rules, logs)? else {
+        return told(alloc, b"a log is not legal\n");
+    };
+    match question {
+        Question::Law => judged_beside(alloc, logs, committed.as_slice()),
+        Question::Ended => not_ended(alloc, logs, committed.as_slice()),
     }
 }
 
@@ -120,4 +140,27 @@ fn judged_beside(
         law.add(log.as_slice(), units.as_slice())?;
     }
     law.broken()
+}
+
+/// The units that systems committed and that are not ended in their logs, a line each, or that all are.
+fn not_ended(
+    alloc: Global,
+    logs: &[Items<Record>],
+    committed: &[Items<AleUnit>],
+) -> Result<Vec<u8>, OutOfMemory> {
+    let mut text = Vec::new(alloc);
+    for (log, units) in logs.iter().zip(committed.iter()) {
+        let ended = ended_in(alloc, log.as_slice())?;
+        for unit in units {
+            if !is_listed(unit.tid, ended.as_slice()) {
+                text.extend_from_slice(b"not ended: ")?;
+                text.extend_from_slice(&unit.tid.bytes())?;
+                text.push(b'\n')?;
+            }
+        }
+    }
+    if text.is_empty() {
+        return told(alloc, b"all ended\n");
+    }
+    Ok(text)
 }

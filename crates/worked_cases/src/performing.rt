@@ -1,31 +1,30 @@
 //! Runs of the top call, and what a case makes of them.
 
-ghost use Rattle.std.specs.Prelude.{◌≡◌, ◌++◌, ℕ, List, [], map, OnOk, IfOk};
+ghost use Rattle.std.specs.Prelude.{◌≡◌, ℕ, List, [], ◌∷◌, OnOk, IfOk};
 ghost use Rattle.ale_io.specs.Folder.{told_of};
 ghost use Rattle.case_form.specs.Made.{IsBrokenStepOf};
-ghost use Rattle.worked_cases.specs.Judged.{MayGive, IsMadeOf, AreMadeOf, StartsFrom, started, empty_volumes, step_of_run, status_compared, output_compared, gate_compared, law_compared, shown_status};
+ghost use Rattle.worked_cases.specs.Judged.{IsMadeOf, AreMadeOf, Adds, tries};
+ghost use Rattle.worked_cases.specs.Starts.{empty_volumes};
 
-use crate::case::{Case, Output, Part, Run, Words};
-use crate::law::law_told;
+use crate::case::{Case, Failing, Part, Run};
 use crate::reader::read_case;
+use crate::starts::{Contents, starts_of};
+use crate::tried::tried;
 use ale_base::{Items, OutOfMemory};
-use ale_host::{Ended, aleflow, out_of_memory};
-use ale_io::{Calls, ListClock, MapFiles, VecSink};
+use ale_io::{Calls, MapFiles};
 use ale_volumes::MemoryVolumes;
-use case_form::{CaseFault, Comparison, Item, Relation, Step, Texts};
-use case_gates::{Meeting, MeetingGate};
+use case_form::{CaseFault, Comparison, Item, Step, Texts};
 use std::alloc::Global;
-use std::array;
 use std::sync::Wait;
 use std::thread::Threads;
 
-/// The steps of a case, one for each of its parts, in order. The first run starts on empty volumes, and so does each that starts anew.
+/// The steps of a case, one for each of its parts, in order.
 pub(crate) fn steps_of_case<R: Threads + Wait + Sync>(
     rt: &R,
     alloc: Global,
     case: Case,
 ) -> Result<Items<Step>, CaseFault>
-    ensures { IfOk result (λ steps. AreMadeOf case.files empty_volumes case.parts.items steps) }
+    ensures { IfOk result (λ steps. AreMadeOf case.files (empty_volumes ∷ []) case.parts.items steps) }
 {
     let Case {
         files,
@@ -36,7 +35,8 @@ pub(crate) fn steps_of_case<R: Threads + Wait + Sync>(
         files,
         calls: Calls::without_failures(alloc),
     };
-    let mut vols = MemoryVolumes::new(alloc);
+    let mut vols = Vec::new(alloc);
+    vols.push(MemoryVolumes::new(alloc))?;
     let mut steps = Items::new(alloc);
     for part in parts {
         let (step, left) = step_of_part(rt, alloc, &texts, part, &mut files, vols)?;
@@ -46,20 +46,20 @@ pub(crate) fn steps_of_case<R: Threads + Wait + Sync>(
     Ok(steps)
 }
 
-/// The step of a part, and the volumes that it leaves.
+/// The step of a part, where the run before it left these volumes, and the volumes that are left behind the part.
 fn step_of_part<R: Threads + Wait + Sync>(
     rt: &R,
     alloc: Global,
     texts: &Texts,
     part: Part,
     files: &mut MapFiles,
-    vols: MemoryVolumes,
-) -> Result<(Step, MemoryVolumes), CaseFault>
-    ensures made { IfOk result (λ made. IsMadeOf files.old.files vols part made.0 made.1) }
+    vols: Vec<MemoryVolumes>,
+) -> Result<(Step, Vec<MemoryVolumes>), CaseFault>
+    ensures made { IfOk result (λ made. IsMadeOf files.old.files vols.items part made.0 made.1.items) }
     ensures kept { (name : List ℕ) → told_of files.new.files name ≡ told_of files.old.files name }
 {
     match part {
-        Part::Run(run) => Ok(step_of_run(rt, alloc, run, files, &vols)?),
+        Part::Run(run) => Ok(step_of_run(rt, alloc, run, files, vols.as_slice())?),
         Part::Broken(item) => {
             let step = step_of_broken(alloc, texts, &item)?;
             Ok((step, vols))
@@ -67,212 +67,77 @@ fn step_of_part<R: Threads + Wait + Sync>(
     }
 }
 
-/// The step of a run over these files, on volumes that hold what these do, and the volumes that it leaves.
+/// What came of the runs that are made for one step.
+#[derive(Drop)]
+pub(crate) struct Made {
+    /// What is compared of them, in order.
+    pub(crate) comparisons: Items<Comparison>,
+    /// The volumes that each left.
+    pub(crate) left: Vec<MemoryVolumes>,
+}
+
+/// The step of a run over these files, where the run before it left these volumes, and what it leaves.
 fn step_of_run<R: Threads + Wait + Sync>(
     rt: &R,
     alloc: Global,
     run: Run,
     files: &mut MapFiles,
-    vols: &MemoryVolumes,
-) -> Result<(Step, MemoryVolumes), OutOfMemory>
-    ensures made { IfOk result (λ made. IsMadeOf files.old.files vols.now (Part.Run run) made.0 made.1) }
+    before: &[MemoryVolumes],
+) -> Result<(Step, Vec<MemoryVolumes>), OutOfMemory>
+    ensures made { IfOk result (λ made. IsMadeOf files.old.files before.now (Part.Run run) made.0 made.1.items) }
     ensures kept { (name : List ℕ) → told_of files.new.files name ≡ told_of files.old.files name }
 {
-    let Run {
-        line,
-        differs,
-        anew,
-        gate: works,
-        words,
-        failing_reads,
-        failing_puts,
-        failing_calls,
-        moments,
-        status: wanted,
-        outputs,
-        law,
-    } = run;
-    files.calls = Calls::with_failures(failing_reads);
-    let begun = begun_by(alloc, anew, vols, failing_calls)?;
-    let mut out = VecSink {
-        bytes: Vec::new(alloc),
-        calls: Calls::with_failures(failing_puts),
+    let mut made = Made {
+        comparisons: Items::new(alloc),
+        left: Vec::new(alloc),
     };
-    let gate = gate_of(works);
-    let Ended { status, vols } = performed(
-        rt, alloc, &words, files, &mut out, begun, moments, &gate,
-    );
-    let mut comparisons = Items::new(alloc);
-    comparisons.push(status_compared(alloc, wanted, status)?)?;
-    put_outputs(alloc, &mut comparisons, outputs, out.bytes.as_slice())?;
-    put_gate(alloc, &mut comparisons, works, &gate.meeting)?;
-    put_law(alloc, &mut comparisons, law, &vols)?;
+    let starts = starts_of(alloc, run.start, before)?;
+    try_starts(rt, alloc, &run, files, starts.as_slice(), &mut made)?;
+    let Made { comparisons, left } = made;
     let step = Step {
-        line,
-        differs,
+        line: run.line,
+        differs: run.differs,
         comparisons,
     };
-    Ok((step, vols))
+    Ok((step, left))
 }
 
-/// The volumes that a run starts on, of which the calls of these numbers will fail: empty ones where it starts anew, and else such
-/// that hold for good what these do.
-fn begun_by(
-    alloc: Global,
-    anew: bool,
-    vols: &MemoryVolumes,
-    failing: Items<u64>,
-) -> Result<MemoryVolumes, OutOfMemory>
-    ensures { IfOk result (StartsFrom (started anew vols.now) failing) }
-{
-    if anew {
-        let empty = MemoryVolumes::new(alloc);
-        return begun_from(alloc, &empty, failing);
-    }
-    begun_from(alloc, vols, failing)
-}
-
-/// Volumes that hold for good what these do, of which the calls of these numbers will fail.
-fn begun_from(
-    alloc: Global,
-    vols: &MemoryVolumes,
-    failing: Items<u64>,
-) -> Result<MemoryVolumes, OutOfMemory>
-    ensures { IfOk result (StartsFrom vols.now failing) }
-{
-    let mut contents = array::from_fn(|_| Items::new(alloc));
-    for n in 0..16 {
-        contents[usize::from(n)] = Items::from_slice(alloc, vols.contents(n))?;
-    }
-    MemoryVolumes::with_failures(alloc, contents, failing)
-}
-
-/// Runs these words over these files, none of whose reads has failed yet, on these volumes, behind this gate: the
-/// status, and the volumes as they are left.
-fn performed<R: Threads + Wait + Sync>(
+/// Makes a run from each of these starts.
+fn try_starts<R: Threads + Wait + Sync>(
     rt: &R,
     alloc: Global,
-    words: &Words,
+    run: &Run,
     files: &mut MapFiles,
-    out: &mut VecSink,
-    vols: MemoryVolumes,
-    moments: Items<u64>,
-    gate: &MeetingGate,
-) -> Ended<MemoryVolumes>
-    requires quiet { files.old.calls.faults ≡ 0 }
-    requires empty { out.old.bytes.items ≡ [] }
-    ensures gives { MayGive words.now (told_of files.old.files) vols result.vols result.status out.new.bytes.items }
+    starts: &[Contents],
+    made: &mut Made,
+) -> Result<(), OutOfMemory>
+    ensures adds { OnOk result (Adds files.old.files run.now (tries run.now.failing starts.now) made.old made.new) }
     ensures kept { (name : List ℕ) → told_of files.new.files name ≡ told_of files.old.files name }
 {
-    match words {
-        Words::Given(words) => {
-            let mut clock = ListClock::with_moments(moments);
-            aleflow(
-                rt,
-                alloc,
-                words.as_slice(),
-                files,
-                out,
-                vols,
-                &mut clock,
-                gate,
-            )
-        }
-        Words::Wanting => {
-            let status = out_of_memory(out);
-            Ended { status, vols }
-        }
-    }
-}
-
-/// The comparison of a status.
-fn status_compared(alloc: Global, wanted: u8, status: u8) -> Result<Comparison, OutOfMemory>
-    ensures { IfOk result (λ compared. compared ≡ status_compared wanted status) }
-{
-    Ok(Comparison {
-        what: Items::from_slice(alloc, b"status")?,
-        relation: Relation::Whole,
-        expected: shown_status(alloc, wanted)?,
-        found: shown_status(alloc, status)?,
-    })
-}
-
-/// A status as it is compared.
-fn shown_status(alloc: Global, status: u8) -> Result<Items<u8>, OutOfMemory>
-    ensures { IfOk result (λ shown. shown ≡ shown_status status) }
-{
-    let shown = format!(in alloc; "{status}\n")?;
-    Ok(Items::from_slice(alloc, shown.as_bytes())?)
-}
-
-/// Adds the comparisons of a text that was printed.
-fn put_outputs(
-    alloc: Global,
-    comparisons: &mut Items<Comparison>,
-    outputs: Vec<Output>,
-    printed: &[u8],
-) -> Result<(), OutOfMemory>
-    ensures { OnOk result (comparisons.new ≡ comparisons.old ++ map (output_compared printed.now) outputs.items) }
-{
-    for output in outputs {
-        let Output { relation, text } = output;
-        comparisons.push(Comparison {
-            what: Items::from_slice(alloc, b"text")?,
-            relation,
-            expected: Items::from_vec(text),
-            found: Items::from_slice(alloc, printed)?,
-        })?;
+    for start in starts {
+        try_failures(rt, alloc, run, files, start, run.failing.as_slice(), made)?;
     }
     Ok(())
 }
 
-/// The gate of a run: open, or one at which so many works meet.
-fn gate_of(works: Option<u8>) -> MeetingGate {
-    MeetingGate::of(u64::from(works.unwrap_or(0)))
-}
-
-/// Adds the comparison of how a meeting came out, where the run's gate has one.
-fn put_gate(
+/// Makes a run from this start, once for each of the choices of what fails in it.
+fn try_failures<R: Threads + Wait + Sync>(
+    rt: &R,
     alloc: Global,
-    comparisons: &mut Items<Comparison>,
-    gate: Option<u8>,
-    meeting: &Meeting,
+    run: &Run,
+    files: &mut MapFiles,
+    start: &Contents,
+    failures: &[Failing],
+    made: &mut Made,
 ) -> Result<(), OutOfMemory>
-    ensures { OnOk result ((met : List ℕ) × (comparisons.new ≡ comparisons.old ++ gate_compared gate met)) }
+    ensures adds { OnOk result (Adds files.old.files run.now (tries failures.now (start.now ∷ [])) made.old made.new) }
+    ensures kept { (name : List ℕ) → told_of files.new.files name ≡ told_of files.old.files name }
 {
-    if gate.is_none() {
-        return Ok(());
+    for failing in failures {
+        let comparisons = &mut made.comparisons;
+        let left = tried(rt, alloc, run, files, start, failing, comparisons)?;
+        made.left.push(left)?;
     }
-    let told = meeting.told();
-    let told = format!(in alloc; "{told}\n")?;
-    comparisons.push(Comparison {
-        what: Items::from_slice(alloc, b"gate")?,
-        relation: Relation::Whole,
-        expected: Items::from_slice(alloc, b"all met\n")?,
-        found: Items::from_slice(alloc, told.as_bytes())?,
-    })?;
-    Ok(())
-}
-
-/// Adds the comparison of how the logs that volumes hold are judged, where a run says that.
-fn put_law(
-    alloc: Global,
-    comparisons: &mut Items<Comparison>,
-    law: Option<Items<u8>>,
-    vols: &MemoryVolumes,
-) -> Result<(), OutOfMemory>
-    ensures { OnOk result ((told : List ℕ) × (comparisons.new ≡ comparisons.old ++ law_compared law told)) }
-{
-    let Some(expected) = law else {
-        return Ok(());
-    };
-    let told = law_told(alloc, begun_from(alloc, vols, Items::new(alloc))?)?;
-    comparisons.push(Comparison {
-        what: Items::from_slice(alloc, b"law")?,
-        relation: Relation::Whole,
-        expected,
-        found: Items::from_vec(told),
-    })?;
     Ok(())
 }
 

@@ -1,7 +1,7 @@
 //! Case files as cases.
 
 use crate::begun::BegunRun;
-use crate::case::{Case, Output, Part, Words};
+use crate::case::{Case, Output, Part, Start, Words};
 use crate::lines::FileText;
 use crate::random::{Throws, put_line};
 use crate::rules;
@@ -61,17 +61,19 @@ enum ItemKind {
     Unread,
     Gate,
     Run,
-    Anew,
+    Start(Start),
+    Holds,
     Clock,
     Failing,
     Status,
     Prints,
     Law,
+    Ended,
     Broken,
 }
 
 /// The first words of items.
-const ITEMS: [(&'static [u8], ItemKind); 18] = [
+const ITEMS: [(&'static [u8], ItemKind); 21] = [
     (b"file", ItemKind::File),
     (b"text", ItemKind::Text),
     (b"use", ItemKind::Use),
@@ -83,28 +85,16 @@ const ITEMS: [(&'static [u8], ItemKind); 18] = [
     (b"gate", ItemKind::Gate),
     (b"run", ItemKind::Run),
     (b"wordless", ItemKind::Run),
-    (b"anew", ItemKind::Anew),
+    (b"anew", ItemKind::Start(Start::Anew)),
+    (b"crashed", ItemKind::Start(Start::Crashed)),
+    (b"holds", ItemKind::Holds),
     (b"clock", ItemKind::Clock),
     (b"failing", ItemKind::Failing),
     (b"status", ItemKind::Status),
     (b"prints", ItemKind::Prints),
     (b"law", ItemKind::Law),
+    (b"ended", ItemKind::Ended),
     (b"broken", ItemKind::Broken),
-];
-
-/// A call that is to fail.
-#[derive(Clone, Copy)]
-enum FailingCall {
-    Read,
-    Put,
-    Volume,
-}
-
-/// The words of the calls that may fail.
-const CALLS: [(&'static [u8], FailingCall); 3] = [
-    (b"read", FailingCall::Read),
-    (b"put", FailingCall::Put),
-    (b"volume", FailingCall::Volume),
 ];
 
 /// How a text that is printed is told.
@@ -159,12 +149,14 @@ impl Reader {
             Some(ItemKind::Unread) => self.read_unread(&item),
             Some(ItemKind::Gate) => self.read_gate(&item),
             Some(ItemKind::Run) => self.begin_run(&item),
-            Some(ItemKind::Anew) => self.read_anew(&item),
+            Some(ItemKind::Start(start)) => self.read_start(&item, start),
+            Some(ItemKind::Holds) => self.read_holds(&item),
             Some(ItemKind::Clock) => self.read_clock(&item),
             Some(ItemKind::Failing) => self.read_failing(&item),
             Some(ItemKind::Status) => self.read_status(&item),
             Some(ItemKind::Prints) => self.read_prints(&item),
             Some(ItemKind::Law) => self.read_law(&item),
+            Some(ItemKind::Ended) => self.read_ended(&item),
             Some(ItemKind::Broken) => self.read_broken(item),
             None => Err(broken(item.line, rules::NO_SUCH_ITEM)),
         }
@@ -290,7 +282,7 @@ impl Reader {
             relation: Relation::Whole,
             text,
         })?;
-        self.parts.push(Part::Run(run.whole()?))?;
+        self.parts.push(Part::Run(run.whole(alloc)?))?;
         Ok(())
     }
 
@@ -343,7 +335,7 @@ impl Reader {
     /// Adds the run that was begun, if there is one.
     fn end_run(&mut self) -> Result<(), CaseFault> {
         if let Some(run) = self.run.take() {
-            self.parts.push(Part::Run(run.whole()?))?;
+            self.parts.push(Part::Run(run.whole(self.alloc)?))?;
         }
         Ok(())
     }
@@ -357,14 +349,14 @@ impl Reader {
         }
     }
 
-    fn read_anew(&mut self, item: &Item) -> Result<(), CaseFault> {
+    fn read_start(&mut self, item: &Item, start: Start) -> Result<(), CaseFault> {
         unblocked(item)?;
-        let run = self.run(item, false)?;
-        if run.anew || !item.rest.is_empty() {
-            return Err(broken(item.line, rules::OUT_OF_ORDER));
-        }
-        run.anew = true;
-        Ok(())
+        self.run(item, false)?.read_start(item, start)
+    }
+
+    fn read_holds(&mut self, item: &Item) -> Result<(), CaseFault> {
+        let alloc = self.alloc;
+        self.run(item, false)?.read_holds(alloc, item)
     }
 
     fn read_clock(&mut self, item: &Item) -> Result<(), CaseFault> {
@@ -380,14 +372,7 @@ impl Reader {
 
     fn read_failing(&mut self, item: &Item) -> Result<(), CaseFault> {
         unblocked(item)?;
-        let run = self.run(item, false)?;
-        let (call, number) = failing_call(item)?;
-        match call {
-            FailingCall::Read => run.failing_reads.push(number)?,
-            FailingCall::Put => run.failing_puts.push(number)?,
-            FailingCall::Volume => run.failing_calls.push(number)?,
-        }
-        Ok(())
+        self.run(item, false)?.read_failing(item)
     }
 
     fn read_status(&mut self, item: &Item) -> Result<(), CaseFault> {
@@ -416,10 +401,20 @@ impl Reader {
     fn read_law(&mut self, item: &Item) -> Result<(), CaseFault> {
         let text = item.text(self.alloc)?;
         let run = self.run(item, true)?;
-        if run.outputs.is_empty() || run.law.is_some() || !item.rest.is_empty() {
+        if run.outputs.is_empty() || run.law.is_some() || run.ended || !item.rest.is_empty() {
             return Err(broken(item.line, rules::OUT_OF_ORDER));
         }
         run.law = Some(Items::from_vec(text));
+        Ok(())
+    }
+
+    fn read_ended(&mut self, item: &Item) -> Result<(), CaseFault> {
+        unblocked(item)?;
+        let run = self.run(item, true)?;
+        if run.outputs.is_empty() || run.ended || !item.rest.is_empty() {
+            return Err(broken(item.line, rules::OUT_OF_ORDER));
+        }
+        run.ended = true;
         Ok(())
     }
 
@@ -473,16 +468,6 @@ fn moments_of(alloc: Global, text: &[u8]) -> Result<Items<u64>, LineEnd> {
         return Err(rules::ONE_CLOCK.into());
     }
     Ok(moments)
-}
-
-/// The call that an item chooses to fail, as `read`, `put` or `volume` and its number from 1.
-fn failing_call(item: &Item) -> Result<(FailingCall, u64), CaseFault> {
-    let (word, number) = first_word(item.rest.as_slice());
-    let number = number_of(number).map_err(|end| end.at(item.line))?;
-    match meaning_of(&CALLS, word) {
-        Some(call) if number > 0 => Ok((call, u64::from(number))),
-        _ => Err(broken(item.line, rules::NO_SUCH_CALL)),
-    }
 }
 
 /// A line breaks a rule.

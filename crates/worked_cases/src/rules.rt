@@ -3,7 +3,7 @@
 use case_form::Rule;
 
 pub(crate) const NO_SUCH_ITEM: Rule = Rule(
-    "an item is title, file, text, use, random, front, refused, accepted, unread, gate, run, wordless, anew, clock, failing, status, prints, law or broken",
+    "an item is title, file, text, use, random, front, refused, accepted, unread, gate, run, wordless, anew, crashed, holds, clock, failing, status, prints, law, ended or broken",
 );
 
 pub(crate) const ONE_FILE: Rule = Rule("a file is named by one word, and given once");
@@ -21,13 +21,17 @@ pub(crate) const NO_RUN: Rule = Rule(
 );
 
 pub(crate) const OUT_OF_ORDER: Rule = Rule(
-    "this item belongs to a run: run, anew, clock and failing, status, prints and law stand in this order",
+    "this item belongs to a run: run, anew or crashed, holds, clock and failing, status, prints, law and ended stand in this order",
 );
 
 pub(crate) const STATUS_AND_PRINTS: Rule = Rule("a run has one status, from 0 to 255, and prints");
 
 pub(crate) const NO_SUCH_CALL: Rule = Rule(
-    "what fails is `read`, `put` or `volume` and the number of the call, from 1",
+    "what fails is `read`, `put` or `volume` and the number of the call, from 1, or once two numbers with `to` between",
+);
+
+pub(crate) const NO_SUCH_HOLDING: Rule = Rule(
+    "a system from 1 to 16 holds `first COUNT`, or records: `copy I K` or `entry TEXT`",
 );
 
 pub(crate) const ONE_CLOCK: Rule = Rule(

@@ -1,6 +1,6 @@
 use Rattle.std.proofs.Common.{◌≡◌, ℕ, ◌<◌, [], length, get_or}
 use Rattle.ale_volumes.specs.MemoryLemmas.{volume_now}
-use Rattle.worked_cases.proofs.performing.begun_from.Given as goal
+use Rattle.worked_cases.proofs.starts.contents_of.Given as goal
 
 abbrev pub invariant-loop-n : goal.invariant-loop-n
 invariant-loop-n l = record {

@@ -1,7 +1,7 @@
 use Rattle.std.proofs.Common.{map, ap, string_bytes}
 use Rattle.ale_io.specs.Folder.{told_of}
 use Rattle.worked_cases.proofs.GivenLemmas.{Ends-of}
-use Rattle.worked_cases.proofs.performing.performed.Goals as goal
+use Rattle.worked_cases.proofs.tried.performed.Goals as goal
 
 pub returns-in-Given-clause-gives : goal.returns-in-Given-clause-gives
 returns-in-Given-clause-gives g c =

@@ -1,6 +1,0 @@
-use Rattle.std.proofs.Common.{◌≡◌, ◌++◌, map}
-use Rattle.worked_cases.specs.Judged.{output_compared}
-use Rattle.worked_cases.proofs.performing.put_outputs.Given as goal
-
-abbrev pub invariant-loop-output : goal.invariant-loop-output
-invariant-loop-output l = l.comparisons ≡ l.fn.comparisons ++ map (output_compared l.printed) l.yielded
