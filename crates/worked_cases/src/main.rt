@@ -6,9 +6,9 @@
 //! fits exactly where each time its status and its text are those that the case gives and, where works are to meet at its gate, a
 //! text is `all met`, and, where the logs that it left are judged, what is told of them is what the case gives and, where it says
 //! so, that all units are ended. That these texts are what the gate and the logs tell, no contract says, nor which reads and writes
-//! fail. The first run starts on empty volumes; each other one on what each run of the one before left, on what crashes of it leave, or anew; and before it volumes are
-//! made to hold what the case says (`specs/`: `Judged`, `Starts`, `Held`). `case_form` says by contract how the verdicts that are
-//! printed and the exit status follow from these steps.
+//! fail. The first run starts on empty volumes; each other one on what each run of the one before left, on what crashes of it leave,
+//! or anew; and before it volumes are made to hold what the case says (`specs/`: `Judged`, `Starts`, `Held`). `case_form` says by
+//! contract how the verdicts that are printed and the exit status follow from these steps.
 //! The form of a case file is in `docs/reference/cases.md`.
 #![tactic(auto)]
 
