@@ -1,6 +1,6 @@
 -- The ending of `pass` is one of the run.
 use Rattle.std.specs.Arc.{arc_value}
-use Rattle.std.proofs.Common.{◌≡◌, ◌≢◌, ◌∙◌, ◌⊎◌, ℕ, Some, Ok, List, refl, sym, ap, subst, inl, inr}
+use Rattle.std.proofs.Common.{◌≡◌, ◌∙◌, ◌⊎◌, ℕ, Some, Ok, List, refl, sym, ap, subst, inl, inr}
 use Rattle.ale_base.specs.Lines.{lines_of}
 use Rattle.ale_io.specs.Told.{Told}
 use Rattle.ale_host.specs.declared.words.Form.TheVariants.{Pass, Run}
@@ -19,7 +19,7 @@ use Rattle.script_text.specs.declared.command.Command.{Command}
 use Rattle.script_text.specs.Script.{script_of}
 use Rattle.unit_core.specs.declared.raw_unit_doc.RawUnitDoc.{RawUnitDoc}
 use Rattle.ale_host.specs.Words.{form_of, document_file, documents_file, model_file, script_file}
-use Rattle.ale_host.specs.Ending.{EndsPass, Ends, IsPrintable, IsQuiet, status_of}
+use Rattle.ale_host.specs.Ending.{EndsPass, Ends, IsPrintable, IsQuiet}
 
 pub Ends-pass : (words : List (List ℕ)) (told : List ℕ → Told) (faults : Type 0) (end : Ending) → form_of words ≡ Some Pass
     → EndsPass (document_file words) (told (document_file words)) faults end → Ends words told faults end
@@ -54,16 +54,6 @@ ends-printable words told faults (ending.Passed documents) (inr (inl runs)) = el
 ]
 ends-printable words told faults (ending.Passed documents) (inr (inr loads)) = absurd loads.2
 ends-printable words told faults _ ends = tt
-
--- a status other than those of a file that is not read, and of memory, comes with no fault of the files
-pub quiet_by_status : (end : Ending) (before after : ℕ) → IsQuiet end before after → status_of end ≢ 5 → status_of end ≢ 9 → after ≡ before
-quiet_by_status (ending.Passed documents) before after quiet not_5 not_9 = quiet
-quiet_by_status (ending.ModelRefused fault) before after quiet not_5 not_9 = quiet
-quiet_by_status (ending.Refused fault) before after quiet not_5 not_9 = quiet
-quiet_by_status (ending.ScriptRefused fault) before after quiet not_5 not_9 = quiet
-quiet_by_status (ending.Unread name why) before after quiet not_5 not_9 = absurd (not_5 refl)
-quiet_by_status ending.OutOfMemory before after quiet not_5 not_9 = absurd (not_9 refl)
-quiet_by_status ending.Usage before after quiet not_5 not_9 = quiet
 
 -- the file of `pass` was read, or it ended the call
 pub pass-read : (name : List ℕ) (told : Told) (faults : Type 0) (documents : List RawDoc) → SaysDocuments told documents
@@ -101,7 +91,8 @@ is-loaded count file masters commands prepared text says names are says_commands
     (
       commands,
       record { says_model = says; says_documents = are.1; says_script = says_commands },
-      subst (λ (t : List ℕ). IsPrepared t (arc_value file.model) are.0 commands prepared) text (is-prepared file are.0 masters commands prepared names are.2 is),
+      subst (λ (t : List ℕ). IsPrepared t (arc_value file.model) are.0 commands prepared) text (is-prepared file are.0 masters commands prepared
+          names are.2 is),
     ),
   ),
 )
@@ -132,12 +123,7 @@ pub ends-as : (words : List (List ℕ)) (told : List ℕ → Told) (faults : Typ
 ends-as words told faults due its ends (inl same) = subst (Ends words told faults) (sym same) ends
 ends-as words told faults due its ends (inr same) = subst (Ends words told faults) (sym same) tt
 
--- the same of the count of faults of the files, by the status
-pub quiet-as : (due its : Ending) (before after : ℕ) → IsQuiet due before after → EndsAs due its → status_of its ≢ 5 → status_of its ≢ 9 → after ≡ before
-quiet-as due its before after quiet (inl same) not_5 not_9 =
-    quiet_by_status due before after quiet (subst (λ (end : Ending). status_of end ≢ 5) same not_5) (subst (λ (end : Ending). status_of end ≢ 9) same not_9)
-quiet-as due its before after quiet (inr same) not_5 not_9 = absurd (not_9 (ap status_of same))
-
+-- the same of the count of faults of the files
 pub quiet-early : (due its : Ending) (before after : ℕ) → IsQuiet due before after → EndsAs due its → IsQuiet its before after
 quiet-early due its before after quiet (inl same) = subst (λ (end : Ending). IsQuiet end before after) (sym same) quiet
 quiet-early due its before after quiet (inr same) = subst (λ (end : Ending). IsQuiet end before after) (sym same) tt

@@ -1,6 +1,7 @@
 -- What a run leaves of its volumes holds sound logs of its text, at each moment since the systems were opened.
 use Rattle.std.proofs.Common.{◌≡◌, inl, inr, ℕ, ◌-◌, ◌≤◌, Option, Some, List, [], ◌∷◌, length, refl, sym, ap, subst, ◌∙◌, arith}
 use Rattle.std.proofs.lemmas.Bool.{cases_lt}
+use Rattle.ale_io.specs.Told.{Told}
 use Rattle.ale_volumes.specs.Disk.{Disk, LeftSince}
 use Rattle.ale_volumes.specs.Volume.{IsImage}
 use Rattle.said_models.specs.Said.{said}
@@ -25,10 +26,10 @@ use Rattle.runs.specs.Turns.{Turn}
 use Rattle.ale_host.specs.Running.{KeepsSoundLogs}
 
 -- what is so from each stage of a run is so from the first
-pub sound-first : {V : Type 0} (disk : Disk V) (inputs : Inputs) (before : Stage V) (turns : List (Turn V)) (after : Stage V)
-    → IsSoundFromEach disk inputs before turns after → IsSoundFrom disk inputs before after
-sound-first disk inputs before [] after sound = sound
-sound-first disk inputs before (turn ∷ turns) after sound = sound.0
+pub sound-first : {V : Type 0} (disk : Disk V) (inputs : Inputs) (told : List ℕ → Told) (before : Stage V) (turns : List (Turn V)) (after : Stage V)
+    → IsSoundFromEach disk inputs told before turns after → IsSoundFrom disk inputs told before after
+sound-first disk inputs told before [] after sound = sound
+sound-first disk inputs told before (turn ∷ turns) after sound = sound.0
 
 module _ {V : Type 0} (disk : Disk V)
     (only_now : disk.told → (vols : V) (n : ℕ) (image : List ℕ) → LeftSince disk vols n (disk.moment vols) image → IsImage (disk.volume vols n) image)

@@ -41,8 +41,7 @@ module _ {V : Type 0} (disk : Disk V) (words : List (List ℕ)) (told : List ℕ
     pub documents : List RawDoc
     pub commands : List Command
     pub asks : AskFor words told report text model documents commands
-    pub quiet : files_after ≡ files
-    pub runs : RunsTo disk text model (masters_of documents) commands before after report clock given given_after status printed sure
+    pub runs : RunsTo disk text model (masters_of documents) commands before after report told files files_after clock given given_after status printed sure
 
   -- what became of these words
   abbrev pub EndsSo : Type 0

@@ -141,10 +141,11 @@ IsSureOf report.Counts its turns sure = sure ≡ []
 
 -- ---- the run
 
--- Commands were carried out from systems that had begun. The report is that of the turns, or of a load that of the logs that it leaves;
+-- Commands were carried out from systems that had begun, over files of which so many calls had failed before and have failed after. The report is
+-- that of the turns, or of a load that of the logs that it leaves;
 -- the volumes hold the logs that the last turn left, these are safe, and a system is down exactly where its cause says so.
-pub record RanFrom {V : Type 0} (disk : Disk V) (report : Report) (model : Lists) (inputs : Inputs) (commands : List Command)
-    (begun : KeptOf ModelRules DocumentTables V) (after : V)
+pub record RanFrom {V : Type 0} (disk : Disk V) (report : Report) (model : Lists) (inputs : Inputs) (told : List ℕ → Told) (commands : List Command)
+    (begun : KeptOf ModelRules DocumentTables V) (after : V) (failed failed_after : ℕ)
     (clock : Type 0) (given given_after : List ℕ) (status : ℕ) (printed sure : List ℕ) : Type 0 where
   pub first : Stage V
   pub begins : first.landscape ≡ begun
@@ -152,7 +153,7 @@ pub record RanFrom {V : Type 0} (disk : Disk V) (report : Report) (model : Lists
   pub turns : List (Turn V)
   pub its_end : RunEnd
   pub left : Stage V
-  pub run : Run disk inputs commands first left its_end turns
+  pub run : Run disk inputs told commands first left failed failed_after its_end turns
   pub line : List ℕ
   pub ends : EndsReporting report left model its_end status line
   pub printed_is : printed ≡ reported report turns ++ line
@@ -191,7 +192,8 @@ module _ {V : Type 0} (disk : Disk V) (text : List ℕ) (model : Lists) (masters
     pub left : disk.told → LeavesOpening disk many text (Some moment) before begun.vols (⊤ × HoldSoundLogs many text (bytes_in disk before)) ⊥
     pub opens : OpeningLeavesOpenable disk many text before begun.vols
 
-  module _ (report : Report) (clock : Type 0) (given given_after : List ℕ) (status : ℕ) (printed sure : List ℕ) where
+  module _ (report : Report) (told : List ℕ → Told) (failed failed_after : ℕ) (clock : Type 0) (given given_after : List ℕ) (status : ℕ)
+      (printed sure : List ℕ) where
     -- the systems were not opened, and no command was carried out
     pub record Unopened : Type 0 where
       pub moment : ℕ
@@ -199,6 +201,7 @@ module _ {V : Type 0} (disk : Disk V) (text : List ℕ) (model : Lists) (masters
       pub not_opened : NotOpened moment why
       pub ends : EndsUnopened model why status printed
       pub sure_is : sure ≡ []
+      pub files : failed_after ≡ failed
       pub asked : clock → given_after ≡ given ++ moment ∷ []
 
     -- The systems were opened, and the commands carried out; the volumes hold sound logs of the text all along. Where no queue was stopped at
@@ -213,7 +216,7 @@ module _ {V : Type 0} (disk : Disk V) (text : List ℕ) (model : Lists) (masters
       pub masters_are : inputs.masters ≡ masters
       pub given_then : List ℕ
       pub asked : clock → given_then ≡ given ++ moment ∷ []
-      pub from : RanFrom disk report model inputs commands begun after clock given_then given_after status printed sure
+      pub from : RanFrom disk report model inputs told commands begun after failed failed_after clock given_then given_after status printed sure
       pub keeps : KeepsSoundLogs disk many text begun after
       pub complete : IsClear begun.world → AllGoThrough from.turns
 

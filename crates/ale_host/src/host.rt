@@ -42,19 +42,20 @@ pub struct Ended<V> {
 ///
 /// The status is 0 where the command was carried out, 1 where the words have none of the three forms, 2 where the text of
 /// a model is refused, 3 where a line of a document file is bad, 4 where a line of a script is no command, 5 where a file
-/// was not read, 6 where the sink did not take all of the text, 7 where the volumes hold no logs of the model's systems, 8 where
-/// a volume failed as it was opened, 9 where memory ran out, 10 where a line passes a limit of its file, 11 where a system is
-/// down by a fault of its volume and 12 where it is down because a record did not fit.
+/// was not read, 6 where the sink did not take all of the text, 7 where the volumes hold no logs of the model's systems, or an
+/// `open` found another log than was kept, 8 where a volume failed as the systems were opened, 9 where memory ran out, 10 where a
+/// line passes a limit of its file, 11 where a system is down by a fault of its volume and 12 where it is down because a record did
+/// not fit.
 ///
-/// The files of `run` are read in order, and the first one that is not read or is refused ends it. Then the clock is asked and
-/// the systems are opened over the volumes, system i on volume i - 1: each goes on from the log that it holds, or begins with a
-/// Genesis; and then the commands are carried out, each with the moment that the clock gives for it. By design, and by no clause,
-/// a drain is done by as many dialog workers as the last word says, which pass the gate before each work. The text of each
-/// command is put behind it. A system that goes down
-/// ends the run behind the command in which it did. A load is the same with the texts that it makes from its number, but for what is put:
-/// one line at its end, which tells how much the logs hold then. With each status but 6 the text that was put is exactly that of the
-/// ending, and with 6 it is a part of it that begins at its front, and that has at least the text of all commands but the last one that was
-/// carried out. The bytes of a document file have one ending.
+/// The files of `run` are read in order, and the first one that is not read or is refused ends it. Then the clock is asked and the
+/// systems are opened over the volumes, system i on volume i - 1: each goes on from the log that it holds, or begins with a Genesis.
+/// And then the commands are carried out, each with the moment that the clock gives for it; a `remodel` reads a file of its own.
+/// By design, and by no clause, it does so once and when it comes, and a drain is done by as many dialog workers as the last word says, which pass the gate before
+/// each work. The text of each command is put behind it. A system that goes down ends nothing. A load is the same with the texts that
+/// it makes from its number, but for what is put: one line at its end, which tells how much the logs hold then.
+///
+/// With each status but 6 the text that was put is exactly that of the ending, and with 6 it is a part of it that begins at its front,
+/// and that has at least the text of all commands but the last one that was carried out. The bytes of a document file have one ending.
 pub fn aleflow<
     R: Threads + Wait + Sync,
     G: Gate + Sync,
@@ -86,7 +87,6 @@ pub fn aleflow<
     ensures one_ending { (bytes : List ℕ) (one other : Ending) → EndsFile bytes one → EndsFile bytes other → one ≡ other }
     ensures files_kept { (name : List ℕ) → F.told files.new name ≡ F.told files.old name }
     ensures files_counted { F.faults files.old ≤ F.faults files.new }
-    ensures files_quiet { result.status ≢ 5 → result.status ≢ 6 → result.status ≢ 9 → F.faults files.new ≡ F.faults files.old }
     ensures sink_counted { K.faults out.old ≤ K.faults out.new }
 {
     match asked(alloc, words, files) {
@@ -97,7 +97,7 @@ pub fn aleflow<
         Ok(Order { prepared, report }) => {
             let workers = workers_of(words);
             let crew = Crew { rt, gate, workers };
-            run(&crew, alloc, prepared, report, out, vols, clock)
+            run(&crew, alloc, prepared, report, files, out, vols, clock)
         }
     }
 }

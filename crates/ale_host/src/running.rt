@@ -20,7 +20,7 @@ use crate::loading::load_line;
 use crate::prepared::Prepared;
 use crate::unopened::{journals_text, put_unopened};
 use ale_base::{Items, OutOfMemory, SystemNo};
-use ale_io::{Clock, Gate, Sink, SinkFailed};
+use ale_io::{Clock, Files, Gate, Sink, SinkFailed};
 use ale_volumes::Volumes;
 use dist_model::Model;
 use landscape::{Counts, Landscape, OpenEnd};
@@ -43,11 +43,19 @@ pub(crate) enum Report {
 }
 
 /// Carries out a run or a load: the clock is asked, the systems are opened over the volumes with that moment, and then the commands are carried out.
-pub(crate) fn run<R: Threads + Wait + Sync, G: Gate + Sync, V: Volumes + Send, K: Sink, C: Clock>(
+pub(crate) fn run<
+    R: Threads + Wait + Sync,
+    G: Gate + Sync,
+    F: Files,
+    V: Volumes + Send,
+    K: Sink,
+    C: Clock,
+>(
     crew: &Crew<'_, R, G>,
     alloc: Global,
     prepared: Prepared,
     report: Report,
+    files: &mut F,
     out: &mut K,
     vols: V,
     clock: &mut C,
@@ -57,13 +65,17 @@ pub(crate) fn run<R: Threads + Wait + Sync, G: Gate + Sync, V: Volumes + Send, K
     requires names { arc_value prepared.inputs.model ≡ arc_value prepared.model }
     ensures ended { result.status ≢ 6 → (printed : List ℕ) × ((sure : List ℕ)
         × RunsTo V.disk
-        prepared.text (arc_value prepared.model) prepared.inputs.masters prepared.commands vols result.vols report (C.told clock.new) (C.given clock.old) (C.given clock.new) result.status printed sure
+        prepared.text (arc_value prepared.model) prepared.inputs.masters prepared.commands vols result.vols
+        report (F.told files.old) (F.faults files.old) (F.faults files.new) (C.told clock.new) (C.given clock.old) (C.given clock.new) result.status printed sure
         × IsPut (K.contents out.old) (K.contents out.new) (K.faults out.old) (K.faults out.new) printed) }
     ensures write_fault { result.status ≡ 6 → (status : ℕ) × ((printed : List ℕ) × ((sure : List ℕ)
         × RunsTo V.disk
-        prepared.text (arc_value prepared.model) prepared.inputs.masters prepared.commands vols result.vols report (C.told clock.new) (C.given clock.old) (C.given clock.new) status printed sure
+        prepared.text (arc_value prepared.model) prepared.inputs.masters prepared.commands vols result.vols
+        report (F.told files.old) (F.faults files.old) (F.faults files.new) (C.told clock.new) (C.given clock.old) (C.given clock.new) status printed sure
         × IsFront (K.contents out.old) (K.contents out.new) (K.faults out.old) (K.faults out.new) printed sure)) }
     ensures counted { K.faults out.old ≤ K.faults out.new }
+    ensures files { (name : List ℕ) → F.told files.new name ≡ F.told files.old name }
+    ensures files_counted { F.faults files.old ≤ F.faults files.new }
 {
     let Prepared {
         text,
@@ -81,10 +93,10 @@ pub(crate) fn run<R: Threads + Wait + Sync, G: Gate + Sync, V: Volumes + Send, K
             let commands = commands.as_slice();
             match report {
                 Report::Commands => run_opened(
-                    crew, alloc, landscape, &inputs, commands, out, clock,
+                    crew, alloc, landscape, &inputs, commands, files, out, clock,
                 ),
                 Report::Counts => load_opened(
-                    crew, alloc, landscape, &inputs, commands, out, clock,
+                    crew, alloc, landscape, &inputs, commands, files, out, clock,
                 ),
             }
         }
@@ -92,31 +104,43 @@ pub(crate) fn run<R: Threads + Wait + Sync, G: Gate + Sync, V: Volumes + Send, K
 }
 
 /// Carries out commands, and puts the last line.
-fn run_opened<R: Threads + Wait + Sync, G: Gate + Sync, V: Volumes + Send, K: Sink, C: Clock>(
+fn run_opened<
+    R: Threads + Wait + Sync,
+    G: Gate + Sync,
+    F: Files,
+    V: Volumes + Send,
+    K: Sink,
+    C: Clock,
+>(
     crew: &Crew<'_, R, G>,
     alloc: Global,
     landscape: Landscape<V>,
     inputs: &Inputs,
     commands: &[Command],
+    files: &mut F,
     out: &mut K,
     clock: &mut C,
 ) -> Ended<V>
     ensures ended { result.status ≢ 6 → (printed : List ℕ) × ((sure : List ℕ)
         × RanFrom V.disk
-        report_of.Commands (arc_value inputs.now.model) inputs.now commands.now landscape result.vols (C.told clock.new) (C.given clock.old) (C.given clock.new) result.status printed sure
+        report_of.Commands (arc_value inputs.now.model) inputs.now (F.told files.old) commands.now landscape result.vols
+        (F.faults files.old) (F.faults files.new) (C.told clock.new) (C.given clock.old) (C.given clock.new) result.status printed sure
         × IsPut (K.contents out.old) (K.contents out.new) (K.faults out.old) (K.faults out.new) printed) }
     ensures write_fault { result.status ≡ 6 → (status : ℕ) × ((printed : List ℕ) × ((sure : List ℕ)
         × RanFrom V.disk
-        report_of.Commands (arc_value inputs.now.model) inputs.now commands.now landscape result.vols (C.told clock.new) (C.given clock.old) (C.given clock.new) status printed sure
+        report_of.Commands (arc_value inputs.now.model) inputs.now (F.told files.old) commands.now landscape result.vols
+        (F.faults files.old) (F.faults files.new) (C.told clock.new) (C.given clock.old) (C.given clock.new) status printed sure
         × IsFront (K.contents out.old) (K.contents out.new) (K.faults out.old) (K.faults out.new) printed sure)) }
     ensures told { C.told clock.new → C.told clock.old }
     ensures counted { K.faults out.old ≤ K.faults out.new }
+    ensures files { (name : List ℕ) → F.told files.new name ≡ F.told files.old name }
+    ensures files_counted { F.faults files.old ≤ F.faults files.new }
 {
     let stage = Stage {
         landscape,
         wires: Wires::new(alloc),
     };
-    let Ran { stage, end } = run_script(crew, alloc, stage, inputs, commands, out, clock);
+    let Ran { stage, end } = run_script(crew, alloc, stage, inputs, commands, files, out, clock);
     let status = close(alloc, &inputs.model, end, out);
     let Stage { landscape, .. } = stage;
     let _ = landscape.world();
@@ -151,25 +175,37 @@ impl Sink for Unprinted {
 }
 
 /// Carries out commands whose text is not put, and puts how much the logs hold then, or another last line.
-fn load_opened<R: Threads + Wait + Sync, G: Gate + Sync, V: Volumes + Send, K: Sink, C: Clock>(
+fn load_opened<
+    R: Threads + Wait + Sync,
+    G: Gate + Sync,
+    F: Files,
+    V: Volumes + Send,
+    K: Sink,
+    C: Clock,
+>(
     crew: &Crew<'_, R, G>,
     alloc: Global,
     landscape: Landscape<V>,
     inputs: &Inputs,
     commands: &[Command],
+    files: &mut F,
     out: &mut K,
     clock: &mut C,
 ) -> Ended<V>
     ensures ended { result.status ≢ 6 → (printed : List ℕ) × ((sure : List ℕ)
         × RanFrom V.disk
-        report_of.Counts (arc_value inputs.now.model) inputs.now commands.now landscape result.vols (C.told clock.new) (C.given clock.old) (C.given clock.new) result.status printed sure
+        report_of.Counts (arc_value inputs.now.model) inputs.now (F.told files.old) commands.now landscape result.vols
+        (F.faults files.old) (F.faults files.new) (C.told clock.new) (C.given clock.old) (C.given clock.new) result.status printed sure
         × IsPut (K.contents out.old) (K.contents out.new) (K.faults out.old) (K.faults out.new) printed) }
     ensures write_fault { result.status ≡ 6 → (status : ℕ) × ((printed : List ℕ) × ((sure : List ℕ)
         × RanFrom V.disk
-        report_of.Counts (arc_value inputs.now.model) inputs.now commands.now landscape result.vols (C.told clock.new) (C.given clock.old) (C.given clock.new) status printed sure
+        report_of.Counts (arc_value inputs.now.model) inputs.now (F.told files.old) commands.now landscape result.vols
+        (F.faults files.old) (F.faults files.new) (C.told clock.new) (C.given clock.old) (C.given clock.new) status printed sure
         × IsFront (K.contents out.old) (K.contents out.new) (K.faults out.old) (K.faults out.new) printed sure)) }
     ensures told { C.told clock.new → C.told clock.old }
     ensures counted { K.faults out.old ≤ K.faults out.new }
+    ensures files { (name : List ℕ) → F.told files.new name ≡ F.told files.old name }
+    ensures files_counted { F.faults files.old ≤ F.faults files.new }
 {
     let stage = Stage {
         landscape,
@@ -182,6 +218,7 @@ fn load_opened<R: Threads + Wait + Sync, G: Gate + Sync, V: Volumes + Send, K: S
         stage,
         inputs,
         commands,
+        files,
         &mut unprinted,
         clock,
     );

@@ -9,7 +9,7 @@ use Rattle.status_log.specs.declared.refusal.Refusal.TheVariants as refusal
 use Rattle.status_log.specs.declared.status.Status.{Status}
 use Rattle.status_log.specs.Refusal.{IsNumbered}
 use Rattle.report_text.specs.declared.reply.Reply.{Reply}
-use Rattle.report_text.specs.declared.reply.Reply.TheVariants.{Sent, Pointers, Gathered, Units, Finished, Carried, New, Known, SysFail, Down, Posted, Lines}
+use Rattle.report_text.specs.declared.reply.Reply.TheVariants.{Sent, Pointers, Gathered, Units, Models, Finished, Carried, New, Known, SysFail, Down, Posted, Lines}
 use Rattle.report_text.specs.declared.reply.Reply.TheVariants.{Fault, Refused}
 
 -- a word and a number behind a blank
@@ -62,6 +62,7 @@ shown_reply (Sent documents units) = shown_sent documents units
 shown_reply (Pointers count) = counted (codes "pointers") count
 shown_reply (Gathered masters documents units) = counted (codes "masters") masters ++ (codes " " ++ shown_sent documents units)
 shown_reply (Units count) = counted (codes "units") count
+shown_reply (Models count) = counted (codes "models") count
 shown_reply (Finished count) = counted (codes "finished") count
 shown_reply Carried = codes "ok"
 shown_reply New = codes "new"

@@ -70,6 +70,7 @@ fn put_reply(alloc: Global, text: &mut Vec<u8>, answer: &Reply) -> Result<(), Ou
             units,
         } => put_gathered(alloc, text, *masters, *documents, *units),
         Reply::Units(count) => put_counted(alloc, text, b"units", *count),
+        Reply::Models(count) => put_counted(alloc, text, b"models", *count),
         Reply::Finished(count) => put_counted(alloc, text, b"finished", *count),
         Reply::Carried => put(text, b"ok"),
         Reply::New => put(text, b"new"),

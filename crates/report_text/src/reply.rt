@@ -25,6 +25,8 @@ pub enum Reply {
     },
     /// `units U`: of documents that waited.
     Units(u64),
+    /// `models N`: systems at which a model came into force.
+    Models(u64),
     /// `finished N`: units that were executed or failed in a drain.
     Finished(u64),
     /// `ok`: the command was carried out.

@@ -4,6 +4,7 @@ use Rattle.std.proofs.Common.{◌≡◌, ◌<◌, ◌&&◌, ℕ, zero, suc, not,
 use Rattle.std.proofs.Common.{inr, refl, sym, ap, subst, ◌∙◌, append-nil, arith}
 use Rattle.std.specs.Prelude.{⊤, slice_get}
 use Rattle.std.proofs.lemmas.Bool.{and_parts, cases_Bool}
+use Rattle.ale_io.specs.Told.{Told}
 use Rattle.ale_volumes.specs.Disk.{Disk}
 use Rattle.ale_base.specs.Tid.{TidOf}
 use Rattle.ale_base.specs.declared.mark.Mark.{Mark as Cause}
@@ -19,7 +20,7 @@ use Rattle.unit_core.specs.Queues.{is_listed}
 use Rattle.said_models.specs.OfLog.{model_of}
 use Rattle.trfc_protocol.specs.declared.event.Event.{Event}
 use Rattle.trfc_protocol.specs.declared.event.Event.TheVariants as event
-use Rattle.trfc_protocol.specs.declared.event.Action.TheVariants.{Append}
+use Rattle.trfc_protocol.specs.declared.event.Action.TheVariants.{Append, Revoke}
 use Rattle.trfc_protocol.specs.declared.world.SystemState.{SystemState}
 use Rattle.trfc_protocol.specs.declared.world.World.{World}
 use Rattle.trfc_protocol.specs.Happens.{happens, written}
@@ -60,9 +61,11 @@ use Rattle.runs.specs.declared.answered.Answered.{Answered}
 use Rattle.runs.specs.declared.inputs.Inputs.{Inputs}
 use Rattle.runs.specs.declared.stage.Stage.{Stage}
 use Rattle.runs.specs.Complete.{AllGoThrough, HoldsNothing, IsFree, holds_nothing}
-use Rattle.runs.specs.Does.{At, Carries, Commits, Does, Drains, Lates, Leads, Opens, Operates, Queues, Shows}
+use Rattle.runs.specs.Does.{At, Carries, Commits, Done, Drains, Lates, Leads, Opens, Operates, Queues, Remodels, Shows}
 use Rattle.runs.specs.Does.{asked_master, numbered, shown_gathered, shown_sent}
 use Rattle.runs.specs.Does.{answer_of, drained_as, shown_late}
+use Rattle.landscape.specs.Remodelled.{to_remodel}
+use Rattle.runs.specs.Remodels.{FailsAt, RemodelledAs, TakeAll}
 use Rattle.runs.specs.Turns.{Turn, at_moment, down_from, first_down}
 use Rattle.runs.specs.steps.Keeping.{KeepsFree}
 
@@ -164,7 +167,8 @@ module _ {R : Type 0} (rules : Meaning) (world : World R) (system : ℕ) (next :
 
   operate-clear : Harmless next → IsClear (happens rules world (event.Operator (Append system next)))
   operate-clear is =
-      written-clear world (is_up world system && may_operate world next && may_follow rules system (log_of world system) next) system next up (λ met. is) clear
+      written-clear world (is_up world system && may_operate world next && may_follow rules system (log_of world system) next) system next up (λ met.
+      is) clear
 
   fallen-clear : IsClear (happens rules world (event.Fall system (Some next)))
   fallen-clear = by (may_keep rules world system next)
@@ -174,6 +178,26 @@ module _ {R : Type 0} (rules : Meaning) (world : World R) (system : ℕ) (next :
           clear-behind world (with_fall world system (Some next)) clear
           (λ other. ([], fall-log world system up (Some next) other ∙ sym (append-nil (log_of world other)), refl))
       by false = clear
+
+-- a record that holds nothing up is appended, or is none that its event appends
+append-clear : {R : Type 0} (rules : Meaning) (world : World R) (system : ℕ) (next : Record) → Harmless next → IsClear world
+    → IsClear (happens rules world (event.Operator (Append system next)))
+append-clear rules world system next is clear = elim (cases_Bool (is_up world system)) [
+  | inl up ↦ operate-clear rules world system next up clear is
+  | inr down ↦
+      let met : (is_up world system && may_operate world next && may_follow rules system (log_of world system) next) ≡ false = rw down refl in
+      subst (λ (b : Bool). IsClear (written (record_if b system next) world)) (sym met) clear
+]
+
+-- a system fell as it was to append the record that brings a model
+failed-clear : {R : Type 0} (rules : Meaning) (world : World R) (system : ℕ) (text : List ℕ) → IsClear world
+    → IsClear (happens rules world (event.Fall system (Some (log.Model text))))
+failed-clear rules world system text clear = elim (cases_Bool (is_up world system)) [
+  | inl up ↦ fallen-clear rules world system (log.Model text) up clear
+  | inr down ↦
+      let met : may_keep rules world system (log.Model text) ≡ false = rw down refl in
+      subst (λ (b : Bool). IsClear (cond b (with_fall world system (Some (log.Model text))) world)) (sym met) clear
+]
 
 -- ---- commands
 
@@ -351,6 +375,50 @@ module _ {V : Type 0} (disk : Disk V) (before after : Stage V) (answered : Answe
           (record { up = all_up; clear = through.0; none = through.1 }, through.2)
       drained (Err short) is answer_is = cc
 
+  -- the model is replaced: each system that takes it appends a record that holds nothing up
+  module _ (text : List ℕ) where
+    takes-clear : (systems : List ℕ) (begun ended : KeptOf ModelRules DocumentTables V) → TakeAll disk text systems begun ended → IsClear begun.world
+        → IsClear ended.world
+    takes-clear [] begun ended same clear = subst (λ (k : KeptOf ModelRules DocumentTables V). IsClear k.world) (sym same) clear
+    takes-clear (system ∷ systems) begun ended (next, took, rest) clear =
+        takes-clear systems next ended rest
+        (subst (λ (w : World ModelRules). IsClear w) (sym took.world)
+        (append-clear (model_meaning begun.world.rules.systems) begun.world system (log.Model text) refl clear))
+
+    fails-clear : (left : List ℕ) (between ended : KeptOf ModelRules DocumentTables V) → FailsAt disk text ended left between → IsClear between.world
+        → IsClear ended.world
+    fails-clear [] between ended fails clear = absurd fails
+    fails-clear (system ∷ left) between ended fails clear =
+        subst (λ (w : World ModelRules). IsClear w) (sym fails.world)
+        (failed-clear (model_meaning between.world.rules.systems) between.world system text clear)
+
+    remodelled-clear : (new : Lists) (begun ended : KeptOf ModelRules DocumentTables V) (result : Result ℕ Refusal)
+        → RemodelledAs disk text new begun ended result → Ok answered ≡ answer_of reply.Models result → IsClear begun.world → IsClear ended.world
+    remodelled-clear new begun ended (Ok count) did answer_is clear = takes-clear (to_remodel begun.world text) begun ended did.2 clear
+    remodelled-clear new begun ended (Err refusal.Volume) did answer_is clear =
+        fails-clear did.1.left did.1.between ended did.1.ends (takes-clear did.1.done begun did.1.between did.1.took clear)
+    remodelled-clear new begun ended (Err refusal.OutOfMemory) did answer_is clear = cc
+    remodelled-clear new begun ended (Err _) did answer_is clear =
+        subst (λ (k : KeptOf ModelRules DocumentTables V). IsClear k.world) (sym did.1) clear
+
+  revoked-clear : (rules : Meaning) (world : World ModelRules) → IsClear world → IsClear (happens rules world (event.Operator Revoke))
+  revoked-clear rules world clear = record { started = clear.started; unmarked = clear.unmarked }
+
+  remodels-free : (said : Told) (failed failed_after : ℕ)
+      → Remodels disk before (Ok answered) after (first_down before.landscape.world) said failed failed_after → IsFree after
+  remodels-free said failed failed_after = by (first_down before.landscape.world)
+    where
+      by : (down : Option ℕ) → Remodels disk before (Ok answered) after down said failed failed_after → IsFree after
+      by (Some down) did = free-same did.1
+      by None did = elim did [
+        | inl unread ↦ free-same unread.4
+        | inr brings ↦
+            let brought = brings.4 in
+            free-so (remodelled-clear brings.0 brings.1 brought.0 after.landscape brought.3 brought.4 brought.5
+            (subst (λ (w : World ModelRules). IsClear w) (sym (brought.1).world)
+            (revoked-clear (model_meaning before.landscape.world.rules.systems) before.landscape.world free.clear))) brought.6
+      ]
+
   module _ (inputs : Inputs) (ups : AreUp after.landscape.world) (offers : AreOffered after.landscape.world) where
     -- a queue is started
     abbrev Asks : ℕ → List ℕ → Option ℕ → List Record → Asked
@@ -374,75 +442,79 @@ module _ {V : Type 0} (disk : Disk V) (before after : Stage V) (answered : Answe
     abbrev Kept : Form → Type 0
     Kept asked = IsFree after × (asked ≡ form.Drain → AreThrough after.landscape.world)
 
-    does-kept : (asked : Form) → Does disk inputs before (Ok answered) after asked → holds_nothing asked ≡ true → Kept asked
-    does-kept (form.Send sys number) does is = (
-      commits-at inputs sys (asked_master (numbered number inputs.masters))
-          (λ system asked sent. sent ≡ sent_counts (counts_asked (log_of before.landscape.world system) asked)) shown_sent does,
-      λ drain. cc,
-    )
-    does-kept (form.Put sys change) does is = (
-      operates-at inputs sys (λ system log. asked_put log change)
-          (λ system pointers. pointers ≡ pointers_noted (log_of before.landscape.world system) change) reply.Pointers
-          (λ system records next asked. put-harmless records change next asked) does,
-      λ drain. cc,
-    )
-    does-kept (form.Gather sys message) does is = (
-      commits-at inputs sys (λ log. asked_gather log message)
-          (λ system asked made. made ≡ counts_asked (log_of before.landscape.world system) asked) shown_gathered does,
-      λ drain. cc,
-    )
-    does-kept (form.Dispatch sys) does is = (
-      commits-at inputs sys (λ log. asked_dispatch log)
-          (λ system asked units. units ≡ (counts_asked (log_of before.landscape.world system) asked).units) reply.Units does,
-      λ drain. cc,
-    )
-    does-kept form.Drain does is = let both = drains-free ups offers does in (both.0, λ drain. both.1)
-    does-kept (form.Wire tid letters) does is = cc
-    does-kept (form.Stop sys destination queue) does is = cc
-    does-kept (form.Start sys destination queue) does is = (
-      at-free inputs (system_named sys (arc_value inputs.model))
-          (λ system. Leads disk inputs before (Ok answered) after destination
-          (λ to. Queues disk inputs before (Ok answered) after system to queue start_of))
-          (λ system its. starts-free system queue destination its) does,
-      λ drain. cc,
-    )
-    does-kept (form.Retry sys tid) does is = (
-      operates-at inputs sys {T = Unit {0}} (λ system. asked_retry before.landscape.world.rules.systems system tid) (λ system done. ⊤)
-          (λ done. reply.Carried)
-          (λ system records next asked. retry-harmless before.landscape.world.rules.systems system tid records next asked) does,
-      λ drain. cc,
-    )
-    does-kept (form.Late tid) does is = (lates-free tid does, λ drain. cc)
-    does-kept (form.App sys doc) does is = (
-      operates-at inputs sys (λ system log. asked_app log doc.0) (λ system status. status ≡ status_at after.landscape.world system doc.0) reply.Posted
-          (λ system records next asked. pass-harmless (has_inbound records doc.0) (stands_at records 64 doc.0) (log.App (record { 0 = doc.0 })) next refl asked)
-          does,
-      λ drain. cc,
-    )
-    does-kept (form.Repost sys doc) does is = (
-      operates-at inputs sys (λ system log. asked_repost log doc.0) (λ system status. status ≡ status_at after.landscape.world system doc.0) reply.Posted
-          (λ system records next asked.
-          pass-harmless (has_inbound records doc.0) (stands_at records 51 doc.0) (log.Repost (record { 0 = doc.0 })) next refl asked) does,
-      λ drain. cc,
-    )
-    does-kept (form.Crash sys) does is = cc
-    does-kept (form.Open sys) does is = (
-      at-free inputs (system_named sys (arc_value inputs.model)) (λ system. Opens disk before (Ok answered) after system)
-          (λ system its. opens-free system its) does,
-      λ drain. cc,
-    )
-    does-kept (form.ShowDocs sys) does is = (shows-at inputs sys (λ system. show.Docs system) does, λ drain. cc)
-    does-kept (form.ShowDoc sys doc) does is = (shows-at inputs sys (λ system. show.Doc system doc) does, λ drain. cc)
-    does-kept (form.ShowUnits sys) does is = (shows-at inputs sys (λ system. show.Units system) does, λ drain. cc)
-    does-kept (form.ShowQueues sys) does is = (shows-at inputs sys (λ system. show.Queues system) does, λ drain. cc)
-    does-kept (form.ShowObjects sys) does is = (shows-at inputs sys (λ system. show.Objects system) does, λ drain. cc)
+    module _ (told : List ℕ → Told) (failed failed_after : ℕ) where
+      does-kept : (asked : Form) → Done disk inputs before (Ok answered) after told failed failed_after asked → holds_nothing asked ≡ true → Kept asked
+      does-kept (form.Send sys number) does is = (
+        commits-at inputs sys (asked_master (numbered number inputs.masters))
+            (λ system asked sent. sent ≡ sent_counts (counts_asked (log_of before.landscape.world system) asked)) shown_sent does.0,
+        λ drain. cc,
+      )
+      does-kept (form.Put sys change) does is = (
+        operates-at inputs sys (λ system log. asked_put log change)
+            (λ system pointers. pointers ≡ pointers_noted (log_of before.landscape.world system) change) reply.Pointers
+            (λ system records next asked. put-harmless records change next asked) does.0,
+        λ drain. cc,
+      )
+      does-kept (form.Gather sys message) does is = (
+        commits-at inputs sys (λ log. asked_gather log message)
+            (λ system asked made. made ≡ counts_asked (log_of before.landscape.world system) asked) shown_gathered does.0,
+        λ drain. cc,
+      )
+      does-kept (form.Dispatch sys) does is = (
+        commits-at inputs sys (λ log. asked_dispatch log)
+            (λ system asked units. units ≡ (counts_asked (log_of before.landscape.world system) asked).units) reply.Units does.0,
+        λ drain. cc,
+      )
+      does-kept form.Drain does is = let both = drains-free ups offers does.0 in (both.0, λ drain. both.1)
+      does-kept (form.Wire tid letters) does is = cc
+      does-kept (form.Stop sys destination queue) does is = cc
+      does-kept (form.Start sys destination queue) does is = (
+        at-free inputs (system_named sys (arc_value inputs.model))
+            (λ system. Leads disk inputs before (Ok answered) after destination
+            (λ to. Queues disk inputs before (Ok answered) after system to queue start_of))
+            (λ system its. starts-free system queue destination its) does.0,
+        λ drain. cc,
+      )
+      does-kept (form.Retry sys tid) does is = (
+        operates-at inputs sys {T = Unit {0}} (λ system. asked_retry before.landscape.world.rules.systems system tid) (λ system done. ⊤)
+            (λ done. reply.Carried)
+            (λ system records next asked. retry-harmless before.landscape.world.rules.systems system tid records next asked) does.0,
+        λ drain. cc,
+      )
+      does-kept (form.Late tid) does is = (lates-free tid does.0, λ drain. cc)
+      does-kept (form.App sys doc) does is = (
+        operates-at inputs sys (λ system log. asked_app log doc.0) (λ system status. status ≡ status_at after.landscape.world system doc.0) reply.Posted
+            (λ system records next asked. pass-harmless (has_inbound records doc.0) (stands_at records 64 doc.0) (log.App (record { 0 = doc.0 }))
+            next refl asked)
+            does.0,
+        λ drain. cc,
+      )
+      does-kept (form.Repost sys doc) does is = (
+        operates-at inputs sys (λ system log. asked_repost log doc.0) (λ system status. status ≡ status_at after.landscape.world system doc.0) reply.Posted
+            (λ system records next asked.
+            pass-harmless (has_inbound records doc.0) (stands_at records 51 doc.0) (log.Repost (record { 0 = doc.0 })) next refl asked) does.0,
+        λ drain. cc,
+      )
+      does-kept (form.Crash sys) does is = cc
+      does-kept (form.Open sys) does is = (
+        at-free inputs (system_named sys (arc_value inputs.model)) (λ system. Opens disk before (Ok answered) after system)
+            (λ system its. opens-free system its) does.0,
+        λ drain. cc,
+      )
+      does-kept (form.ShowDocs sys) does is = (shows-at inputs sys (λ system. show.Docs system) does.0, λ drain. cc)
+      does-kept (form.ShowDoc sys doc) does is = (shows-at inputs sys (λ system. show.Doc system doc) does.0, λ drain. cc)
+      does-kept (form.ShowUnits sys) does is = (shows-at inputs sys (λ system. show.Units system) does.0, λ drain. cc)
+      does-kept (form.ShowQueues sys) does is = (shows-at inputs sys (λ system. show.Queues system) does.0, λ drain. cc)
+      does-kept (form.ShowObjects sys) does is = (shows-at inputs sys (λ system. show.Objects system) does.0, λ drain. cc)
+      does-kept (form.Remodel file) does is = (remodels-free (told file) failed failed_after does, λ drain. cc)
 
 -- so a command that was answered keeps units free
-pub keeps-free : {V : Type 0} (disk : Disk V) (inputs : Inputs) (moment : ℕ) (before after : Stage V) (answered : Answered) (asked : Form)
-    → IsLandscape meaning after.landscape.world → Does disk inputs (at_moment moment before) (Ok answered) after asked → KeepsFree before after asked
-keeps-free disk inputs moment before after answered asked is does holds up offers free =
+pub keeps-free : {V : Type 0} (disk : Disk V) (inputs : Inputs) (told : List ℕ → Told) (failed failed_after moment : ℕ) (before after : Stage V)
+    (answered : Answered) (asked : Form) → IsLandscape meaning after.landscape.world
+    → Done disk inputs (at_moment moment before) (Ok answered) after told failed failed_after asked → KeepsFree before after asked
+keeps-free disk inputs told failed failed_after moment before after answered asked is does holds up offers free =
     does-kept disk (at_moment moment before) after answered (record { up = free.up; clear = free.clear; none = free.none }) up inputs
-    (all-up after.landscape.world is up) offers asked does holds
+    (all-up after.landscape.world is up) offers told failed failed_after asked does holds
 
 -- ---- turns
 

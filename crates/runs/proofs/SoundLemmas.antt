@@ -4,6 +4,7 @@ use Rattle.std.specs.Arc.{arc_value}
 use Rattle.std.specs.Prelude.{⊤}
 use Rattle.ale_base.specs.Tid.{TidOf}
 use Rattle.ale_base.specs.declared.out_of_memory.OutOfMemory.{OutOfMemory}
+use Rattle.ale_io.specs.Told.{Told}
 use Rattle.ale_volumes.specs.Disk.{Disk}
 use Rattle.dist_model.specs.Model.{system_named}
 use Rattle.unit_core.specs.declared.records.Record.{Record}
@@ -34,9 +35,10 @@ use Rattle.unit_works.specs.Worked.{Lines}
 use Rattle.unit_works.proofs.WorkedLemmas.{meaning}
 use Rattle.runs.specs.declared.answered.Answered.{Answered}
 use Rattle.runs.specs.declared.halt.Halt.{Halt}
+use Rattle.runs.specs.declared.halt.Halt.TheVariants as halt
 use Rattle.runs.specs.declared.inputs.Inputs.{Inputs}
 use Rattle.runs.specs.declared.stage.Stage.{Stage}
-use Rattle.runs.specs.Does.{At, Carries, Commits, Crashes, Does, Goes, IsOneCall, Leads, Opens, Operates, Queues, Shows, Wired, asked_master, numbered}
+use Rattle.runs.specs.Does.{At, Carries, Commits, Crashes, Done, Goes, IsOneCall, Leads, Opens, Operates, Queues, Shows, Wired, asked_master, numbered}
 use Rattle.runs.specs.Does.{shown_gathered, shown_sent}
 
 module _ {V : Type 0} (disk : Disk V) (before : Stage V) (answer : Result Answered Halt) (after : Stage V)
@@ -56,7 +58,8 @@ module _ {V : Type 0} (disk : Disk V) (before : Stage V) (answer : Result Answer
   grown-wired : (tid : TidOf) (letters : List ℕ) (given : Result Answered Halt) → Wired disk before answer after tid letters given → Grown
   grown-wired tid letters (Ok answered) did =
       grown-none before.landscape.world after.landscape.world (ap (λ (kept : KeptOf ModelRules DocumentTables V). kept.world) did.1)
-  grown-wired tid letters (Err halt) did = grown-still did
+  grown-wired tid letters (Err halt.OutOfMemory) did = grown-still did
+  grown-wired tid letters (Err its) did = absurd did
 
   grown-crashes : (system : ℕ) → Crashes disk before answer after system → Grown
   grown-crashes system did = elim did [
@@ -125,53 +128,57 @@ module _ {V : Type 0} (disk : Disk V) (before : Stage V) (answer : Result Answer
     ]
 
     -- so each command goes soundly
-    pub goes-command : (asked : Form) → Does disk inputs before answer after asked → Goes disk inputs before answer after asked
-        → GoesSoundly disk before.landscape after.landscape
-    goes-command (form.Send sys number) does goes =
-        by-call (grown-commits sys (asked_master (numbered number inputs.masters))
-        (λ system asked sent. sent ≡ sent_counts (counts_asked (log_of before.landscape.world system) asked)) shown_sent does) goes
-    goes-command (form.Put sys change) does goes =
-        by-call (grown-operates sys (λ system log. asked_put log change)
-        (λ system pointers. pointers ≡ pointers_noted (log_of before.landscape.world system) change) reply.Pointers does) goes
-    goes-command (form.Gather sys message) does goes =
-        by-call (grown-commits sys (λ log. asked_gather log message)
-        (λ system asked made. made ≡ counts_asked (log_of before.landscape.world system) asked) shown_gathered does) goes
-    goes-command (form.Dispatch sys) does goes =
-        by-call (grown-commits sys (λ log. asked_dispatch log)
-        (λ system asked units. units ≡ (counts_asked (log_of before.landscape.world system) asked).units) reply.Units does) goes
-    goes-command form.Drain does goes = goes
-    goes-command (form.Wire tid letters) does goes = by-call (grown-wired tid letters answer does) goes
-    goes-command (form.Stop sys destination queue) does goes =
-        by-call (grown-at (system_named sys (arc_value inputs.model))
-        (λ system. Leads disk inputs before answer after destination
-        (λ to. Queues disk inputs before answer after system to queue stop_of))
-        (λ system its. grown-leads system queue stop_of destination its) does) goes
-    goes-command (form.Start sys destination queue) does goes =
-        by-call (grown-at (system_named sys (arc_value inputs.model))
-        (λ system. Leads disk inputs before answer after destination
-        (λ to. Queues disk inputs before answer after system to queue start_of))
-        (λ system its. grown-leads system queue start_of destination its) does) goes
-    goes-command (form.Retry sys tid) does goes =
-        by-call (grown-operates sys {T = Unit {0}} (λ system. asked_retry before.landscape.world.rules.systems system tid) (λ system done. ⊤)
-        (λ done. reply.Carried) does) goes
-    goes-command (form.Late tid) does goes = by-call (came-grown disk before.landscape after.landscape is tid does.0 does.1) goes
-    goes-command (form.App sys doc) does goes =
-        by-call (grown-operates sys (λ system log. asked_app log doc.0)
-        (λ system status. status ≡ status_at after.landscape.world system doc.0) reply.Posted does) goes
-    goes-command (form.Repost sys doc) does goes =
-        by-call (grown-operates sys (λ system log. asked_repost log doc.0)
-        (λ system status. status ≡ status_at after.landscape.world system doc.0) reply.Posted does) goes
-    goes-command (form.Crash sys) does goes =
-        by-call (grown-at (system_named sys (arc_value inputs.model)) (λ system. Crashes disk before answer after system) (λ system its. grown-crashes system its)
-        does) goes
-    goes-command (form.Open sys) does goes =
-        by-call (grown-at (system_named sys (arc_value inputs.model)) (λ system. Opens disk before answer after system) (λ system its. grown-opens system its)
-        does) goes
-    goes-command (form.ShowDocs sys) does goes = by-call (grown-shows sys (λ system. show.Docs system) does) goes
-    goes-command (form.ShowDoc sys doc) does goes = by-call (grown-shows sys (λ system. show.Doc system doc) does) goes
-    goes-command (form.ShowUnits sys) does goes = by-call (grown-shows sys (λ system. show.Units system) does) goes
-    goes-command (form.ShowQueues sys) does goes = by-call (grown-shows sys (λ system. show.Queues system) does) goes
-    goes-command (form.ShowObjects sys) does goes = by-call (grown-shows sys (λ system. show.Objects system) does) goes
+    module _ (told : List ℕ → Told) (failed failed_after : ℕ) where
+      pub goes-command : (asked : Form) → Done disk inputs before answer after told failed failed_after asked → Goes disk inputs before answer after asked
+          → GoesSoundly disk before.landscape after.landscape
+      goes-command (form.Send sys number) does goes =
+          by-call (grown-commits sys (asked_master (numbered number inputs.masters))
+          (λ system asked sent. sent ≡ sent_counts (counts_asked (log_of before.landscape.world system) asked)) shown_sent does.0) goes
+      goes-command (form.Put sys change) does goes =
+          by-call (grown-operates sys (λ system log. asked_put log change)
+          (λ system pointers. pointers ≡ pointers_noted (log_of before.landscape.world system) change) reply.Pointers does.0) goes
+      goes-command (form.Gather sys message) does goes =
+          by-call (grown-commits sys (λ log. asked_gather log message)
+          (λ system asked made. made ≡ counts_asked (log_of before.landscape.world system) asked) shown_gathered does.0) goes
+      goes-command (form.Dispatch sys) does goes =
+          by-call (grown-commits sys (λ log. asked_dispatch log)
+          (λ system asked units. units ≡ (counts_asked (log_of before.landscape.world system) asked).units) reply.Units does.0) goes
+      goes-command form.Drain does goes = goes
+      goes-command (form.Remodel file) does goes = goes
+      goes-command (form.Wire tid letters) does goes = by-call (grown-wired tid letters answer does.0) goes
+      goes-command (form.Stop sys destination queue) does goes =
+          by-call (grown-at (system_named sys (arc_value inputs.model))
+          (λ system. Leads disk inputs before answer after destination
+          (λ to. Queues disk inputs before answer after system to queue stop_of))
+          (λ system its. grown-leads system queue stop_of destination its) does.0) goes
+      goes-command (form.Start sys destination queue) does goes =
+          by-call (grown-at (system_named sys (arc_value inputs.model))
+          (λ system. Leads disk inputs before answer after destination
+          (λ to. Queues disk inputs before answer after system to queue start_of))
+          (λ system its. grown-leads system queue start_of destination its) does.0) goes
+      goes-command (form.Retry sys tid) does goes =
+          by-call (grown-operates sys {T = Unit {0}} (λ system. asked_retry before.landscape.world.rules.systems system tid) (λ system done. ⊤)
+          (λ done. reply.Carried) does.0) goes
+      goes-command (form.Late tid) does goes = by-call (came-grown disk before.landscape after.landscape is tid does.0.0 does.0.1) goes
+      goes-command (form.App sys doc) does goes =
+          by-call (grown-operates sys (λ system log. asked_app log doc.0)
+          (λ system status. status ≡ status_at after.landscape.world system doc.0) reply.Posted does.0) goes
+      goes-command (form.Repost sys doc) does goes =
+          by-call (grown-operates sys (λ system log. asked_repost log doc.0)
+          (λ system status. status ≡ status_at after.landscape.world system doc.0) reply.Posted does.0) goes
+      goes-command (form.Crash sys) does goes =
+          by-call (grown-at (system_named sys (arc_value inputs.model)) (λ system. Crashes disk before answer after system) (λ system its.
+          grown-crashes system its)
+          does.0) goes
+      goes-command (form.Open sys) does goes =
+          by-call (grown-at (system_named sys (arc_value inputs.model)) (λ system. Opens disk before answer after system) (λ system its. grown-opens
+          system its)
+          does.0) goes
+      goes-command (form.ShowDocs sys) does goes = by-call (grown-shows sys (λ system. show.Docs system) does.0) goes
+      goes-command (form.ShowDoc sys doc) does goes = by-call (grown-shows sys (λ system. show.Doc system doc) does.0) goes
+      goes-command (form.ShowUnits sys) does goes = by-call (grown-shows sys (λ system. show.Units system) does.0) goes
+      goes-command (form.ShowQueues sys) does goes = by-call (grown-shows sys (λ system. show.Queues system) does.0) goes
+      goes-command (form.ShowObjects sys) does goes = by-call (grown-shows sys (λ system. show.Objects system) does.0) goes
 
 -- however a drain ends, it goes soundly
 pub drained-goes : {V : Type 0} (disk : Disk V) (before : KeptOf ModelRules DocumentTables V) (lines : Lines) (after : KeptOf ModelRules DocumentTables V)

@@ -22,6 +22,7 @@ holds_nothing (form.Late tid) = true
 holds_nothing (form.App sys doc) = true
 holds_nothing (form.Repost sys doc) = true
 holds_nothing (form.Open sys) = true
+holds_nothing (form.Remodel file) = true
 holds_nothing (form.ShowDocs sys) = true
 holds_nothing (form.ShowDoc sys doc) = true
 holds_nothing (form.ShowUnits sys) = true

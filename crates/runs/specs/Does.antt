@@ -1,14 +1,22 @@
 -- What one command of a script does: how it is answered, and what becomes of the systems and of the letters. This project's own.
-use Rattle.std.specs.Prelude.{◌≡◌, ◌⊎◌, ⊤, ℕ, suc, ◌-◌, ◌^◌, ◌<◌, ◌==◌, true, false, List, Option, Some, None, Result, Ok, Err, length, slice_get, if◌then◌else◌}
+use Rattle.std.specs.Prelude.{◌≡◌, ◌⊎◌, ⊤, ℕ, suc, ◌-◌, ◌^◌, ◌<◌, ◌==◌, true, false, List, Option, Some}
+use Rattle.std.specs.Prelude.{None, Result, Ok, Err, length, slice_get, if◌then◌else◌}
 use Rattle.std.specs.Arc.{arc_value}
+use Rattle.ale_base.specs.Faults.{Rose}
+use Rattle.ale_io.specs.Told.{Told}
 use Rattle.ale_volumes.specs.Disk.{Disk}
 use Rattle.ale_base.specs.Tid.{TidOf}
 use Rattle.ale_base.specs.declared.out_of_memory.OutOfMemory.{OutOfMemory}
+use Rattle.dist_model.specs.declared.lists.Lists.{Lists}
 use Rattle.dist_model.specs.Model.{system_named}
+use Rattle.model_files.specs.declared.end.ModelFileEnd.{ModelFileEnd}
+use Rattle.model_files.specs.ModelFile.{EndsModelFile, IsStillAt, SaysModelFile}
+use Rattle.model_files.specs.Words.{words_of}
 use Rattle.unit_core.specs.declared.raw_unit_doc.RawUnitDoc.{RawUnitDoc}
 use Rattle.unit_core.specs.declared.records.Record.{Record}
 use Rattle.trfc_protocol.specs.declared.event.Event.{Event}
 use Rattle.trfc_protocol.specs.declared.event.Event.TheVariants as event
+use Rattle.trfc_protocol.specs.declared.event.Action.TheVariants.{Revoke}
 use Rattle.trfc_protocol.specs.Worlds.{is_up, log_of}
 use Rattle.status_log.specs.declared.listing.Listing.{Listing}
 use Rattle.status_log.specs.declared.listing.Listing.TheVariants as listing
@@ -17,7 +25,10 @@ use Rattle.status_log.specs.declared.refusal.Refusal.TheVariants as refusal
 use Rattle.status_log.specs.declared.show.Show.{Show}
 use Rattle.status_log.specs.declared.show.Show.TheVariants as show
 use Rattle.unit_landscape.specs.Ends.{Happened}
-use Rattle.unit_landscape.specs.LogAnswers.{KeepsDisk}
+use Rattle.unit_landscape.specs.KeptWorlds.{KeptOf}
+use Rattle.unit_landscape.specs.LogAnswers.{KeepsDisk, KeepsVolumes}
+use Rattle.document_state.specs.declared.document_tables.DocumentTables.{DocumentTables}
+use Rattle.document_state.specs.declared.model_rules.ModelRules.{ModelRules}
 use Rattle.document_state.specs.Meaning.{model_meaning}
 use Rattle.unit_landscape.specs.declared.answers.Late.{Late}
 use Rattle.unit_landscape.specs.declared.answers.Late.TheVariants as late
@@ -43,6 +54,8 @@ use Rattle.runs.specs.declared.halt.Halt.{Halt}
 use Rattle.runs.specs.declared.halt.Halt.TheVariants as halt
 use Rattle.runs.specs.declared.inputs.Inputs.{Inputs}
 use Rattle.runs.specs.declared.stage.Stage.{Stage}
+use Rattle.runs.specs.Remodels.{RemodelledAs}
+use Rattle.runs.specs.Turns.{first_down}
 
 -- ---- answers
 
@@ -97,6 +110,12 @@ opened_as system (Err reopen.Volume) = plain reply.Fault
 opened_as system (Err (reopen.Changed number)) = Err (halt.Changed system number)
 opened_as system (Err reopen.OutOfMemory) = Err halt.OutOfMemory
 
+-- it is told why a file says no model, or memory ran out for that
+abbrev pub ToldUnread : Option (List ℕ) → Result Answered Halt → Type 0
+ToldUnread words (Err halt.OutOfMemory) = ⊤
+ToldUnread (Some words) (Ok answered) = plain (reply.Refused (refusal.N14 words)) ≡ Ok answered
+ToldUnread words answer = ⊥
+
 -- ---- what commands speak of
 
 -- the document of a number, from 1; none where there is none
@@ -146,12 +165,13 @@ module _ {V : Type 0} (disk : Disk V) where
     Lates tid = (result : Result Late Refusal) × CameOrRefused disk before.landscape after.landscape tid result
         × (answer ≡ answer_of shown_late result) × (after.wires ≡ before.wires)
 
-    -- letters are given to a unit, behind those that it has; or memory was wanting, and nothing changes
+    -- letters are given to a unit, after those that it has; or memory ran out, and nothing changes
     abbrev pub Wired : TidOf → List ℕ → Result Answered Halt → Type 0
     Wired tid letters (Ok answered) =
         (answer ≡ plain reply.Carried) × (after.landscape ≡ before.landscape)
         × ((other : TidOf) → letters_left after.wires other ≡ after_add tid (letters_said letters) (letters_left before.wires) other)
-    Wired tid letters (Err short) = after ≡ before
+    Wired tid letters (Err halt.OutOfMemory) = after ≡ before
+    Wired tid letters (Err its) = ⊥
 
     -- a system that is up falls, with nothing to be found at its opening; 2 refuses where it is down, and nothing changes
     abbrev pub Crashes : ℕ → Type 0
@@ -168,6 +188,31 @@ module _ {V : Type 0} (disk : Disk V) where
         ((before.landscape.world.rules.systems < system) × (answer ≡ refused_as refusal.N1) × (after ≡ before))
         ⊎ ((result : Result (Unit {0}) ReopenEnd) × OpensAs disk before.landscape after.landscape system result × (answer ≡ opened_as system result)
         × (after.wires ≡ before.wires))
+
+    -- the file says no model: it is told why, and nothing changes
+    abbrev pub Unreads : Told → ℕ → ℕ → Type 0
+    Unreads said failed failed_after = (why : ModelFileEnd) × EndsModelFile said (Rose failed failed_after) why × IsStillAt why failed failed_after
+        × ToldUnread (words_of why) answer × (after ≡ before)
+
+    -- this model comes into force at all systems, once no claim stands, for which no volume is called; and the letters of units stay
+    abbrev pub IsBrought : List ℕ → Lists → Type 0
+    IsBrought text new =
+        (unclaimed : KeptOf ModelRules DocumentTables V)
+        × Happened (model_meaning before.landscape.world.rules.systems) disk before.landscape unclaimed (event.Operator Revoke)
+        × KeepsVolumes before.landscape unclaimed
+        × (result : Result ℕ Refusal) × RemodelledAs disk text new unclaimed after.landscape result
+        × (answer ≡ answer_of reply.Models result) × (after.wires ≡ before.wires)
+
+    -- the file says a model, which does
+    abbrev pub Brings : Told → ℕ → ℕ → Type 0
+    Brings said failed failed_after =
+        (text : List ℕ) × (new : Lists) × SaysModelFile said text new × (failed_after ≡ failed) × IsBrought text new
+
+    -- the model is replaced by that of a file, which is read where all systems are up; else 2 refuses, and nothing changes. So many calls on
+    -- the files had failed before and have failed after
+    abbrev pub Remodels : Option ℕ → Told → ℕ → ℕ → Type 0
+    Remodels (Some down) said failed failed_after = (answer ≡ refused_as refusal.N2) × (after ≡ before) × (failed_after ≡ failed)
+    Remodels None said failed failed_after = Unreads said failed failed_after ⊎ Brings said failed failed_after
 
     -- units are shipped, executed and confirmed, until none is offered
     abbrev pub Drains : Type 0
@@ -203,7 +248,7 @@ module _ {V : Type 0} (disk : Disk V) where
     Leads None obeys = obeys None
     Leads (Some name) obeys = named name (λ destination. obeys (Some destination))
 
-    -- what a command does, by what it asks for
+    -- what a command does, by what it asks for, that reads no file
     abbrev pub Does : Form → Type 0
     Does (form.Send sys number) = named sys (λ system. Commits system (asked_master (numbered number inputs.masters))
         (λ asked sent. sent ≡ sent_counts (counts_asked (log_of before.landscape.world system) asked)) shown_sent)
@@ -226,18 +271,27 @@ module _ {V : Type 0} (disk : Disk V) where
         (λ status. status ≡ status_at after.landscape.world system doc.0) reply.Posted)
     Does (form.Crash sys) = named sys (λ system. Crashes before answer after system)
     Does (form.Open sys) = named sys (λ system. Opens before answer after system)
+    Does (form.Remodel file) = ⊥
     Does (form.ShowDocs sys) = named sys (λ system. Shows before answer after (show.Docs system))
     Does (form.ShowDoc sys doc) = named sys (λ system. Shows before answer after (show.Doc system doc))
     Does (form.ShowUnits sys) = named sys (λ system. Shows before answer after (show.Units system))
     Does (form.ShowQueues sys) = named sys (λ system. Shows before answer after (show.Queues system))
     Does (form.ShowObjects sys) = named sys (λ system. Shows before answer after (show.Objects system))
 
-    -- how a command goes: a drain so that what a crash leaves at each moment after its first is sound; any other command as one call at most
+    -- how a command goes: a drain, and one that replaces the model, so that what a crash leaves at each moment after its first is sound; any
+    -- other command as one call at most
     abbrev pub Goes : Form → Type 0
     Goes form.Drain = GoesSoundly disk before.landscape after.landscape
+    Goes (form.Remodel file) = GoesSoundly disk before.landscape after.landscape
     Goes asked = IsOneCall disk before after
 
-    -- a command does what it asks for, and goes so
-    pub record IsCarriedOut (asked : Form) : Type 0 where
-      pub does : Does asked
-      pub calls : Goes asked
+    module _ (told : List ℕ → Told) (failed failed_after : ℕ) where
+      -- what a command does: one reads a file, and no other makes a call on the files
+      abbrev pub Done : Form → Type 0
+      Done (form.Remodel file) = Remodels before answer after (first_down before.landscape.world) (told file) failed failed_after
+      Done asked = Does asked × (failed_after ≡ failed)
+
+      -- a command does what it asks for, and goes so
+      pub record IsCarriedOut (asked : Form) : Type 0 where
+        pub does : Done asked
+        pub calls : Goes asked

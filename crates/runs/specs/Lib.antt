@@ -1,5 +1,7 @@
 -- what one command of a script does
 pub mod Does
+-- a model that comes into force at all systems
+pub mod Remodels
 -- what is printed of a run
 pub mod Text
 -- its turns

@@ -14,12 +14,13 @@ use Rattle.runs.specs.declared.lengths.DownBy.TheVariants.{Fault, Overrun}
 use Rattle.runs.specs.declared.stage.Stage.{Stage}
 use Rattle.runs.specs.Text.{shown}
 
--- a command, the moment at which it began, how it was answered, and what it left
+-- a command, the moment at which it began, how it was answered, and what it left; and how many calls on the files had failed then
 pub record Turn (V : Type 0) : Type 0 where
   pub command : Command
   pub moment : ℕ
   pub answered : Answered
   pub after : Stage V
+  pub failed : ℕ
 
 -- records are written with a moment from now on
 abbrev pub at_moment : {V : Type 0} → ℕ → Stage V → Stage V
@@ -42,6 +43,11 @@ text_of (turn ∷ turns) = shown turn.command turn.answered turn.after ++ text_o
 abbrev pub last_stage : {V : Type 0} → Stage V → List (Turn V) → Stage V
 last_stage before [] = before
 last_stage before (turn ∷ turns) = last_stage turn.after turns
+
+-- how many calls on the files had failed after the last turn
+abbrev pub last_failed : {V : Type 0} → ℕ → List (Turn V) → ℕ
+last_failed failed [] = failed
+last_failed failed (turn ∷ turns) = last_failed turn.failed turns
 
 -- whether a system of a cause is down by this: its volume failed, or a record did not fit on it
 abbrev pub is_by : DownBy → Cause → Bool

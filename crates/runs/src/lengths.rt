@@ -1,7 +1,7 @@
 //! What is read of the systems behind each command: how long their logs are, and which of them are down.
 
 ghost use Rattle.std.specs.Prelude.{◌≡◌, ◌≤◌, ◌<◌, suc, map, length, IfOk};
-ghost use Rattle.runs.specs.Turns.{down_by_from, is_by, size_of};
+ghost use Rattle.runs.specs.Turns.{down_by_from, down_from, is_by, size_of};
 ghost use Rattle.unit_landscape.specs.KeptWorlds.{cause_at};
 ghost use Rattle.trfc_protocol.specs.declared.world.SystemState.{SystemState as StateOf};
 
@@ -21,6 +21,19 @@ pub(crate) fn log_lengths(alloc: Global, systems: &[SystemState]) -> Result<Vec<
         lengths.push(state.log.len() as u64)?;
     }
     Ok(lengths)
+}
+
+/// The number of the first of these systems that is down. None exactly where all are up.
+pub(crate) fn first_down(systems: &[SystemState]) -> Option<SystemNo>
+    requires { length systems.now ≤ 16 }
+    ensures { result ≡ down_from 1 systems.now }
+{
+    for (place, state) in systems.iter().enumerate() {
+        if !state.up {
+            return Some(numbered(place));
+        }
+    }
+    None
 }
 
 /// What a system may be down by that is told at the end of a run.

@@ -16,7 +16,7 @@ use crate::performing::{Performed, perform};
 use crate::report::shown;
 use crate::{Answered, Crew, Halt, Inputs, RunEnd, Stage};
 use ale_base::SystemNo;
-use ale_io::{Clock, Gate, Sink};
+use ale_io::{Clock, Files, Gate, Sink};
 use ale_volumes::Volumes;
 use script_text::Command;
 use std::alloc::Global;
@@ -48,32 +48,46 @@ pub(crate) enum TurnEnd {
 /// Carries out commands one after the other, and puts the text of each behind it; a drain is done by the workers of a crew. Before each
 /// command the clock is asked, and its records are written with that moment. A text that the sink did not take ends the run behind its
 /// command; want of memory, and an `open` that finds another log than was kept, end it in theirs, which is not answered. A system that goes
-/// down ends nothing.
+/// down ends nothing. A `remodel` reads a file; by design, and by no clause of this call, it reads it
+/// once and when it comes, and no other command makes a call on the files.
 ///
 /// Whatever a crash leaves of all volumes at one moment of the run stands for logs that are sound. No record is missing that a log had before the
 /// run, or when a command ended before that moment.
 ///
 /// Where nothing holds units up at first, and up to a drain no command does, what is sent is offered by its receiver and all systems are up,
 /// each unit that was committed went its whole way behind that drain.
-pub fn run_script<R: Threads + Wait + Sync, V: Volumes + Send, G: Gate + Sync, K: Sink, C: Clock>(
+pub fn run_script<
+    R: Threads + Wait + Sync,
+    V: Volumes + Send,
+    G: Gate + Sync,
+    F: Files,
+    K: Sink,
+    C: Clock,
+>(
     crew: &Crew<'_, R, G>,
     alloc: Global,
     stage: Stage<V>,
     inputs: &Inputs,
     commands: &[Command],
+    files: &mut F,
     out: &mut K,
     clock: &mut C,
 ) -> Ran<V>
-    ensures run { (turns : List (Turn V)) × (run : Run V.disk inputs.now commands.now stage result.stage result.end turns)
+    ensures run { (turns : List (Turn V))
+        × (run : Run V.disk inputs.now (F.told files.old) commands.now stage result.stage (F.faults files.old) (F.faults files.new) result.end turns)
         × IsPutAt result.end (K.contents out.old) (K.contents out.new) (K.faults out.old) (K.faults out.new) turns
         × AreAsked (C.told clock.new) (C.given clock.old) (C.given clock.new) turns run.halted }
     ensures told { C.told clock.new → C.told clock.old }
     ensures counted { K.faults out.old ≤ K.faults out.new }
+    ensures files { (name : List ℕ) → F.told files.new name ≡ F.told files.old name }
+    ensures files_counted { F.faults files.old ≤ F.faults files.new }
 {
     let _ = stage.landscape.world();
     let mut stage = stage;
     for command in commands {
-        let Turned { stage: after, end } = turn(crew, alloc, stage, inputs, command, out, clock);
+        let Turned { stage: after, end } = turn(
+            crew, alloc, stage, inputs, command, files, out, clock,
+        );
         stage = after;
         match behind(end) {
             None => {}
@@ -92,17 +106,19 @@ struct Turned<V: Volumes> {
 }
 
 /// Carries out a command, and puts its text.
-fn turn<R: Threads + Wait + Sync, V: Volumes + Send, G: Gate + Sync, K: Sink, C: Clock>(
+fn turn<R: Threads + Wait + Sync, V: Volumes + Send, G: Gate + Sync, F: Files, K: Sink, C: Clock>(
     crew: &Crew<'_, R, G>,
     alloc: Global,
     stage: Stage<V>,
     inputs: &Inputs,
     command: &Command,
+    files: &mut F,
     out: &mut K,
     clock: &mut C,
 ) -> Turned<V>
     requires safe { IsLandscape (λ (rules : ModelRules). model_meaning rules.systems) stage.landscape.world }
-    ensures turn { (moment : ℕ) × IsTurn V.disk inputs.now result.end moment command.now stage result.stage
+    ensures turn { (moment : ℕ)
+        × IsTurn V.disk inputs.now (F.told files.old) (F.faults files.old) (F.faults files.new) result.end moment command.now stage result.stage
         (K.contents out.old) (K.contents out.new) (K.faults out.old) (K.faults out.new)
         × GivesOne (C.told clock.new) (C.given clock.old) (C.given clock.new) moment }
     ensures sound { GoesSoundly V.disk stage.landscape result.stage.landscape }
@@ -110,10 +126,12 @@ fn turn<R: Threads + Wait + Sync, V: Volumes + Send, G: Gate + Sync, K: Sink, C:
     ensures safe { IsLandscape (λ (rules : ModelRules). model_meaning rules.systems) result.stage.landscape.world }
     ensures told { C.told clock.new → C.told clock.old }
     ensures counted { K.faults out.old ≤ K.faults out.new }
+    ensures files { (name : List ℕ) → F.told files.new name ≡ F.told files.old name }
+    ensures files_counted { F.faults files.old ≤ F.faults files.new }
 {
     let moment = clock.now();
     let stage = begin(stage, moment);
-    let Performed { stage, answer } = perform(crew, alloc, stage, inputs, &command.form);
+    let Performed { stage, answer } = perform(crew, alloc, stage, inputs, files, &command.form);
     let _ = stage.landscape.world();
     let end = report(alloc, &stage, command, answer, out);
     Turned { stage, end }

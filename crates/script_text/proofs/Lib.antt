@@ -2,6 +2,8 @@
 pub mod WordsLemmas
 -- digits and the numbers that they spell
 pub mod NumberLemmas
+-- bytes that are UTF-8 or not
+pub mod Utf8Lemmas
 -- fields and their values
 pub mod FieldLemmas
 -- words and their kinds, one for one

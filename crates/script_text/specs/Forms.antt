@@ -9,10 +9,10 @@ use Rattle.script_text.specs.declared.form.Form.{Form}
 use Rattle.script_text.specs.declared.form.Form.TheVariants as form
 use Rattle.script_text.specs.declared.keyword.Keyword.TheVariants as keyword
 use Rattle.script_text.specs.declared.kind.Kind.{Kind}
-use Rattle.script_text.specs.declared.kind.Kind.TheVariants.{The, Any, Number, Id, Letters}
+use Rattle.script_text.specs.declared.kind.Kind.TheVariants.{The, Any, Number, Id, Letters, Utf8}
 use Rattle.script_text.specs.declared.shape.Shape.{Shape}
 use Rattle.script_text.specs.declared.shape.Shape.TheVariants as shape
-use Rattle.script_text.specs.Kinds.{number_of, is_of, is_field, field_value}
+use Rattle.script_text.specs.Kinds.{number_of, file_name_of, is_of, is_field, field_value}
 
 -- how a command is written: words of these kinds, one for one, and, where it takes fields, one or more words
 -- `FIELD=VALUE` behind them
@@ -44,6 +44,7 @@ pattern_of shape.App = just (The keyword.App ∷ Any ∷ Number ∷ [])
 pattern_of shape.Repost = just (The keyword.Repost ∷ Any ∷ Number ∷ [])
 pattern_of shape.Crash = just (The keyword.Crash ∷ Any ∷ [])
 pattern_of shape.Open = just (The keyword.Open ∷ Any ∷ [])
+pattern_of shape.Remodel = just (The keyword.Remodel ∷ Utf8 ∷ [])
 pattern_of shape.ShowDocs = just (The keyword.Show ∷ The keyword.Docs ∷ Any ∷ [])
 pattern_of shape.ShowDoc = just (The keyword.Show ∷ The keyword.Doc ∷ Any ∷ Number ∷ [])
 pattern_of shape.ShowUnits = just (The keyword.Show ∷ The keyword.Units ∷ Any ∷ [])
@@ -97,6 +98,7 @@ said shape.App w = option_map (λ doc. form.App (word_at w 1) doc) (doc_at w 2)
 said shape.Repost w = option_map (λ doc. form.Repost (word_at w 1) doc) (doc_at w 2)
 said shape.Crash w = Some (form.Crash (word_at w 1))
 said shape.Open w = Some (form.Open (word_at w 1))
+said shape.Remodel w = option_map (λ file. form.Remodel file) (file_name_of (word_at w 1))
 said shape.ShowDocs w = Some (form.ShowDocs (word_at w 2))
 said shape.ShowDoc w = option_map (λ doc. form.ShowDoc (word_at w 2) doc) (doc_at w 3)
 said shape.ShowUnits w = Some (form.ShowUnits (word_at w 2))
@@ -107,7 +109,7 @@ said shape.ShowObjects w = Some (form.ShowObjects (word_at w 2))
 abbrev pub shapes : List Shape
 shapes =
     shape.Send ∷ shape.Put ∷ shape.Gather ∷ shape.Dispatch ∷ shape.Drain ∷ shape.Wire ∷ shape.StopOut ∷ shape.StopIn ∷ shape.StartOut ∷ shape.StartIn
-    ∷ shape.Retry ∷ shape.Late ∷ shape.App ∷ shape.Repost ∷ shape.Crash ∷ shape.Open ∷ shape.ShowDocs ∷ shape.ShowDoc ∷ shape.ShowUnits ∷ shape.ShowQueues
+    ∷ shape.Retry ∷ shape.Late ∷ shape.App ∷ shape.Repost ∷ shape.Crash ∷ shape.Open ∷ shape.Remodel ∷ shape.ShowDocs ∷ shape.ShowDoc ∷ shape.ShowUnits ∷ shape.ShowQueues
     ∷ shape.ShowObjects ∷ []
 
 -- the first shape in which words are written, if they are written in one
@@ -134,6 +136,7 @@ verb_of (form.App sys doc) = codes "app"
 verb_of (form.Repost sys doc) = codes "repost"
 verb_of (form.Crash sys) = codes "crash"
 verb_of (form.Open sys) = codes "open"
+verb_of (form.Remodel file) = codes "remodel"
 verb_of (form.ShowDocs sys) = codes "show"
 verb_of (form.ShowDoc sys doc) = codes "show"
 verb_of (form.ShowUnits sys) = codes "show"

@@ -3,13 +3,14 @@ use Rattle.std.specs.Prelude.{ℕ, ◌==◌, ◌&&◌, not, nat_le, Bool, true, 
 use Rattle.std.specs.Char.{is_ascii_digit}
 use Rattle.std.specs.Option.{is_some}
 use Rattle.std.specs.List.{list_any, list_all}
+use Rattle.std.specs.Str.{is_utf8}
 use Rattle.ale_base.specs.Decimal.{decimal_value}
 use Rattle.ale_base.specs.Text.{is_text}
 use Rattle.ale_base.specs.Tid.{tid_of}
 use Rattle.ale_base.specs.declared.change.FieldValue.{FieldValue}
 use Rattle.script_text.specs.declared.kind.TheConstants.{MOST_DIGITS, MOST_LETTERS}
 use Rattle.script_text.specs.declared.kind.Kind.{Kind}
-use Rattle.script_text.specs.declared.kind.Kind.TheVariants.{The, Any, Number, Id, Letters}
+use Rattle.script_text.specs.declared.kind.Kind.TheVariants.{The, Any, Number, Id, Letters, Utf8}
 use Rattle.script_text.specs.declared.keyword.Keyword.{Keyword}
 use Rattle.script_text.specs.declared.keyword.Keyword.TheVariants as keyword
 
@@ -29,6 +30,7 @@ text_of keyword.App = codes "app"
 text_of keyword.Repost = codes "repost"
 text_of keyword.Crash = codes "crash"
 text_of keyword.Open = codes "open"
+text_of keyword.Remodel = codes "remodel"
 text_of keyword.Show = codes "show"
 text_of keyword.Out = codes "out"
 text_of keyword.In = codes "in"
@@ -56,6 +58,10 @@ is_letter b = list_any (λ letter. letter == b) (codes "oqrtcf")
 abbrev pub are_letters : List ℕ → Bool
 are_letters word = nat_le 1 (length word) && (nat_le (length word) MOST_LETTERS && list_all is_letter word)
 
+-- the name of a file that a word is, if it is one
+abbrev pub file_name_of : List ℕ → Option (List ℕ)
+file_name_of word = if is_utf8 word then Some word else None
+
 -- a word of a kind
 abbrev pub is_of : Kind → List ℕ → Bool
 is_of (The keyword) word = is_text word (text_of keyword)
@@ -63,6 +69,7 @@ is_of Any word = true
 is_of Number word = is_some (number_of word)
 is_of Id word = is_some (tid_of word)
 is_of Letters word = are_letters word
+is_of Utf8 word = is_utf8 word
 
 -- `FIELD=VALUE`: there is an equals sign, and the first one splits the word
 abbrev pub is_field : List ℕ → Bool

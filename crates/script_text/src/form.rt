@@ -3,6 +3,7 @@
 ghost use Rattle.std.specs.Prelude.{◌≡◌};
 ghost use Rattle.script_text.specs.Forms.{verb_of};
 
+use crate::FileName;
 use ale_base::{Change, DocNum, Items, Tid};
 
 /// What a command asks for, by its words. Names are as they are written: whether there is such a system, queue, object or
@@ -98,6 +99,11 @@ pub enum Form {
         /// The system.
         sys: Items<u8>,
     },
+    /// `remodel FILE`: bring a model into force at all systems.
+    Remodel {
+        /// The file with the text of the model.
+        file: FileName,
+    },
     /// `show docs SYS`: list documents and their statuses.
     ShowDocs {
         /// The system that has them.
@@ -147,6 +153,7 @@ impl Form {
             Form::Repost { .. } => b"repost",
             Form::Crash { .. } => b"crash",
             Form::Open { .. } => b"open",
+            Form::Remodel { .. } => b"remodel",
             Form::ShowDocs { .. }
             | Form::ShowDoc { .. }
             | Form::ShowUnits { .. }

@@ -2,6 +2,7 @@
 
 ghost use Rattle.std.specs.Prelude.{◌≡◌, IfOk};
 ghost use Rattle.std.specs.List.{list_all};
+ghost use Rattle.std.specs.Str.{is_utf8};
 ghost use Rattle.memchr.specs.Find.{IsFirstByte, is_byte};
 ghost use Rattle.script_text.specs.Kinds.{are_letters, is_of, is_field, field_value, number_of, before_sign, behind_sign, is_letter};
 
@@ -9,6 +10,7 @@ use crate::keyword::Keyword;
 use ale_base::{FieldValue, Items, OutOfMemory, Tid};
 use memchr::memchr;
 use std::alloc::Global;
+use std::str;
 
 /// The most digits of a number.
 const MOST_DIGITS: usize = 15;
@@ -29,6 +31,8 @@ pub(crate) enum Kind {
     Id,
     /// What becomes of shipments: 1 to 64 letters.
     Letters,
+    /// The name of a file: any word that is UTF-8.
+    Utf8,
 }
 
 impl Kind {
@@ -42,6 +46,7 @@ impl Kind {
             Kind::Number => number_of(word).is_some(),
             Kind::Id => Tid::read(word).is_some(),
             Kind::Letters => are_letters(word),
+            Kind::Utf8 => is_utf8(word),
         }
     }
 }
@@ -61,6 +66,12 @@ pub(crate) fn number_of(word: &[u8]) -> Option<u64>
         number = number * 10 + u64::from(*digit - b'0');
     }
     Some(number)
+}
+
+fn is_utf8(word: &[u8]) -> bool
+    ensures { result ≡ is_utf8 word.now }
+{
+    str::from_utf8(word).is_ok()
 }
 
 fn are_letters(word: &[u8]) -> bool

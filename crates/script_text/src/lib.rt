@@ -7,6 +7,7 @@
 
 mod command;
 mod fault;
+mod file_name;
 mod form;
 mod keyword;
 mod kind;
@@ -17,5 +18,6 @@ mod words;
 
 pub use command::Command;
 pub use fault::ScriptFault;
+pub use file_name::FileName;
 pub use form::Form;
 pub use script::{MAX_BYTES, read};

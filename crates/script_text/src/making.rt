@@ -5,9 +5,9 @@ ghost use Rattle.script_text.specs.Words.{texts};
 ghost use Rattle.script_text.specs.Kinds.{field_value};
 ghost use Rattle.script_text.specs.Forms.{word_at, doc_at, change_of, said, form_of};
 
-use crate::Form;
 use crate::kind::{field_value, number_of};
 use crate::shape::Shape;
+use crate::{FileName, Form};
 use ale_base::{Change, DocNum, FieldValue, Items, OutOfMemory, Tid};
 use std::alloc::Global;
 
@@ -42,6 +42,7 @@ fn said(alloc: Global, shape: Shape, words: &[&[u8]]) -> Result<Option<Form>, Ou
         Shape::Repost => repost(alloc, words),
         Shape::Crash => crash(alloc, words),
         Shape::Open => open(alloc, words),
+        Shape::Remodel => remodel(alloc, words),
         Shape::ShowDocs => show_docs(alloc, words),
         Shape::ShowDoc => show_doc(alloc, words),
         Shape::ShowUnits => show_units(alloc, words),
@@ -236,6 +237,15 @@ fn open(alloc: Global, words: &[&[u8]]) -> Result<Option<Form>, OutOfMemory>
     Ok(Some(Form::Open {
         sys: name_at(alloc, words, 1)?,
     }))
+}
+
+fn remodel(alloc: Global, words: &[&[u8]]) -> Result<Option<Form>, OutOfMemory>
+    ensures { IfOk result (λ form. form ≡ said Shape.Remodel (texts words.now)) }
+{
+    match FileName::of(alloc, word_at(words, 1))? {
+        Some(file) => Ok(Some(Form::Remodel { file })),
+        None => Ok(None),
+    }
 }
 
 fn show_docs(alloc: Global, words: &[&[u8]]) -> Result<Option<Form>, OutOfMemory>

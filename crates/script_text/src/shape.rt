@@ -7,7 +7,7 @@ ghost use Rattle.script_text.specs.Words.{texts};
 ghost use Rattle.script_text.specs.Forms.{pattern_of, are_of, ends_with, fits, shapes, shape_of};
 
 use crate::keyword::Keyword;
-use crate::kind::Kind::{Any, Id, Letters, Number, The};
+use crate::kind::Kind::{Any, Id, Letters, Number, The, Utf8};
 use crate::kind::{Kind, is_field};
 
 /// How a command is written: a row of the table.
@@ -29,6 +29,7 @@ pub(crate) enum Shape {
     Repost,
     Crash,
     Open,
+    Remodel,
     ShowDocs,
     ShowDoc,
     ShowUnits,
@@ -38,7 +39,7 @@ pub(crate) enum Shape {
 
 impl Shape {
     /// All shapes, in the order of the table.
-    const ALL: [Shape; 21] = [
+    const ALL: [Shape; 22] = [
         Shape::Send,
         Shape::Put,
         Shape::Gather,
@@ -55,6 +56,7 @@ impl Shape {
         Shape::Repost,
         Shape::Crash,
         Shape::Open,
+        Shape::Remodel,
         Shape::ShowDocs,
         Shape::ShowDoc,
         Shape::ShowUnits,
@@ -83,6 +85,7 @@ impl Shape {
             Shape::Repost => &[The(Keyword::Repost), Any, Number],
             Shape::Crash => &[The(Keyword::Crash), Any],
             Shape::Open => &[The(Keyword::Open), Any],
+            Shape::Remodel => &[The(Keyword::Remodel), Utf8],
             Shape::ShowDocs => &[The(Keyword::Show), The(Keyword::Docs), Any],
             Shape::ShowDoc => &[The(Keyword::Show), The(Keyword::Doc), Any, Number],
             Shape::ShowUnits => &[The(Keyword::Show), The(Keyword::Units), Any],

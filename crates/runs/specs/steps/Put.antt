@@ -1,5 +1,6 @@
 -- What was put of a command, and of a run.
 use Rattle.std.specs.Prelude.{◌≡◌, ℕ, List, [], ◌∷◌, ◌++◌, Option, Some, None, Result, Ok, Err}
+use Rattle.ale_io.specs.Told.{Told}
 use Rattle.ale_volumes.specs.Disk.{Disk}
 use Rattle.script_text.specs.declared.command.Command.{Command}
 use Rattle.runs.specs.declared.answered.Answered.{Answered}
@@ -32,19 +33,21 @@ IsReported (turn.Changed system number) answer text old new faults faults_after 
     (answer ≡ Err (halt.Changed system number)) × IsPut old new faults faults_after []
 IsReported turn.OutOfMemory answer text old new faults faults_after = IsPut old new faults faults_after []
 
-module _ {V : Type 0} (disk : Disk V) (inputs : Inputs) where
+module _ {V : Type 0} (disk : Disk V) (inputs : Inputs) (told : List ℕ → Told) (failed failed_after : ℕ) where
   -- what a command did that began at a moment, what was put of it, and that it kept units free
   abbrev pub IsTurn : TurnEnd → ℕ → Command → Stage V → Stage V → Option (List ℕ) → Option (List ℕ) → ℕ → ℕ → Type 0
   IsTurn turn.Done moment command before after old new put put_after =
-      (answered : Answered) × IsCarriedOut disk inputs (at_moment moment before) (Ok answered) after command.form × IsPut old new put put_after
-      (shown command answered after) × KeepsFree before after command.form
+      (answered : Answered) × IsCarriedOut disk inputs (at_moment moment before) (Ok answered) after told failed failed_after command.form
+      × IsPut old new put put_after (shown command answered after) × KeepsFree before after command.form
   IsTurn turn.WriteFailed moment command before after old new put put_after =
-      (answered : Answered) × IsCarriedOut disk inputs (at_moment moment before) (Ok answered) after command.form × IsPart old new put put_after
-      (shown command answered after) × KeepsFree before after command.form
+      (answered : Answered) × IsCarriedOut disk inputs (at_moment moment before) (Ok answered) after told failed failed_after command.form
+      × IsPart old new put put_after (shown command answered after) × KeepsFree before after command.form
   IsTurn (turn.Changed system number) moment command before after old new put put_after =
-      IsCarriedOut disk inputs (at_moment moment before) (Err (halt.Changed system number)) after command.form × IsPut old new put put_after []
+      IsCarriedOut disk inputs (at_moment moment before) (Err (halt.Changed system number)) after told failed failed_after command.form
+      × IsPut old new put put_after []
   IsTurn turn.OutOfMemory moment command before after old new put put_after =
-      (answer : Result Answered Halt) × IsCarriedOut disk inputs (at_moment moment before) answer after command.form × IsPut old new put put_after []
+      (answer : Result Answered Halt) × IsCarriedOut disk inputs (at_moment moment before) answer after told failed failed_after command.form
+      × IsPut old new put put_after []
 
 -- the ending behind the last command, by the first system that is down by a fault of its volume, and the first since a record did not fit;
 -- the journal of that would have been so long

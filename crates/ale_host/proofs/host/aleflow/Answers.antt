@@ -5,9 +5,10 @@ use Rattle.said_models.specs.Said.{said}
 use Rattle.ale_base.specs.Faults.{Rose}
 use Rattle.ale_host.specs.Ending.{status_of, text_of}
 use Rattle.ale_host.specs.Running.{masters_of}
-use Rattle.ale_host.proofs.EndingLemmas.{ends-as, quiet-as, quiet-early}
+use Rattle.ale_host.proofs.EndingLemmas.{ends-as, quiet-early}
 use Rattle.ale_host.proofs.OneEnding.{one_ending}
-use Rattle.ale_host.proofs.RunningLemmas.{asks-said, asks-short, runs-said, said-of}
+use Rattle.runs.proofs.ReplacingLemmas.{said-of}
+use Rattle.ale_host.proofs.RunningLemmas.{asks-said, asks-short, runs-said}
 use Rattle.ale_host.proofs.host.aleflow.Goals as goal
 
 pub run-requires-clause-said : goal.run-requires-clause-said
@@ -36,7 +37,8 @@ returns-in-Err-clause-ended g c = λ not_6.
           ending = its.0;
           ends = ends-as (map string_bytes c.args.words.now) (g.F.Files.told c.args.files.now)
               (Rose (g.F.Files.faults c.args.files.now) (g.F.Files.faults c.asked.new.files)) c.in-Err.ending its.0 c.in-Err.ensures.ends its.1;
-          quiet = quiet-early c.in-Err.ending its.0 (g.F.Files.faults c.args.files.now) (g.F.Files.faults c.asked.new.files) c.in-Err.ensures.only.quiet its.1;
+          quiet = quiet-early c.in-Err.ending its.0 (g.F.Files.faults c.args.files.now) (g.F.Files.faults c.asked.new.files)
+              c.in-Err.ensures.only.quiet its.1;
           status_is = its.2;
           printed_is = refl;
           sure_is = refl;
@@ -60,7 +62,8 @@ returns-in-Err-clause-write_fault g c = λ is_6.
             ending = its.0;
             ends = ends-as (map string_bytes c.args.words.now) (g.F.Files.told c.args.files.now)
                 (Rose (g.F.Files.faults c.args.files.now) (g.F.Files.faults c.asked.new.files)) c.in-Err.ending its.0 c.in-Err.ensures.ends its.1;
-            quiet = quiet-early c.in-Err.ending its.0 (g.F.Files.faults c.args.files.now) (g.F.Files.faults c.asked.new.files) c.in-Err.ensures.only.quiet its.1;
+            quiet = quiet-early c.in-Err.ending its.0 (g.F.Files.faults c.args.files.now) (g.F.Files.faults c.asked.new.files)
+                c.in-Err.ensures.only.quiet its.1;
             status_is = refl;
             printed_is = refl;
             sure_is = refl;
@@ -74,12 +77,6 @@ returns-in-Err-clause-write_fault g c = λ is_6.
 
 pub returns-in-Err-clause-one_ending : goal.returns-in-Err-clause-one_ending
 returns-in-Err-clause-one_ending g c = one_ending
-
-pub returns-in-Err-clause-files_quiet : goal.returns-in-Err-clause-files_quiet
-returns-in-Err-clause-files_quiet g c = λ not_5 not_6 not_9.
-    let its = c.print-status.ensures.ended not_6 in
-    quiet-as c.in-Err.ending its.0 (g.F.Files.faults c.args.files.now) (g.F.Files.faults c.asked.new.files) c.in-Err.ensures.only.quiet its.1
-    (λ same. not_5 (its.2 ∙ same)) (λ same. not_9 (its.2 ∙ same))
 
 pub returns-in-Ok-clause-ended : goal.returns-in-Ok-clause-ended
 returns-in-Ok-clause-ended g c = λ not_6.
@@ -96,12 +93,13 @@ returns-in-Ok-clause-ended g c = λ not_6.
           documents = order.1.1.0;
           commands = order.1.1.1.0;
           asks = order.1.1.1.1;
-          quiet = c.in-Ok.ensures.only.quiet;
           runs = runs-said g.V.Volumes.disk
               c.in-Ok.field-0.prepared.text order.0 (arc_value c.in-Ok.field-0.prepared.model) order.1.0 c.in-Ok.field-0.prepared.inputs.masters
               (masters_of order.1.1.0) c.in-Ok.field-0.prepared.commands order.1.1.1.0 c.args.vols c.run.result.vols c.in-Ok.field-0.report
-              (g.C.Clock.told c.run.new.clock) (g.C.Clock.given c.args.clock.now) (g.C.Clock.given c.run.new.clock) c.run.result.status ran.0 ran.1.0
-              is.text_is is.model_is is.masters_are is.commands_are ran.1.1;
+              (g.F.Files.told c.asked.new.files) (g.F.Files.told c.args.files.now) (g.F.Files.faults c.asked.new.files)
+              (g.F.Files.faults c.args.files.now) (g.F.Files.faults c.run.new.files) (g.C.Clock.told c.run.new.clock) (g.C.Clock.given
+              c.args.clock.now) (g.C.Clock.given c.run.new.clock) c.run.result.status ran.0 ran.1.0
+              c.in-Ok.ensures.only.kept c.in-Ok.ensures.only.quiet is.text_is is.model_is is.masters_are is.commands_are ran.1.1;
         }),
         ran.1.2.appends,
         ran.1.2.quiet,
@@ -125,12 +123,13 @@ returns-in-Ok-clause-write_fault g c = λ is_6.
             documents = order.1.1.0;
             commands = order.1.1.1.0;
             asks = order.1.1.1.1;
-            quiet = c.in-Ok.ensures.only.quiet;
             runs = runs-said g.V.Volumes.disk
                 c.in-Ok.field-0.prepared.text order.0 (arc_value c.in-Ok.field-0.prepared.model) order.1.0 c.in-Ok.field-0.prepared.inputs.masters
                 (masters_of order.1.1.0) c.in-Ok.field-0.prepared.commands order.1.1.1.0 c.args.vols c.run.result.vols c.in-Ok.field-0.report
-                (g.C.Clock.told c.run.new.clock) (g.C.Clock.given c.args.clock.now) (g.C.Clock.given c.run.new.clock) ran.0 ran.1.0 ran.1.1.0
-                is.text_is is.model_is is.masters_are is.commands_are ran.1.1.1;
+                (g.F.Files.told c.asked.new.files) (g.F.Files.told c.args.files.now) (g.F.Files.faults c.asked.new.files)
+                (g.F.Files.faults c.args.files.now) (g.F.Files.faults c.run.new.files) (g.C.Clock.told c.run.new.clock) (g.C.Clock.given
+                c.args.clock.now) (g.C.Clock.given c.run.new.clock) ran.0 ran.1.0 ran.1.1.0
+                c.in-Ok.ensures.only.kept c.in-Ok.ensures.only.quiet is.text_is is.model_is is.masters_are is.commands_are ran.1.1.1;
           }),
           ran.1.1.2,
         ),

@@ -26,6 +26,7 @@ returns-in-Err-clause-ended g c = λ not_6.
           ends = subst (λ (model : Lists). EndsUnopened model c.in-Err.field-0.why c.put_unopened-status.result put.0) (c.deref.ensures ∙ c.requires.names)
               put.1;
           sure_is = refl;
+          files = refl;
           asked = c.now-moment.ensures.given;
         }),
         put.2,
@@ -53,6 +54,7 @@ returns-in-Err-clause-write_fault g c = λ is_6.
             ends = subst (λ (model : Lists). EndsUnopened model c.in-Err.field-0.why part.0 part.1.0) (c.deref.ensures ∙ c.requires.names)
                 part.1.1;
             sure_is = refl;
+            files = refl;
             asked = c.now-moment.ensures.given;
           }),
           record { count = part.1.2.appends.0; least = zero-le; appends = part.1.2.appends.1; rose = part.1.2.rose },
@@ -73,7 +75,8 @@ returns-in-Commands-clause-ended g c = λ not_6.
         ran.1.0,
         ran-from disk met.only_now met.counts_now met.read_is_image
             c.args.prepared.text (arc_value c.args.prepared.model) c.args.prepared.inputs.masters c.args.prepared.commands
-            c.as_slice-commands.result.now c.args.vols c.run_opened.result.vols c.args.report Commands (g.C.Clock.told c.run_opened.new.clock)
+            c.as_slice-commands.result.now c.args.vols c.run_opened.result.vols c.args.report Commands (g.F.Files.told c.args.files.now)
+            (g.F.Files.faults c.args.files.now) (g.F.Files.faults c.run_opened.new.files) (g.C.Clock.told c.run_opened.new.clock)
             (g.C.Clock.given c.args.clock.now)
             (g.C.Clock.given c.now-moment.new.self) (g.C.Clock.given c.run_opened.new.clock) c.run_opened.result.status ran.0 ran.1.0
             c.now-moment.result c.in-Ok.landscape c.args.prepared.inputs
@@ -97,7 +100,8 @@ returns-in-Commands-clause-write_fault g c = λ is_6.
           ran.1.1.0,
           ran-from disk met.only_now met.counts_now met.read_is_image
               c.args.prepared.text (arc_value c.args.prepared.model) c.args.prepared.inputs.masters c.args.prepared.commands
-              c.as_slice-commands.result.now c.args.vols c.run_opened.result.vols c.args.report Commands (g.C.Clock.told c.run_opened.new.clock)
+              c.as_slice-commands.result.now c.args.vols c.run_opened.result.vols c.args.report Commands (g.F.Files.told c.args.files.now)
+              (g.F.Files.faults c.args.files.now) (g.F.Files.faults c.run_opened.new.files) (g.C.Clock.told c.run_opened.new.clock)
               (g.C.Clock.given c.args.clock.now)
               (g.C.Clock.given c.now-moment.new.self) (g.C.Clock.given c.run_opened.new.clock) ran.0 ran.1.0 ran.1.1.0
               c.now-moment.result c.in-Ok.landscape c.args.prepared.inputs
@@ -123,7 +127,8 @@ returns-clause-ended g c = λ not_6.
         ran.1.0,
         ran-from disk met.only_now met.counts_now met.read_is_image
             c.args.prepared.text (arc_value c.args.prepared.model) c.args.prepared.inputs.masters c.args.prepared.commands
-            c.as_slice-commands.result.now c.args.vols c.load_opened.result.vols c.args.report Counts (g.C.Clock.told c.load_opened.new.clock)
+            c.as_slice-commands.result.now c.args.vols c.load_opened.result.vols c.args.report Counts (g.F.Files.told c.args.files.now)
+            (g.F.Files.faults c.args.files.now) (g.F.Files.faults c.load_opened.new.files) (g.C.Clock.told c.load_opened.new.clock)
             (g.C.Clock.given c.args.clock.now)
             (g.C.Clock.given c.now-moment.new.self) (g.C.Clock.given c.load_opened.new.clock) c.load_opened.result.status ran.0 ran.1.0
             c.now-moment.result c.in-Ok.landscape c.args.prepared.inputs
@@ -147,7 +152,8 @@ returns-clause-write_fault g c = λ is_6.
           ran.1.1.0,
           ran-from disk met.only_now met.counts_now met.read_is_image
               c.args.prepared.text (arc_value c.args.prepared.model) c.args.prepared.inputs.masters c.args.prepared.commands
-              c.as_slice-commands.result.now c.args.vols c.load_opened.result.vols c.args.report Counts (g.C.Clock.told c.load_opened.new.clock)
+              c.as_slice-commands.result.now c.args.vols c.load_opened.result.vols c.args.report Counts (g.F.Files.told c.args.files.now)
+              (g.F.Files.faults c.args.files.now) (g.F.Files.faults c.load_opened.new.files) (g.C.Clock.told c.load_opened.new.clock)
               (g.C.Clock.given c.args.clock.now)
               (g.C.Clock.given c.now-moment.new.self) (g.C.Clock.given c.load_opened.new.clock) ran.0 ran.1.0 ran.1.1.0
               c.now-moment.result c.in-Ok.landscape c.args.prepared.inputs

@@ -11,7 +11,8 @@ use Rattle.runs.proofs.turns.turn.Goals as goal
 pub returns-clause-turn : goal.returns-clause-turn
 returns-clause-turn g c = (
   c.now-moment.result,
-  turn-of g.V.Volumes.disk c.args.inputs.now c.report-end.result c.now-moment.result c.args.command.now c.args.stage c.begin-stage.result
+  turn-of g.V.Volumes.disk c.args.inputs.now (g.F.Files.told c.args.files.now) (g.F.Files.faults c.args.files.now)
+      (g.F.Files.faults c.perform-stage.new.files) c.report-end.result c.now-moment.result c.args.command.now c.args.stage c.begin-stage.result
       c.perform-stage.result.stage
       c.perform-stage.result.answer (g.K.Sink.contents c.args.out.now) (g.K.Sink.contents c.report-end.new.out) (g.K.Sink.faults c.args.out.now)
       (g.K.Sink.faults c.report-end.new.out) c.begin-stage.ensures c.world.ensures.safe
@@ -29,7 +30,8 @@ returns-clause-sound g c =
     (goes-none g.V.Volumes.disk c.args.stage.landscape began (ap (λ stage. stage.landscape.world) c.begin-stage.ensures)
     (ap (λ stage. stage.landscape.vols) c.begin-stage.ensures))
     (goes-command g.V.Volumes.disk c.begin-stage.result c.perform-stage.result.answer c.perform-stage.result.stage began_safe c.args.inputs.now
-    c.args.command.now.form c.perform-stage.ensures.does c.perform-stage.ensures.calls)
+    (g.F.Files.told c.args.files.now) (g.F.Files.faults c.args.files.now) (g.F.Files.faults c.perform-stage.new.files) c.args.command.now.form
+    c.perform-stage.ensures.does c.perform-stage.ensures.calls)
 
 pub returns-clause-now : goal.returns-clause-now
 returns-clause-now g c = c.world.ensures.sound
