@@ -1,5 +1,6 @@
 -- A fault of a model's text in words, as it is told.
-use Rattle.std.specs.Prelude.{List, [], ◌++◌, codes, ℕ}
+use Rattle.std.specs.Prelude.{ℕ, ◌+◌, ◌/◌, ◌%◌, ◌==◌, ◌||◌, nat_lt, List, [], ◌∷◌, ◌++◌, codes, if◌then◌else◌}
+use Rattle.std.specs.List.{flat_map}
 use Rattle.model_text.specs.declared.fault.ModelFault.{ModelFault}
 use Rattle.model_text.specs.declared.fault.ModelFault.TheVariants.{Toml, Missing, Unknown, Wrong, Twice, Limit, MandatoryRemoved, NoVersion}
 use Rattle.model_text.specs.declared.fault.ModelFault.TheVariants.{OutOfMemory}
@@ -28,6 +29,14 @@ fault_path (MandatoryRemoved path) = path
 fault_path (NoVersion path) = path
 fault_path OutOfMemory = []
 
--- both
+-- a hexadecimal digit
+abbrev pub hex_digit : ℕ → ℕ
+hex_digit digit = if nat_lt digit 10 then 48 + digit else 55 + digit
+
+-- a byte of a path, as it is told: a control byte, which a key between quotes may have, by its number, and any other as it is
+abbrev pub shown_byte : ℕ → List ℕ
+shown_byte byte = if nat_lt byte 32 || byte == 127 then codes "\\x" ++ (hex_digit (byte / 16) ∷ hex_digit (byte % 16) ∷ []) else byte ∷ []
+
+-- both, in one line
 abbrev pub fault_words : ModelFault → List ℕ
-fault_words fault = fault_name fault ++ fault_path fault
+fault_words fault = fault_name fault ++ flat_map shown_byte (fault_path fault)

@@ -1,7 +1,8 @@
 //! Why a text is no model.
 
-ghost use Rattle.std.specs.Prelude.{◌≡◌, IfOk};
-ghost use Rattle.model_text.specs.Words.{fault_name, fault_path, fault_words};
+ghost use Rattle.std.specs.Prelude.{◌≡◌, ◌<◌, ◌++◌, IfOk, OnOk};
+ghost use Rattle.std.specs.List.{flat_map};
+ghost use Rattle.model_text.specs.Words.{fault_name, fault_path, fault_words, hex_digit, shown_byte};
 
 use ale_base::{Items, OutOfMemory};
 use std::alloc::Global;
@@ -41,12 +42,13 @@ pub enum ModelFault {
 }
 
 impl ModelFault {
-    /// The fault in words: its name, and behind a blank the path where it has one.
+    /// The fault in words: its name, and behind a blank the path where it has one. They are one line: a control byte of a key is told by
+    /// its number, as `\x0A`.
     pub fn words(&self, alloc: Global) -> Result<Vec<u8>, OutOfMemory>
         ensures { IfOk result (λ words. words.items ≡ fault_words self.now) }
     {
         let mut words = Vec::from_slice(alloc, self.name())?;
-        words.extend_from_slice(self.path())?;
+        put_shown(&mut words, self.path())?;
         Ok(words)
     }
 
@@ -81,5 +83,39 @@ impl ModelFault {
             | ModelFault::MandatoryRemoved(path)
             | ModelFault::NoVersion(path) => path.as_slice(),
         }
+    }
+}
+
+/// Appends bytes, a control byte by its number.
+fn put_shown(words: &mut Vec<u8>, bytes: &[u8]) -> Result<(), OutOfMemory>
+    ensures { OnOk result (words.new.items ≡ words.old.items ++ flat_map shown_byte bytes.now) }
+{
+    for byte in bytes {
+        put_byte(words, *byte)?;
+    }
+    Ok(())
+}
+
+/// Appends a byte, or its number.
+fn put_byte(words: &mut Vec<u8>, byte: u8) -> Result<(), OutOfMemory>
+    ensures { OnOk result (words.new.items ≡ words.old.items ++ shown_byte byte) }
+{
+    if byte < 32 || byte == 127 {
+        words.extend_from_slice(&[b'\\', b'x', hex_digit(byte / 16), hex_digit(byte % 16)])?;
+    } else {
+        words.push(byte)?;
+    }
+    Ok(())
+}
+
+/// A hexadecimal digit.
+fn hex_digit(digit: u8) -> u8
+    requires { digit < 16 }
+    ensures { result ≡ hex_digit digit }
+{
+    if digit < 10 {
+        b'0' + digit
+    } else {
+        b'A' + (digit - 10)
     }
 }
