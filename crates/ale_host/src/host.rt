@@ -70,8 +70,8 @@ pub fn aleflow<
     files: &mut F,
     out: &mut K,
     vols: V,
-    clock: &mut C,
     gate: &G,
+    clock: &mut C,
 ) -> Ended<V>
     ensures ended { result.status ≢ 6 → (printed : List ℕ) × ((sure : List ℕ)
         × EndsSo V.disk

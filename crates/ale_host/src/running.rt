@@ -84,7 +84,7 @@ pub(crate) fn run<
         commands,
     } = prepared;
     let moment = clock.now();
-    match Landscape::open(alloc, model, text, Some(moment), vols) {
+    match Landscape::open(alloc, model, text, vols, moment) {
         Err(OpenEnd { why, vols }) => {
             let status = put_unopened(alloc, &inputs.model, why, out);
             Ended { status, vols }

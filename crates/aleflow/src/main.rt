@@ -95,8 +95,8 @@ fn main(rt: HostRuntime) -> ExitCode {
         &mut files,
         &mut out,
         vols,
-        &mut clock,
         &OpenGate,
+        &mut clock,
     );
     // Standard error may be closed or full, which changes nothing.
     let _ = tell(&rt, ended.status, &files, &out, &ended.vols);

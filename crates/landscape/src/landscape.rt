@@ -120,11 +120,12 @@ impl<V: Volumes> Landscape<V> {
         self.units.moments(system)
     }
 
-    /// Sets the moment with which records are written from now on; `None` where none is known.
-    pub fn set_moment(&mut self, moment: Option<u64>)
-        ensures { self.new ≡ record self.old { journals = with_moment moment self.old.journals } }
+    /// Sets the moment with which records are written from now on, in seconds since the beginning of 1970 in UTC. A record is never written
+    /// with a moment below the last one of its log.
+    pub fn set_moment(&mut self, moment: u64)
+        ensures { self.new ≡ record self.old { journals = with_moment (Some moment) self.old.journals } }
     {
-        self.units.set_moment(moment);
+        self.units.set_moment(Some(moment));
     }
 
     /// Whether a claim stands. It takes no memory.

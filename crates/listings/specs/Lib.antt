@@ -1,3 +1,5 @@
+-- what is shown of what became of a document
+pub mod History
 -- what is shown of all documents
 pub mod DocumentLines
 -- where the segments of a document stand, and what is shown of one document

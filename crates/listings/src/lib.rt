@@ -1,11 +1,13 @@
-//! What an operator is shown of a system that works by models: its documents, one document, its units, its queues, its objects.
+//! What an operator is shown of a system that works by models: its documents, one document, what became of one, its units, its queues, its
+//! objects.
 //!
 //! Contract: each function gives, by the tables of a log, exactly the lines that its definition reads off the log, and `listing` those
 //! that are asked for. No call walks the log, and nothing changes. The definitions are in `specs/`: `DocumentLines`, `OneDocument` with
-//! `Places` (where segments stand), `UnitLines` and `QueueLines` with `SystemNames`, `ObjectLines`, `Listings` (the listing that is asked
-//! for), and `OfSystem` (the tables of a system that works by models).
+//! `Places` (where segments stand), `History` (what became of a document), `UnitLines` and `QueueLines` with `SystemNames`,
+//! `ObjectLines`, `Listings` (the listing that is asked for), and `OfSystem` (the tables of a system that works by models).
 #![tactic(auto)]
 
+mod document_history;
 mod document_lines;
 mod object_lines;
 mod one_document;
@@ -16,6 +18,7 @@ mod shown_document;
 mod system_names;
 mod unit_lines;
 
+pub use document_history::history;
 pub use document_lines::documents;
 pub use object_lines::objects;
 pub use one_document::document;

@@ -9,7 +9,8 @@ ghost use Rattle.outbound_build.specs.Tables.{AreTablesOf as AreSent};
 ghost use Rattle.said_models.specs.OfLog.{model_of};
 ghost use Rattle.document_state.specs.OfLog.{sent_by};
 ghost use Rattle.document_state.specs.Tables.{AreTablesOf};
-ghost use Rattle.listings.specs.OneDocument.{document_shown, placed_lines, sent_numbered, shown_under};
+ghost use Rattle.listings.specs.History.{numbered_in};
+ghost use Rattle.listings.specs.OneDocument.{document_shown, placed_lines, shown_under};
 ghost use Rattle.listings.specs.Places.{HasDigits};
 
 use crate::ShownDocument;
@@ -36,7 +37,7 @@ pub fn document(
     // Each data record is shown, in order.
     ensures whole { (log : List Record) → AreTablesOf log tables.now → IfOk result (λ shown.
         option_map (λ document. map (λ one. one.line) document.lines) shown
-        ≡ option_map (λ one. one.document.segments) (sent_numbered (sent_by log).past.documents number.0)) }
+        ≡ option_map (λ one. one.document.segments) (numbered_in (sent_by log).past.documents number.0)) }
     // The places fit their data records, as who prints them asks.
     ensures placed { IfOk result (λ shown. IfSome shown (λ document. AllByRecursion (λ one. HasDigits one.place) document.lines)) }
 {
@@ -50,8 +51,8 @@ pub fn document(
 }
 
 /// The outbound document of a number.
-fn sent_numbered(outbound: &OutboundTables, number: DocNum) -> Option<&OutDocument>
-    ensures { (tracked : Tracked) → AreSent tracked outbound.now → option_copied result ≡ sent_numbered tracked.past.documents number.0 }
+pub(crate) fn sent_numbered(outbound: &OutboundTables, number: DocNum) -> Option<&OutDocument>
+    ensures { (tracked : Tracked) → AreSent tracked outbound.now → option_copied result ≡ numbered_in tracked.past.documents number.0 }
 {
     if number.0 == 0 {
         return None;

@@ -8,13 +8,14 @@ ghost use Rattle.document_state.specs.Tables.{AreTablesOf as AreDocumentsOf};
 ghost use Rattle.status_log.specs.declared.listing.Listing.TheVariants.{Docs, Units, Objects};
 ghost use Rattle.listings.specs.DocumentLines.{document_lines};
 ghost use Rattle.listings.specs.OneDocument.{document_shown};
+ghost use Rattle.listings.specs.History.{history_of};
 ghost use Rattle.listings.specs.UnitLines.{unit_lines};
 ghost use Rattle.listings.specs.ObjectLines.{object_lines};
-ghost use Rattle.listings.specs.Listings.{AreQueuesListed, DocumentListed, HasPlaces, ListedAs, ListedOr, system_of};
+ghost use Rattle.listings.specs.Listings.{AreQueuesListed, DocumentListed, HasPlaces, HistoryListed, ListedAs, ListedOr, system_of};
 ghost use Rattle.listings.specs.OfSystem.{AreSystemOf};
 
-use crate::{document, documents, objects, queues, units};
-use ale_base::{DocNum, SystemNo};
+use crate::{document, documents, history, objects, queues, units};
+use ale_base::{DocNum, SystemNo, Way};
 use document_state::DocumentTables;
 use status_log::{Listing, Refusal, Show};
 use std::alloc::Global;
@@ -27,28 +28,32 @@ pub fn system_of(show: &Show) -> SystemNo
     match show {
         Show::Docs(system)
         | Show::Doc(system, _)
+        | Show::History(system, _, _)
         | Show::Units(system)
         | Show::Queues(system)
         | Show::Objects(system) => *system,
     }
 }
 
-/// The listing that is asked for, by the tables of the system of which it is asked. It takes the time of the functions of its lines.
+/// The listing that is asked for, by the tables of the system of which it is asked, and by the moments of the records of its log. It takes
+/// the time of the functions of its lines.
 ///
-/// `N3` comes exactly where an outbound document is asked for that is not there; `OutOfMemory` as from those functions; no other.
+/// `N3` comes exactly where a document is asked for that is not there; `OutOfMemory` as from those functions; no other.
 pub fn listing(
     alloc: Global,
     tables: &SystemTables<DocumentTables>,
+    moments: &[Option<u64>],
     show: &Show,
 ) -> Result<Listing, Refusal>
     ensures listed { (committed : List UnitOf) (log : List Record) (sent arrived : TidOf → Option ℕ) → AreSystemOf committed log sent arrived tables.now
-        → ListedAs committed log sent arrived show.now result }
+        → ListedAs committed log moments.now sent arrived show.now result }
     ensures placed { IfOk result HasPlaces }
 {
     let documents = tables.application();
     match show {
         Show::Docs(_) => documents_listed(alloc, documents),
         Show::Doc(_, number) => document_listed(alloc, documents, *number),
+        Show::History(_, way, number) => history_listed(alloc, documents, moments, *way, *number),
         Show::Units(_) => units_listed(alloc, tables),
         Show::Queues(_) => queues_listed(alloc, tables),
         Show::Objects(_) => objects_listed(alloc, documents),
@@ -77,6 +82,24 @@ fn document_listed(
 {
     match document(alloc, tables, number) {
         Ok(Some(shown)) => Ok(Listing::Doc(shown.control, shown.lines)),
+        Ok(None) => Err(Refusal::N3),
+        Err(_) => Err(Refusal::OutOfMemory),
+    }
+}
+
+/// The listing of what became of a document.
+fn history_listed(
+    alloc: Global,
+    tables: &DocumentTables,
+    moments: &[Option<u64>],
+    way: Way,
+    number: DocNum,
+) -> Result<Listing, Refusal>
+    ensures listed { (log : List Record) → AreDocumentsOf log tables.now → HistoryListed (history_of log moments.now way number.0) result }
+    ensures placed { IfOk result HasPlaces }
+{
+    match history(alloc, tables, moments, way, number) {
+        Ok(Some(lines)) => Ok(Listing::History(lines)),
         Ok(None) => Err(Refusal::N3),
         Err(_) => Err(Refusal::OutOfMemory),
     }

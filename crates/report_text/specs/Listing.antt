@@ -1,5 +1,5 @@
 -- The lines of listings. Each begins with two blanks and ends in LF.
-use Rattle.std.specs.Prelude.{ℕ, ◌<◌, ◌==◌, Bool, true, false, List, [], ◌++◌, codes, ⊤, if◌then◌else◌}
+use Rattle.std.specs.Prelude.{ℕ, ◌<◌, ◌==◌, Bool, true, false, List, [], ◌++◌, Option, Some, None, codes, ⊤, if◌then◌else◌}
 use Rattle.std.specs.List.{flat_map, AllByRecursion}
 use Rattle.std.specs.Fmt.{decimal}
 use Rattle.ale_base.specs.Blanks.{trimmed}
@@ -11,6 +11,7 @@ use Rattle.idoc_record.specs.Written.{data_line}
 use Rattle.plain_queues.specs.declared.queue_status.QueueStatus.{QueueStatus}
 use Rattle.plain_queues.specs.declared.queue_status.QueueStatus.TheVariants as status
 use Rattle.status_log.specs.declared.line.DocLine.{DocLine}
+use Rattle.status_log.specs.declared.line.HistoryLine.{HistoryLine}
 use Rattle.status_log.specs.declared.line.ObjectLine.{ObjectLine}
 use Rattle.status_log.specs.declared.line.QueueLine.{QueueLine}
 use Rattle.status_log.specs.declared.line.SegmentLine.{SegmentLine}
@@ -18,7 +19,7 @@ use Rattle.status_log.specs.declared.line.UnitLine.{UnitLine}
 use Rattle.status_log.specs.declared.line.UnitState.{UnitState}
 use Rattle.status_log.specs.declared.line.UnitState.TheVariants as state
 use Rattle.status_log.specs.declared.listing.Listing.{Listing}
-use Rattle.status_log.specs.declared.listing.Listing.TheVariants.{Docs, Doc, Units, Queues, Objects}
+use Rattle.status_log.specs.declared.listing.Listing.TheVariants.{Docs, Doc, History, Units, Queues, Objects}
 use Rattle.status_log.specs.declared.status.Status.{Status}
 use Rattle.report_text.specs.Reply.{counted, shown_code, joined}
 
@@ -47,6 +48,17 @@ shown_doc d =
 -- a data record of the document of this control record, without the blanks at its end
 unfoldable pub shown_segment : List ℕ → SegmentLine → List ℕ
 shown_segment control s = trimmed (data_line control s.place s.line)
+
+-- ---- the history of a document
+
+-- a moment in seconds, or a minus where there is none
+abbrev pub shown_moment : Option ℕ → List ℕ
+shown_moment None = codes "-"
+shown_moment (Some moment) = decimal moment
+
+-- a status and its moment
+abbrev pub shown_history : HistoryLine → List ℕ
+shown_history h = shown_status h.status ++ (codes " " ++ shown_moment h.moment)
 
 -- ---- units
 
@@ -107,6 +119,7 @@ shown_object o = o.kind ++ (codes " " ++ (o.key ++ flat_map shown_field o.fields
 abbrev pub listing_lines : Listing → List ℕ
 listing_lines (Docs lines) = flat_map (λ d. line_of (shown_doc d)) lines
 listing_lines (Doc control lines) = line_of (trimmed control) ++ flat_map (λ s. line_of (shown_segment control s)) lines
+listing_lines (History lines) = flat_map (λ h. line_of (shown_history h)) lines
 listing_lines (Units lines) = flat_map (λ u. line_of (shown_unit u)) lines
 listing_lines (Queues lines) = flat_map (λ q. line_of (shown_queue q)) lines
 listing_lines (Objects lines) = flat_map (λ o. line_of (shown_object o)) lines

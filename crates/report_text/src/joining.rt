@@ -94,7 +94,11 @@ fn put_next_status(alloc: Global, text: &mut Vec<u8>, status: Status) -> Result<
 }
 
 /// Appends a status, and behind 51 the reason in brackets.
-fn put_status(alloc: Global, text: &mut Vec<u8>, status: Status) -> Result<(), OutOfMemory>
+pub(crate) fn put_status(
+    alloc: Global,
+    text: &mut Vec<u8>,
+    status: Status,
+) -> Result<(), OutOfMemory>
     ensures { OnOk result (text.new.items ≡ text.old.items ++ shown_status status) }
 {
     put(text, &code_digits(status.code))?;

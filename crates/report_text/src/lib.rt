@@ -6,6 +6,7 @@
 
 mod docs;
 mod faults;
+mod history;
 mod joining;
 mod listing;
 mod objects;

@@ -4,6 +4,7 @@ ghost use Rattle.std.specs.Prelude.{◌≡◌, ◌++◌, OnOk, OnErr, IfOk};
 ghost use Rattle.report_text.specs.Listing.{IsPrintable, listing_lines};
 
 use crate::docs::{put_docs, put_document};
+use crate::history::put_history;
 use crate::objects::put_objects;
 use crate::put::put;
 use crate::queues::put_queues;
@@ -45,6 +46,7 @@ fn put_listing(alloc: Global, text: &mut Vec<u8>, listing: &Listing) -> Result<(
     match listing {
         Listing::Docs(lines) => put_docs(alloc, text, lines.as_slice()),
         Listing::Doc(control, lines) => put_document(alloc, text, control, lines.as_slice()),
+        Listing::History(lines) => put_history(alloc, text, lines.as_slice()),
         Listing::Units(lines) => put_units(text, lines.as_slice()),
         Listing::Queues(lines) => put_queues(alloc, text, lines.as_slice()),
         Listing::Objects(lines) => put_objects(text, lines.as_slice()),

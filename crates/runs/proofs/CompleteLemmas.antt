@@ -503,6 +503,7 @@ module _ {V : Type 0} (disk : Disk V) (before after : Stage V) (answered : Answe
       )
       does-kept (form.ShowDocs sys) does is = (shows-at inputs sys (λ system. show.Docs system) does.0, λ drain. cc)
       does-kept (form.ShowDoc sys doc) does is = (shows-at inputs sys (λ system. show.Doc system doc) does.0, λ drain. cc)
+      does-kept (form.ShowHistory sys way doc) does is = (shows-at inputs sys (λ system. show.History system way doc) does.0, λ drain. cc)
       does-kept (form.ShowUnits sys) does is = (shows-at inputs sys (λ system. show.Units system) does.0, λ drain. cc)
       does-kept (form.ShowQueues sys) does is = (shows-at inputs sys (λ system. show.Queues system) does.0, λ drain. cc)
       does-kept (form.ShowObjects sys) does is = (shows-at inputs sys (λ system. show.Objects system) does.0, λ drain. cc)

@@ -55,7 +55,7 @@ said-of text model answers = ap of_answer answers
 
 -- ---- a record of one system
 
--- what a model is judged by at a system, and which systems there are, is as before; no claim stands
+-- what a model is judged by at a system is as before: its log, whether it is up, and the moments of its records
 pub record IsAsBefore {V : Type 0} (before now : KeptOf ModelRules DocumentTables V) (system : ℕ) : Type 0 where
   pub log : log_of now.world system ≡ log_of before.world system
   pub up : is_up now.world system ≡ is_up before.world system

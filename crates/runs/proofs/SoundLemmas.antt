@@ -176,6 +176,7 @@ module _ {V : Type 0} (disk : Disk V) (before : Stage V) (answer : Result Answer
           does.0) goes
       goes-command (form.ShowDocs sys) does goes = by-call (grown-shows sys (λ system. show.Docs system) does.0) goes
       goes-command (form.ShowDoc sys doc) does goes = by-call (grown-shows sys (λ system. show.Doc system doc) does.0) goes
+      goes-command (form.ShowHistory sys way doc) does goes = by-call (grown-shows sys (λ system. show.History system way doc) does.0) goes
       goes-command (form.ShowUnits sys) does goes = by-call (grown-shows sys (λ system. show.Units system) does.0) goes
       goes-command (form.ShowQueues sys) does goes = by-call (grown-shows sys (λ system. show.Queues system) does.0) goes
       goes-command (form.ShowObjects sys) does goes = by-call (grown-shows sys (λ system. show.Objects system) does.0) goes

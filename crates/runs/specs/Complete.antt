@@ -25,6 +25,7 @@ holds_nothing (form.Open sys) = true
 holds_nothing (form.Remodel file) = true
 holds_nothing (form.ShowDocs sys) = true
 holds_nothing (form.ShowDoc sys doc) = true
+holds_nothing (form.ShowHistory sys way doc) = true
 holds_nothing (form.ShowUnits sys) = true
 holds_nothing (form.ShowQueues sys) = true
 holds_nothing (form.ShowObjects sys) = true

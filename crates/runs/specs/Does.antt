@@ -27,6 +27,7 @@ use Rattle.status_log.specs.declared.show.Show.TheVariants as show
 use Rattle.unit_landscape.specs.Ends.{Happened}
 use Rattle.unit_landscape.specs.KeptWorlds.{KeptOf}
 use Rattle.unit_landscape.specs.LogAnswers.{KeepsDisk, KeepsVolumes}
+use Rattle.unit_landscape.specs.OnVolumes.{AreOnVolumes}
 use Rattle.document_state.specs.declared.document_tables.DocumentTables.{DocumentTables}
 use Rattle.document_state.specs.declared.model_rules.ModelRules.{ModelRules}
 use Rattle.document_state.specs.Meaning.{model_meaning}
@@ -83,6 +84,7 @@ one_more n = if n == 2 ^ 64 - 1 then None else Some (suc n)
 abbrev pub count_of : Listing → Option ℕ
 count_of (listing.Docs lines) = Some (length lines)
 count_of (listing.Doc control lines) = one_more (length lines)
+count_of (listing.History lines) = Some (length lines)
 count_of (listing.Units lines) = Some (length lines)
 count_of (listing.Queues lines) = Some (length lines)
 count_of (listing.Objects lines) = Some (length lines)
@@ -158,7 +160,7 @@ module _ {V : Type 0} (disk : Disk V) where
   module _ (before : Stage V) (answer : Result Answered Halt) (after : Stage V) where
     -- something is listed, and nothing changes
     abbrev pub Shows : Show → Type 0
-    Shows what = (result : Result Listing Refusal) × ShownAs before.landscape.world what result × (answer ≡ listed_as result) × (after ≡ before)
+    Shows what = (result : Result Listing Refusal) × ShownAs before.landscape what result × (answer ≡ listed_as result) × (after ≡ before)
 
     -- a late request of a unit comes, or is refused; and the letters of units stay
     abbrev pub Lates : TidOf → Type 0
@@ -274,6 +276,7 @@ module _ {V : Type 0} (disk : Disk V) where
     Does (form.Remodel file) = ⊥
     Does (form.ShowDocs sys) = named sys (λ system. Shows before answer after (show.Docs system))
     Does (form.ShowDoc sys doc) = named sys (λ system. Shows before answer after (show.Doc system doc))
+    Does (form.ShowHistory sys way doc) = named sys (λ system. Shows before answer after (show.History system way doc))
     Does (form.ShowUnits sys) = named sys (λ system. Shows before answer after (show.Units system))
     Does (form.ShowQueues sys) = named sys (λ system. Shows before answer after (show.Queues system))
     Does (form.ShowObjects sys) = named sys (λ system. Shows before answer after (show.Objects system))
@@ -291,7 +294,8 @@ module _ {V : Type 0} (disk : Disk V) where
       Done (form.Remodel file) = Remodels before answer after (first_down before.landscape.world) (told file) failed failed_after
       Done asked = Does asked × (failed_after ≡ failed)
 
-      -- a command does what it asks for, and goes so
+      -- a command does what it asks for, and goes so; and behind it the volumes hold all logs, with one moment for each record
       pub record IsCarriedOut (asked : Form) : Type 0 where
         pub does : Done asked
         pub calls : Goes asked
+        pub on_volumes : AreOnVolumes disk after.landscape.vols after.landscape.world.systems after.landscape.journals

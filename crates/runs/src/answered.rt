@@ -84,6 +84,7 @@ fn count_of(listing: &Listing) -> Option<u64>
     match listing {
         Listing::Docs(lines) => Some(lines.len() as u64),
         Listing::Doc(_, lines) => one_more(lines.len() as u64),
+        Listing::History(lines) => Some(lines.len() as u64),
         Listing::Units(lines) => Some(lines.len() as u64),
         Listing::Queues(lines) => Some(lines.len() as u64),
         Listing::Objects(lines) => Some(lines.len() as u64),

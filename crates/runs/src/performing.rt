@@ -28,7 +28,7 @@ use operating::{crash, late, open, retry, start, stop, wire};
 use remodelling::remodel;
 use report_text::Reply;
 use script_text::{FileName, Form};
-use showing::{show_doc, show_docs, show_objects, show_queues, show_units};
+use showing::{show_doc, show_docs, show_history, show_objects, show_queues, show_units};
 use std::alloc::Global;
 use std::sync::Wait;
 use std::thread::Threads;
@@ -159,6 +159,9 @@ fn carry_out<V: Volumes>(
         Form::Open { sys } => open(stage, inputs, sys.as_slice()),
         Form::ShowDocs { sys } => show_docs(stage, inputs, sys.as_slice()),
         Form::ShowDoc { sys, doc } => show_doc(stage, inputs, sys.as_slice(), *doc),
+        Form::ShowHistory { sys, way, doc } => {
+            show_history(stage, inputs, sys.as_slice(), *way, *doc)
+        }
         Form::ShowUnits { sys } => show_units(stage, inputs, sys.as_slice()),
         Form::ShowQueues { sys } => show_queues(stage, inputs, sys.as_slice()),
         Form::ShowObjects { sys } => show_objects(stage, inputs, sys.as_slice()),

@@ -142,7 +142,7 @@ fn begin<V: Volumes>(stage: Stage<V>, moment: u64) -> Stage<V>
     ensures { result ≡ at_moment moment stage }
 {
     let mut stage = stage;
-    stage.landscape.set_moment(Some(moment));
+    stage.landscape.set_moment(moment);
     stage
 }
 

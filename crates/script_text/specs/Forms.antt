@@ -5,6 +5,8 @@ use Rattle.std.specs.List.{list_all, slice_index_or}
 use Rattle.ale_base.specs.Tid.{tid_of}
 use Rattle.ale_base.specs.declared.change.Change.{Change}
 use Rattle.ale_base.specs.declared.doc_num.DocNum.{DocNum}
+use Rattle.ale_base.specs.declared.way.Way.{Way}
+use Rattle.ale_base.specs.declared.way.Way.TheVariants.{Outgoing, Incoming}
 use Rattle.script_text.specs.declared.form.Form.{Form}
 use Rattle.script_text.specs.declared.form.Form.TheVariants as form
 use Rattle.script_text.specs.declared.keyword.Keyword.TheVariants as keyword
@@ -47,6 +49,8 @@ pattern_of shape.Open = just (The keyword.Open ∷ Any ∷ [])
 pattern_of shape.Remodel = just (The keyword.Remodel ∷ Utf8 ∷ [])
 pattern_of shape.ShowDocs = just (The keyword.Show ∷ The keyword.Docs ∷ Any ∷ [])
 pattern_of shape.ShowDoc = just (The keyword.Show ∷ The keyword.Doc ∷ Any ∷ Number ∷ [])
+pattern_of shape.ShowHistoryOut = just (The keyword.Show ∷ The keyword.History ∷ Any ∷ The keyword.Out ∷ Number ∷ [])
+pattern_of shape.ShowHistoryIn = just (The keyword.Show ∷ The keyword.History ∷ Any ∷ The keyword.In ∷ Number ∷ [])
 pattern_of shape.ShowUnits = just (The keyword.Show ∷ The keyword.Units ∷ Any ∷ [])
 pattern_of shape.ShowQueues = just (The keyword.Show ∷ The keyword.Queues ∷ Any ∷ [])
 pattern_of shape.ShowObjects = just (The keyword.Show ∷ The keyword.Objects ∷ Any ∷ [])
@@ -80,6 +84,10 @@ doc_at words n = option_map (λ (number : ℕ). record { 0 = number }) (number_o
 abbrev pub change_of : List (List ℕ) → Change
 change_of words = record { kind = word_at words 2; key = word_at words 3; fields = map field_value (drop 4 words) }
 
+-- what the words say that ask what became of a document
+abbrev pub history_said : Way → List (List ℕ) → Option Form
+history_said way w = option_map (λ doc. form.ShowHistory (word_at w 2) way doc) (doc_at w 4)
+
 -- what the words of a command say
 abbrev pub said : Shape → List (List ℕ) → Option Form
 said shape.Send w = option_map (λ number. form.Send (word_at w 1) number) (number_of (word_at w 2))
@@ -101,6 +109,8 @@ said shape.Open w = Some (form.Open (word_at w 1))
 said shape.Remodel w = option_map (λ file. form.Remodel file) (file_name_of (word_at w 1))
 said shape.ShowDocs w = Some (form.ShowDocs (word_at w 2))
 said shape.ShowDoc w = option_map (λ doc. form.ShowDoc (word_at w 2) doc) (doc_at w 3)
+said shape.ShowHistoryOut w = history_said Outgoing w
+said shape.ShowHistoryIn w = history_said Incoming w
 said shape.ShowUnits w = Some (form.ShowUnits (word_at w 2))
 said shape.ShowQueues w = Some (form.ShowQueues (word_at w 2))
 said shape.ShowObjects w = Some (form.ShowObjects (word_at w 2))
@@ -109,8 +119,8 @@ said shape.ShowObjects w = Some (form.ShowObjects (word_at w 2))
 abbrev pub shapes : List Shape
 shapes =
     shape.Send ∷ shape.Put ∷ shape.Gather ∷ shape.Dispatch ∷ shape.Drain ∷ shape.Wire ∷ shape.StopOut ∷ shape.StopIn ∷ shape.StartOut ∷ shape.StartIn
-    ∷ shape.Retry ∷ shape.Late ∷ shape.App ∷ shape.Repost ∷ shape.Crash ∷ shape.Open ∷ shape.Remodel ∷ shape.ShowDocs ∷ shape.ShowDoc ∷ shape.ShowUnits ∷ shape.ShowQueues
-    ∷ shape.ShowObjects ∷ []
+    ∷ shape.Retry ∷ shape.Late ∷ shape.App ∷ shape.Repost ∷ shape.Crash ∷ shape.Open ∷ shape.Remodel ∷ shape.ShowDocs ∷ shape.ShowDoc
+    ∷ shape.ShowHistoryOut ∷ shape.ShowHistoryIn ∷ shape.ShowUnits ∷ shape.ShowQueues ∷ shape.ShowObjects ∷ []
 
 -- the first shape in which words are written, if they are written in one
 unfoldable pub shape_of : List (List ℕ) → Option Shape
@@ -139,6 +149,7 @@ verb_of (form.Open sys) = codes "open"
 verb_of (form.Remodel file) = codes "remodel"
 verb_of (form.ShowDocs sys) = codes "show"
 verb_of (form.ShowDoc sys doc) = codes "show"
+verb_of (form.ShowHistory sys way doc) = codes "show"
 verb_of (form.ShowUnits sys) = codes "show"
 verb_of (form.ShowQueues sys) = codes "show"
 verb_of (form.ShowObjects sys) = codes "show"

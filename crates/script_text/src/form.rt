@@ -4,7 +4,7 @@ ghost use Rattle.std.specs.Prelude.{◌≡◌};
 ghost use Rattle.script_text.specs.Forms.{verb_of};
 
 use crate::FileName;
-use ale_base::{Change, DocNum, Items, Tid};
+use ale_base::{Change, DocNum, Items, Tid, Way};
 
 /// What a command asks for, by its words. Names are as they are written: whether there is such a system, queue, object or
 /// document is not looked at. A system of a landscape is meant by `sys`.
@@ -116,6 +116,15 @@ pub enum Form {
         /// The document.
         doc: DocNum,
     },
+    /// `show history SYS out DOC` or `show history SYS in DOC`: list what became of a document.
+    ShowHistory {
+        /// The system that sent or received it.
+        sys: Items<u8>,
+        /// Whether it was sent or received.
+        way: Way,
+        /// The document.
+        doc: DocNum,
+    },
     /// `show units SYS`: list units and their states.
     ShowUnits {
         /// The system that sent or received them.
@@ -156,6 +165,7 @@ impl Form {
             Form::Remodel { .. } => b"remodel",
             Form::ShowDocs { .. }
             | Form::ShowDoc { .. }
+            | Form::ShowHistory { .. }
             | Form::ShowUnits { .. }
             | Form::ShowQueues { .. }
             | Form::ShowObjects { .. } => b"show",

@@ -3,12 +3,12 @@
 ghost use Rattle.std.specs.Prelude.{◌≡◌, ℕ, List, map, drop, IfOk};
 ghost use Rattle.script_text.specs.Words.{texts};
 ghost use Rattle.script_text.specs.Kinds.{field_value};
-ghost use Rattle.script_text.specs.Forms.{word_at, doc_at, change_of, said, form_of};
+ghost use Rattle.script_text.specs.Forms.{word_at, doc_at, change_of, history_said, said, form_of};
 
 use crate::kind::{field_value, number_of};
 use crate::shape::Shape;
 use crate::{FileName, Form};
-use ale_base::{Change, DocNum, FieldValue, Items, OutOfMemory, Tid};
+use ale_base::{Change, DocNum, FieldValue, Items, OutOfMemory, Tid, Way};
 use std::alloc::Global;
 
 /// The command that words are. None exactly where they are none.
@@ -45,6 +45,8 @@ fn said(alloc: Global, shape: Shape, words: &[&[u8]]) -> Result<Option<Form>, Ou
         Shape::Remodel => remodel(alloc, words),
         Shape::ShowDocs => show_docs(alloc, words),
         Shape::ShowDoc => show_doc(alloc, words),
+        Shape::ShowHistoryOut => show_history(alloc, Way::Outgoing, words),
+        Shape::ShowHistoryIn => show_history(alloc, Way::Incoming, words),
         Shape::ShowUnits => show_units(alloc, words),
         Shape::ShowQueues => show_queues(alloc, words),
         Shape::ShowObjects => show_objects(alloc, words),
@@ -262,6 +264,19 @@ fn show_doc(alloc: Global, words: &[&[u8]]) -> Result<Option<Form>, OutOfMemory>
     match doc_at(words, 3) {
         Some(doc) => Ok(Some(Form::ShowDoc {
             sys: name_at(alloc, words, 2)?,
+            doc,
+        })),
+        None => Ok(None),
+    }
+}
+
+fn show_history(alloc: Global, way: Way, words: &[&[u8]]) -> Result<Option<Form>, OutOfMemory>
+    ensures { IfOk result (λ form. form ≡ history_said way (texts words.now)) }
+{
+    match doc_at(words, 4) {
+        Some(doc) => Ok(Some(Form::ShowHistory {
+            sys: name_at(alloc, words, 2)?,
+            way,
             doc,
         })),
         None => Ok(None),

@@ -32,6 +32,8 @@ pub(crate) enum Shape {
     Remodel,
     ShowDocs,
     ShowDoc,
+    ShowHistoryOut,
+    ShowHistoryIn,
     ShowUnits,
     ShowQueues,
     ShowObjects,
@@ -39,7 +41,7 @@ pub(crate) enum Shape {
 
 impl Shape {
     /// All shapes, in the order of the table.
-    const ALL: [Shape; 22] = [
+    const ALL: [Shape; 24] = [
         Shape::Send,
         Shape::Put,
         Shape::Gather,
@@ -59,6 +61,8 @@ impl Shape {
         Shape::Remodel,
         Shape::ShowDocs,
         Shape::ShowDoc,
+        Shape::ShowHistoryOut,
+        Shape::ShowHistoryIn,
         Shape::ShowUnits,
         Shape::ShowQueues,
         Shape::ShowObjects,
@@ -88,6 +92,20 @@ impl Shape {
             Shape::Remodel => &[The(Keyword::Remodel), Utf8],
             Shape::ShowDocs => &[The(Keyword::Show), The(Keyword::Docs), Any],
             Shape::ShowDoc => &[The(Keyword::Show), The(Keyword::Doc), Any, Number],
+            Shape::ShowHistoryOut => &[
+                The(Keyword::Show),
+                The(Keyword::History),
+                Any,
+                The(Keyword::Out),
+                Number,
+            ],
+            Shape::ShowHistoryIn => &[
+                The(Keyword::Show),
+                The(Keyword::History),
+                Any,
+                The(Keyword::In),
+                Number,
+            ],
             Shape::ShowUnits => &[The(Keyword::Show), The(Keyword::Units), Any],
             Shape::ShowQueues => &[The(Keyword::Show), The(Keyword::Queues), Any],
             Shape::ShowObjects => &[The(Keyword::Show), The(Keyword::Objects), Any],

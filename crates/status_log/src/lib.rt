@@ -15,7 +15,7 @@ mod status_at;
 mod status_table;
 
 pub use cause::Cause;
-pub use line::{DocLine, ObjectLine, QueueLine, SegmentLine, UnitLine, UnitState};
+pub use line::{DocLine, HistoryLine, ObjectLine, QueueLine, SegmentLine, UnitLine, UnitState};
 pub use listing::Listing;
 pub use refusal::Refusal;
 pub use show::Show;

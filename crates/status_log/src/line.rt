@@ -20,6 +20,15 @@ pub struct DocLine {
     pub statuses: Items<Status>,
 }
 
+/// A status of a document, and when it got it.
+#[derive(Clone, Copy, PartialEq, Eq)]
+pub struct HistoryLine {
+    /// The status.
+    pub status: Status,
+    /// The moment of the record that gave it, in seconds since the beginning of 1970 in UTC; none where the record has none.
+    pub moment: Option<u64>,
+}
+
 /// A segment of a document.
 #[derive(Drop)]
 pub struct SegmentLine {

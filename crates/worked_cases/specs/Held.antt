@@ -1,21 +1,23 @@
 -- What volumes are made to hold before a run.
-use Rattle.std.specs.Prelude.{◌≡◌, ℕ, ◌-◌, List, [], ◌∷◌, ◌++◌, take, drop, get_or, set}
+use Rattle.std.specs.Prelude.{◌≡◌, ℕ, ◌-◌, List, [], ◌∷◌, ◌++◌, map, take, drop, get_or, set}
 use Rattle.byte_journal.specs.Log.{Stands, records, closed_gate}
 use Rattle.worked_cases.specs.declared.held.Holding.{Holding}
 use Rattle.worked_cases.specs.declared.held.Held.{Held}
 use Rattle.worked_cases.specs.declared.held.Held.TheVariants.{Front, Journal}
 use Rattle.worked_cases.specs.declared.held.Given.{Given}
-use Rattle.worked_cases.specs.declared.held.Given.TheVariants.{Copy, Bytes}
+use Rattle.worked_cases.specs.declared.held.Given.TheVariants.{Copy, Bare, Bytes}
 
 -- what the volume of a system holds, where all hold this
 abbrev pub volume_in : List (List ℕ) → ℕ → List ℕ
 volume_in contents system = get_or contents (system - 1) []
 
--- The record that is given, if there is one: that of a number, from 1, of the log that the volume of a system stands for, or
--- these bytes. Of bytes that stand for no log nothing is said.
+-- The record that is given, if there is one: that of a number, from 1, of the log that the volume of a system stands for, whole or without
+-- the nine bytes of its moment; or these bytes. Of bytes that stand for no log nothing is said.
 abbrev pub IsGiven : List (List ℕ) → Given → List (List ℕ) → Type 0
 IsGiven contents (Copy system number) bodies =
     (log : List (List ℕ)) → Stands (volume_in contents system) log → bodies ≡ take 1 (drop (number - 1) log)
+IsGiven contents (Bare system number) bodies =
+    (log : List (List ℕ)) → Stands (volume_in contents system) log → bodies ≡ map (drop 9) (take 1 (drop (number - 1) log))
 IsGiven contents (Bytes body) bodies = bodies ≡ body ∷ []
 
 -- the records that are given, in order

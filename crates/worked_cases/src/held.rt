@@ -1,8 +1,8 @@
 //! What volumes are made to hold before a run.
 
-ghost use Rattle.std.specs.Prelude.{◌≡◌, ◌∷◌, ◌++◌, ◌-◌, ℕ, List, [], drop, take, IfOk, OnOk};
+ghost use Rattle.std.specs.Prelude.{◌≡◌, ◌∷◌, ◌++◌, ◌-◌, ℕ, List, [], drop, map, take, IfOk, OnOk};
 ghost use Rattle.byte_journal.specs.Log.{Stands, records, closed_gate};
-ghost use Rattle.worked_cases.specs.Held.{AreHeld, IsHeld, IsGiven, AreGiven};
+ghost use Rattle.worked_cases.specs.Held.{AreHeld, IsHeld, IsGiven, AreGiven, volume_in};
 
 use crate::starts::{Contents, copied};
 use ale_base::{Items, OutOfMemory, SystemNo};
@@ -10,6 +10,9 @@ use ale_volumes::MemoryVolumes;
 use byte_journal::{Journal, OpenFault, open};
 use std::alloc::Global;
 use std::array;
+
+/// The bytes of a record that tell its moment: the byte 13 and the moment.
+const MOMENT: usize = 9;
 
 /// What the volume of a system is made to hold.
 #[derive(Drop)]
@@ -32,6 +35,8 @@ pub(crate) enum Held {
 pub(crate) enum Given {
     /// That of this number, from 1, of the log that the volume of a system holds.
     Copy { system: SystemNo, number: u64 },
+    /// The same without its first bytes, which tell its moment.
+    Bare { system: SystemNo, number: u64 },
     /// These bytes.
     Bytes(Items<u8>),
 }
@@ -104,11 +109,26 @@ fn put_given(
     match given {
         Given::Bytes(body) => put_record(bytes, body.as_slice()),
         Given::Copy { system, number } => {
-            let held = contents[usize::from(system.get() - 1)].as_slice();
-            let log = log_of(alloc, held)?;
-            put_numbered(bytes, log.as_slice(), *number)
+            let copied = log_held(alloc, *system, contents)?;
+            put_numbered(bytes, copied.as_slice(), *number)
+        }
+        Given::Bare { system, number } => {
+            let log = log_held(alloc, *system, contents)?;
+            put_bare(bytes, log.as_slice(), *number)
         }
     }
+}
+
+/// The log that the volume of a system holds, where all hold this; none where that is damaged.
+fn log_held(
+    alloc: Global,
+    system: SystemNo,
+    contents: &Contents,
+) -> Result<Items<Items<u8>>, OutOfMemory>
+    ensures { IfOk result (λ log. (held : List (List ℕ)) → Stands (volume_in contents.now system) held → log ≡ held) }
+{
+    let held = contents[usize::from(system.get() - 1)].as_slice();
+    log_of(alloc, held)
 }
 
 /// Appends the record of this number, from 1, behind an open gate, if there is one.
@@ -117,6 +137,19 @@ fn put_numbered(bytes: &mut Vec<u8>, log: &[Items<u8>], number: u64) -> Result<(
 {
     match log.get(number.saturating_sub(1) as usize) {
         Some(body) => put_record(bytes, body.as_slice()),
+        None => Ok(()),
+    }
+}
+
+/// Appends the record of this number, from 1, behind an open gate, without the bytes that tell its moment, if there is one.
+fn put_bare(bytes: &mut Vec<u8>, log: &[Items<u8>], number: u64) -> Result<(), OutOfMemory>
+    ensures { OnOk result (bytes.new.items ≡ bytes.old.items ++ records (map (drop 9) (take 1 (drop (number - 1) log.now)))) }
+{
+    match log.get(number.saturating_sub(1) as usize) {
+        Some(body) => {
+            let (_, behind) = body.as_slice().split_at(MOMENT.min(body.len()));
+            put_record(bytes, behind)
+        }
         None => Ok(()),
     }
 }

@@ -40,25 +40,36 @@ fn journal_of(alloc: Global, item: &Item) -> Result<Items<Given>, CaseFault> {
     Ok(records)
 }
 
-/// The record of a line: `copy I K` or `entry TEXT`.
+/// The record of a line: `copy I K`, `bare I K` or `entry TEXT`.
 fn given_by(alloc: Global, line: &[u8]) -> Result<Given, LineEnd> {
     let (word, rest) = first_word(line);
     if word == b"copy".as_slice() {
-        let (system, number) = first_word(rest);
-        let Some(system) = system_of(number_of(system)?) else {
-            return Err(rules::NO_SUCH_HOLDING.into());
-        };
-        let number = u64::from(number_of(number)?);
-        if number == 0 {
-            return Err(rules::NO_SUCH_HOLDING.into());
-        }
-        Ok(Given::Copy { system, number })
+        record_at(rest, false)
+    } else if word == b"bare".as_slice() {
+        record_at(rest, true)
     } else if word == b"entry".as_slice() {
         let mut bytes = Vec::new(alloc);
         put_text(&mut bytes, rest)?;
         Ok(Given::Bytes(Items::from_vec(bytes)))
     } else {
         Err(rules::NO_SUCH_HOLDING.into())
+    }
+}
+
+/// The record of a system and a number, `I K`, whole or without the bytes of its moment.
+fn record_at(words: &[u8], is_bare: bool) -> Result<Given, LineEnd> {
+    let (system, number) = first_word(words);
+    let Some(system) = system_of(number_of(system)?) else {
+        return Err(rules::NO_SUCH_HOLDING.into());
+    };
+    let number = u64::from(number_of(number)?);
+    if number == 0 {
+        return Err(rules::NO_SUCH_HOLDING.into());
+    }
+    if is_bare {
+        Ok(Given::Bare { system, number })
+    } else {
+        Ok(Given::Copy { system, number })
     }
 }
 

@@ -31,7 +31,7 @@ pub(crate) const NO_SUCH_CALL: Rule = Rule(
 );
 
 pub(crate) const NO_SUCH_HOLDING: Rule = Rule(
-    "a system from 1 to 16 holds `first COUNT`, or records: `copy I K` or `entry TEXT`",
+    "a system from 1 to 16 holds `first COUNT`, or records: `copy I K`, `bare I K` or `entry TEXT`",
 );
 
 pub(crate) const ONE_CLOCK: Rule = Rule(

@@ -100,8 +100,8 @@ fn performed<R: Threads + Wait + Sync>(
                 files,
                 out,
                 vols,
-                &mut clock,
                 gate,
+                &mut clock,
             )
         }
         Words::Wanting => {

@@ -41,7 +41,7 @@ impl<V: Volumes> Landscape<V> {
 
     /// Opens the landscape of the systems of a model, over volumes: system i on volume i - 1. Each goes on from the log that its volume
     /// holds; where that is empty it begins with a Genesis of the model's text, which has at most `MOST_TEXT` bytes. Records are written
-    /// with this moment, until another one is set; `None` where none is known.
+    /// with this moment, in seconds since the beginning of 1970 in UTC, until another one is set.
     ///
     /// An `Err` gives the volumes back. `Refused` comes exactly where a volume holds no log of its system and of this text, each record
     /// good behind those before it, and tells the first by systems; or where the logs together do not keep the exactly-once law, and tells
@@ -51,13 +51,13 @@ impl<V: Volumes> Landscape<V> {
         alloc: Global,
         model: Arc<Model>,
         text: Items<u8>,
-        moment: Option<u64>,
         vols: V,
+        moment: u64,
     ) -> Result<Landscape<V>, OpenEnd<V>>
         requires said { said text ≡ Some (arc_value model) }
         requires short { length text ≤ MOST_TEXT }
-        ensures opened { IfOk result (HasOpened V.disk (length (arc_value model).systems) text moment vols) }
-        ensures why { WhyOpened V.disk (length (arc_value model).systems) text moment vols (vols_after result) result }
+        ensures opened { IfOk result (HasOpened V.disk (length (arc_value model).systems) text (Some moment) vols) }
+        ensures why { WhyOpened V.disk (length (arc_value model).systems) text (Some moment) vols (vols_after result) result }
         ensures faults { FaultsOpened V.disk (length (arc_value model).systems) text vols (vols_after result) result }
 
         // Volumes that hold good logs of these systems and of this text, which keep the exactly-once law, are never refused.
@@ -66,14 +66,14 @@ impl<V: Volumes> Landscape<V> {
         // A crash at any moment of the call leaves of each volume what was handed in, or what reads as it; from some moment on only the
         // latter. Of one that stood for the empty log it may leave the Genesis of its system alone, but only where the volumes of all
         // systems hold sound logs, and are not refused. Volumes behind those of the systems are not called.
-        ensures volumes { V.disk.told → LeavesOpening V.disk (length (arc_value model).systems) text moment vols (vols_after result)
+        ensures volumes { V.disk.told → LeavesOpening V.disk (length (arc_value model).systems) text (Some moment) vols (vols_after result)
             (IsNotRefused result × HoldSoundLogs (length (arc_value model).systems) text (bytes_in V.disk vols)) (HasEndedEarly result) }
 
         // So whatever it leaves of all volumes together holds sound logs, where whatever a crash left of them before the call does.
         ensures opens { OpeningLeavesOpenable V.disk (length (arc_value model).systems) text vols (vols_after result) }
     {
         let systems = model.as_lists().systems.len() as u8;
-        let kept = begin_over(alloc, &model, systems, text.as_slice(), moment, vols)?;
+        let kept = begin_over(alloc, &model, systems, text.as_slice(), Some(moment), vols)?;
         Ok(Landscape::new(alloc, reopened(alloc, kept)))
     }
 }

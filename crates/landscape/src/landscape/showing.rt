@@ -16,18 +16,20 @@ impl<V: Volumes> Landscape<V> {
     ghost use Rattle.listings.specs.Listings.{HasPlaces};
     ghost use Rattle.landscape.specs.Shown.{AreShownBy, ShownAs};
 
-    /// What an operator is shown of a system: its documents, one of its outbound documents, its units, its queues or its objects. It takes
-    /// the time of what is listed: of units a time as the logarithm of their number for each, of queues that of all that were ever used.
+    /// What an operator is shown of a system: its documents, one of its outbound documents, what became of a document, its units, its queues
+    /// or its objects. It takes the time of what is listed: of units a time as the logarithm of their number for each, of queues that of all
+    /// that were ever used.
     ///
-    /// `N2` comes exactly where the system is down; `N3` else exactly where an outbound document is asked for that is not there; and no
-    /// other but want of memory. The places of segments fit their data records, as who prints them asks.
+    /// `N2` comes exactly where the system is down; `N3` else exactly where a document is asked for that is not there; and no other but want
+    /// of memory. The places of segments fit their data records, as who prints them asks.
     pub fn show(&self, show: &Show) -> Result<Listing, Refusal>
-        ensures shown { ShownAs self.now.world show.now result }
+        ensures shown { ShownAs self.now show.now result }
         ensures placed { IfOk result HasPlaces }
     {
-        match self.shown_by(system_of(show)) {
+        let system = system_of(show);
+        match self.shown_by(system) {
             None => Err(Refusal::N2),
-            Some(tables) => listing(self.alloc, tables, show),
+            Some(tables) => listing(self.alloc, tables, self.units.moments(system), show),
         }
     }
 

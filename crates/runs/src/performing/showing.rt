@@ -7,7 +7,7 @@ ghost use Rattle.runs.specs.Text.{IsPrintable};
 
 use crate::answered::{listed, refused};
 use crate::{Answered, Halt, Inputs, Stage};
-use ale_base::DocNum;
+use ale_base::{DocNum, Way};
 use ale_volumes::Volumes;
 use status_log::{Refusal, Show};
 
@@ -41,6 +41,24 @@ pub(super) fn show_doc<V: Volumes>(
     match inputs.system(sys) {
         None => refused(Refusal::N1),
         Some(system) => show(stage, &Show::Doc(system, doc)),
+    }
+}
+
+/// `show history`: lists what became of a document.
+pub(super) fn show_history<V: Volumes>(
+    stage: &mut Stage<V>,
+    inputs: &Inputs,
+    sys: &[u8],
+    way: Way,
+    doc: DocNum,
+) -> Result<Answered, Halt>
+    ensures does { Does V.disk inputs.now stage.old result stage.new (form.ShowHistory sys.now way doc) }
+    ensures call { IsOneCall V.disk stage.old stage.new }
+    ensures printable { IfOk result IsPrintable }
+{
+    match inputs.system(sys) {
+        None => refused(Refusal::N1),
+        Some(system) => show(stage, &Show::History(system, way, doc)),
     }
 }
 

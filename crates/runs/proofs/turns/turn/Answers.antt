@@ -16,7 +16,8 @@ returns-clause-turn g c = (
       c.perform-stage.result.stage
       c.perform-stage.result.answer (g.K.Sink.contents c.args.out.now) (g.K.Sink.contents c.report-end.new.out) (g.K.Sink.faults c.args.out.now)
       (g.K.Sink.faults c.report-end.new.out) c.begin-stage.ensures c.world.ensures.safe
-      (record { does = c.perform-stage.ensures.does; calls = c.perform-stage.ensures.calls }) c.report-end.ensures.reported,
+      (record { does = c.perform-stage.ensures.does; calls = c.perform-stage.ensures.calls; on_volumes = c.world.ensures.kept.on_volumes })
+      c.report-end.ensures.reported,
   c.now-moment.ensures.given,
 )
 

@@ -1,6 +1,4 @@
-use Rattle.std.proofs.Common.{sym, ap, List, ℕ, ◌∙◌, subst, [], ◌∷◌, ◌-◌, ◌<◌, drop, get_or, length, take, arith}
-use Rattle.std.proofs.lemmas.List.{get_or_default}
-use Rattle.byte_journal.specs.Log.{Stands}
+use Rattle.std.proofs.Common.{ap, ◌∙◌, List, ℕ, [], ◌∷◌, ◌-◌, drop, map, take}
 use Rattle.worked_cases.proofs.HeldLemmas.{OnOk-map}
 use Rattle.worked_cases.proofs.held.put_given.Goals as goal
 
@@ -10,20 +8,24 @@ returns-in-Bytes c =
     (λ added. (c.as_slice.result.now ∷ [], rw c.in-Bytes.is (ap (λ body. body ∷ []) c.as_slice.ensures), added))
     c.put_record.ensures
 
-pub returns-in_ok-log-in-Copy : goal.returns-in_ok-log-in-Copy
-returns-in_ok-log-in-Copy c =
-    let contents = c.args.contents.now in
-    let place = c.from.ensures ∙ ap (λ n. n - 1) c.get.ensures.number in
-    let within : c.from.result < length contents = omega (arith, place, c.type_inv.contents, c.get.ensures.most, c.get.ensures.least) in
-    let held =
-    c.as_slice-held.ensures ∙ get_or_default contents c.from.result c.index-contents-from.result [] within
-    ∙ ap (λ n. get_or contents n []) place in
+pub returns-in_ok-copied-in-Copy : goal.returns-in_ok-copied-in-Copy
+returns-in_ok-copied-in-Copy c =
     let numbered : List (List ℕ) → List (List ℕ) = λ log. take 1 (drop (c.in-Copy.number - 1) log) in
     OnOk-map c.put_numbered.result
     (λ added. (
       numbered c.as_slice-in-Copy.result.now,
-      rw c.in-Copy.is
-          (λ log stands. ap numbered (c.as_slice-in-Copy.ensures ∙ c.in_ok-log-in-Copy.ensures log (subst (λ bytes. Stands bytes log) (sym held) stands))),
+      rw c.in-Copy.is (λ log stands. ap numbered (c.as_slice-in-Copy.ensures ∙ c.in_ok-copied-in-Copy.ensures log stands)),
       added,
     ))
     c.put_numbered.ensures
+
+pub returns-in_ok-log-in-Bare : goal.returns-in_ok-log-in-Bare
+returns-in_ok-log-in-Bare c =
+    let bared : List (List ℕ) → List (List ℕ) = λ log. map (drop 9) (take 1 (drop (c.in-Bare.number - 1) log)) in
+    OnOk-map c.put_bare.result
+    (λ added. (
+      bared c.as_slice-in-Bare.result.now,
+      rw c.in-Bare.is (λ log stands. ap bared (c.as_slice-in-Bare.ensures ∙ c.in_ok-log-in-Bare.ensures log stands)),
+      added,
+    ))
+    c.put_bare.ensures

@@ -1,6 +1,6 @@
 use Rattle.std.specs.Arc.{arc_value}
 use Rattle.std.specs.Prelude.{⊤}
-use Rattle.std.proofs.Common.{◌≡◌, ℕ, List, length, refl, sym, subst, ◌∙◌, arith}
+use Rattle.std.proofs.Common.{◌≡◌, ℕ, Some, List, length, refl, sym, subst, ◌∙◌, arith}
 use Rattle.unit_landscape.specs.Beginning.{HaveBegun}
 use Rattle.unit_landscape.specs.KeptWorlds.{KeptOf}
 use Rattle.unit_landscape.proofs.ReopeningLemmas.{IsSafe-begun_all}
@@ -30,12 +30,12 @@ new-requires g c =
     a = c.len-systems.ensures in let b = c.as_lists.ensures.same in let d = c.deref.ensures in cc) in
     let text : c.as_slice.result.now ≡ c.args.text = (let a = c.as_slice.ensures in let b = c.text.view_is in cc) in
     let so_far =
-    subst (λ m. AreBegunSoFar g.V.Volumes.disk m c.args.text c.args.moment c.args.vols m c.in_ok-kept.kept) many
-    (subst (λ (t : List ℕ). AreBegunSoFar g.V.Volumes.disk c.len-systems.result t c.args.moment c.args.vols c.len-systems.result c.in_ok-kept.kept) text
+    subst (λ m. AreBegunSoFar g.V.Volumes.disk m c.args.text (Some c.args.moment) c.args.vols m c.in_ok-kept.kept) many
+    (subst (λ (t : List ℕ). AreBegunSoFar g.V.Volumes.disk c.len-systems.result t (Some c.args.moment) c.args.vols c.len-systems.result c.in_ok-kept.kept) text
     c.in_ok-kept.ensures.ends) in
     subst (λ (k : KeptOf ModelRules DocumentTables g.row.V.Denot). AreBegun k.world) (sym c.reopened.ensures)
-    (are-begun g.V.Volumes.disk (length (arc_value c.args.model).systems) c.args.text c.args.moment c.args.vols c.in_ok-kept.kept
-    (has-opened g.V.Volumes.disk (length (arc_value c.args.model).systems) c.args.text c.args.moment c.args.vols c.in_ok-kept.kept so_far
+    (are-begun g.V.Volumes.disk (length (arc_value c.args.model).systems) c.args.text (Some c.args.moment) c.args.vols c.in_ok-kept.kept
+    (has-opened g.V.Volumes.disk (length (arc_value c.args.model).systems) c.args.text (Some c.args.moment) c.args.vols c.in_ok-kept.kept so_far
     (subst (λ m. HaveBegun rules_of m c.in_ok-kept.kept.world) many c.in_ok-kept.ensures.begun))
     (arc_value c.args.model) c.requires.said refl)
 
@@ -45,11 +45,11 @@ returns-clause-opened g c =
     a = c.len-systems.ensures in let b = c.as_lists.ensures.same in let d = c.deref.ensures in cc) in
     let text : c.as_slice.result.now ≡ c.args.text = (let a = c.as_slice.ensures in let b = c.text.view_is in cc) in
     let so_far =
-    subst (λ m. AreBegunSoFar g.V.Volumes.disk m c.args.text c.args.moment c.args.vols m c.in_ok-kept.kept) many
-    (subst (λ (t : List ℕ). AreBegunSoFar g.V.Volumes.disk c.len-systems.result t c.args.moment c.args.vols c.len-systems.result c.in_ok-kept.kept) text
+    subst (λ m. AreBegunSoFar g.V.Volumes.disk m c.args.text (Some c.args.moment) c.args.vols m c.in_ok-kept.kept) many
+    (subst (λ (t : List ℕ). AreBegunSoFar g.V.Volumes.disk c.len-systems.result t (Some c.args.moment) c.args.vols c.len-systems.result c.in_ok-kept.kept) text
     c.in_ok-kept.ensures.ends) in
-    subst (HasOpened g.V.Volumes.disk (length (arc_value c.args.model).systems) c.args.text c.args.moment c.args.vols) (sym (c.new.ensures ∙ c.reopened.ensures))
-    (has-opened g.V.Volumes.disk (length (arc_value c.args.model).systems) c.args.text c.args.moment c.args.vols c.in_ok-kept.kept so_far
+    subst (HasOpened g.V.Volumes.disk (length (arc_value c.args.model).systems) c.args.text (Some c.args.moment) c.args.vols) (sym (c.new.ensures ∙ c.reopened.ensures))
+    (has-opened g.V.Volumes.disk (length (arc_value c.args.model).systems) c.args.text (Some c.args.moment) c.args.vols c.in_ok-kept.kept so_far
     (subst (λ m. HaveBegun rules_of m c.in_ok-kept.kept.world) many c.in_ok-kept.ensures.begun))
 
 pub returns-clause-why : goal.returns-clause-why
@@ -58,10 +58,10 @@ returns-clause-why g c =
     a = c.len-systems.ensures in let b = c.as_lists.ensures.same in let d = c.deref.ensures in cc) in
     let text : c.as_slice.result.now ≡ c.args.text = (let a = c.as_slice.ensures in let b = c.text.view_is in cc) in
     let so_far =
-    subst (λ m. AreBegunSoFar g.V.Volumes.disk m c.args.text c.args.moment c.args.vols m c.in_ok-kept.kept) many
-    (subst (λ (t : List ℕ). AreBegunSoFar g.V.Volumes.disk c.len-systems.result t c.args.moment c.args.vols c.len-systems.result c.in_ok-kept.kept) text
+    subst (λ m. AreBegunSoFar g.V.Volumes.disk m c.args.text (Some c.args.moment) c.args.vols m c.in_ok-kept.kept) many
+    (subst (λ (t : List ℕ). AreBegunSoFar g.V.Volumes.disk c.len-systems.result t (Some c.args.moment) c.args.vols c.len-systems.result c.in_ok-kept.kept) text
     c.in_ok-kept.ensures.ends) in
-    holds-sound g.V.Volumes.disk (length (arc_value c.args.model).systems) c.args.text c.args.moment c.args.vols c.in_ok-kept.kept so_far
+    holds-sound g.V.Volumes.disk (length (arc_value c.args.model).systems) c.args.text (Some c.args.moment) c.args.vols c.in_ok-kept.kept so_far
 
 pub returns-clause-not_refused : goal.returns-clause-not_refused
 returns-clause-not_refused g c tells hold = tt
@@ -72,14 +72,14 @@ returns-clause-volumes g c =
     a = c.len-systems.ensures in let b = c.as_lists.ensures.same in let d = c.deref.ensures in cc) in
     let text : c.as_slice.result.now ≡ c.args.text = (let a = c.as_slice.ensures in let b = c.text.view_is in cc) in
     let so_far =
-    subst (λ m. AreBegunSoFar g.V.Volumes.disk m c.args.text c.args.moment c.args.vols m c.in_ok-kept.kept) many
-    (subst (λ (t : List ℕ). AreBegunSoFar g.V.Volumes.disk c.len-systems.result t c.args.moment c.args.vols c.len-systems.result c.in_ok-kept.kept) text
+    subst (λ m. AreBegunSoFar g.V.Volumes.disk m c.args.text (Some c.args.moment) c.args.vols m c.in_ok-kept.kept) many
+    (subst (λ (t : List ℕ). AreBegunSoFar g.V.Volumes.disk c.len-systems.result t (Some c.args.moment) c.args.vols c.len-systems.result c.in_ok-kept.kept) text
     c.in_ok-kept.ensures.ends) in
     subst (λ (k : KeptOf ModelRules DocumentTables g.row.V.Denot). g.V.Volumes.disk.told
-    → LeavesOpening g.V.Volumes.disk (length (arc_value c.args.model).systems) c.args.text c.args.moment c.args.vols k.vols
+    → LeavesOpening g.V.Volumes.disk (length (arc_value c.args.model).systems) c.args.text (Some c.args.moment) c.args.vols k.vols
     (⊤ × HoldSoundLogs (length (arc_value c.args.model).systems) c.args.text (bytes_in g.V.Volumes.disk c.args.vols)) ⊥)
     (sym (c.new.ensures ∙ c.reopened.ensures))
-    (opened-left g.V.Volumes.disk (length (arc_value c.args.model).systems) c.args.text c.args.moment c.args.vols c.in_ok-kept.kept so_far)
+    (opened-left g.V.Volumes.disk (length (arc_value c.args.model).systems) c.args.text (Some c.args.moment) c.args.vols c.in_ok-kept.kept so_far)
 
 pub returns-clause-opens : goal.returns-clause-opens
 returns-clause-opens g c =
@@ -87,15 +87,15 @@ returns-clause-opens g c =
     a = c.len-systems.ensures in let b = c.as_lists.ensures.same in let d = c.deref.ensures in cc) in
     let text : c.as_slice.result.now ≡ c.args.text = (let a = c.as_slice.ensures in let b = c.text.view_is in cc) in
     let so_far =
-    subst (λ m. AreBegunSoFar g.V.Volumes.disk m c.args.text c.args.moment c.args.vols m c.in_ok-kept.kept) many
-    (subst (λ (t : List ℕ). AreBegunSoFar g.V.Volumes.disk c.len-systems.result t c.args.moment c.args.vols c.len-systems.result c.in_ok-kept.kept) text
+    subst (λ m. AreBegunSoFar g.V.Volumes.disk m c.args.text (Some c.args.moment) c.args.vols m c.in_ok-kept.kept) many
+    (subst (λ (t : List ℕ). AreBegunSoFar g.V.Volumes.disk c.len-systems.result t (Some c.args.moment) c.args.vols c.len-systems.result c.in_ok-kept.kept) text
     c.in_ok-kept.ensures.ends) in
     subst (λ (k : KeptOf ModelRules DocumentTables g.row.V.Denot).
     OpeningLeavesOpenable g.V.Volumes.disk (length (arc_value c.args.model).systems) c.args.text c.args.vols k.vols)
     (sym (c.new.ensures ∙ c.reopened.ensures))
-    (opening-openable g.V.Volumes.disk g.met.V.Volumes.read_is_image (length (arc_value c.args.model).systems) c.args.text c.args.moment c.args.vols c.in_ok-kept.kept.vols
+    (opening-openable g.V.Volumes.disk g.met.V.Volumes.read_is_image (length (arc_value c.args.model).systems) c.args.text (Some c.args.moment) c.args.vols c.in_ok-kept.kept.vols
     (⊤ × HoldSoundLogs (length (arc_value c.args.model).systems) c.args.text (bytes_in g.V.Volumes.disk c.args.vols)) ⊥
-    (opened-left g.V.Volumes.disk (length (arc_value c.args.model).systems) c.args.text c.args.moment c.args.vols c.in_ok-kept.kept so_far))
+    (opened-left g.V.Volumes.disk (length (arc_value c.args.model).systems) c.args.text (Some c.args.moment) c.args.vols c.in_ok-kept.kept so_far))
 
 pub returns-in_err-kept-clause-volumes : goal.returns-in_err-kept-clause-volumes
 returns-in_err-kept-clause-volumes g c =
@@ -104,9 +104,9 @@ returns-in_err-kept-clause-volumes g c =
     let text : c.as_slice.result.now ≡ c.args.text = (let a = c.as_slice.ensures in let b = c.text.view_is in cc) in
     let end = c.in_err-kept.field-0.0 in
     let ended =
-    subst (λ m. HasEnded g.V.Volumes.disk m c.args.text c.args.moment c.args.vols end) many
-    (subst (λ (t : List ℕ). HasEnded g.V.Volumes.disk c.len-systems.result t c.args.moment c.args.vols end) text c.in_err-kept.ensures.ends) in
-    ended-volumes g.V.Volumes.disk (length (arc_value c.args.model).systems) c.args.text c.args.moment c.args.vols end ended c.from_residual.result
+    subst (λ m. HasEnded g.V.Volumes.disk m c.args.text (Some c.args.moment) c.args.vols end) many
+    (subst (λ (t : List ℕ). HasEnded g.V.Volumes.disk c.len-systems.result t (Some c.args.moment) c.args.vols end) text c.in_err-kept.ensures.ends) in
+    ended-volumes g.V.Volumes.disk (length (arc_value c.args.model).systems) c.args.text (Some c.args.moment) c.args.vols end ended c.from_residual.result
     c.from_residual.ensures.1
 
 pub returns-in_err-kept-clause-opens : goal.returns-in_err-kept-clause-opens
@@ -116,7 +116,7 @@ returns-in_err-kept-clause-opens g c =
     let text : c.as_slice.result.now ≡ c.args.text = (let a = c.as_slice.ensures in let b = c.text.view_is in cc) in
     let end = c.in_err-kept.field-0.0 in
     let ended =
-    subst (λ m. HasEnded g.V.Volumes.disk m c.args.text c.args.moment c.args.vols end) many
-    (subst (λ (t : List ℕ). HasEnded g.V.Volumes.disk c.len-systems.result t c.args.moment c.args.vols end) text c.in_err-kept.ensures.ends) in
-    ended-opens g.V.Volumes.disk (length (arc_value c.args.model).systems) c.args.text c.args.moment c.args.vols end ended g.met.V.Volumes.read_is_image
+    subst (λ m. HasEnded g.V.Volumes.disk m c.args.text (Some c.args.moment) c.args.vols end) many
+    (subst (λ (t : List ℕ). HasEnded g.V.Volumes.disk c.len-systems.result t (Some c.args.moment) c.args.vols end) text c.in_err-kept.ensures.ends) in
+    ended-opens g.V.Volumes.disk (length (arc_value c.args.model).systems) c.args.text (Some c.args.moment) c.args.vols end ended g.met.V.Volumes.read_is_image
     c.from_residual.result c.from_residual.ensures.1
